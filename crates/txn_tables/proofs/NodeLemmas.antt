@@ -7,7 +7,7 @@ use Rattle.txn_tables.specs.declared.node.Node.{Node}
 use Rattle.txn_tables.specs.declared.node.TheConstants.{WAYS}
 use Rattle.txn_tables.specs.Nodes.{ahead, Links, LeadInside, node_value, Comes, no_node}
 
-value-nowhere : (nodes : List Node) (path txn : ℕ) → node_value nodes 0 path txn ≡ None
+pub value-nowhere : (nodes : List Node) (path txn : ℕ) → node_value nodes 0 path txn ≡ None
 value-nowhere [] path txn = refl
 value-nowhere (node ∷ nodes) path txn = refl
 
@@ -108,7 +108,7 @@ pub value-last : (nodes : List Node) (last : Node) (path txn : ℕ) → ((p : �
 value-last [] last path txn none = refl
 value-last (node ∷ nodes) last path txn none = value-last nodes last path txn none
 
-value-more : (nodes : List Node) (last : Node) (places path txn : ℕ) → Leads nodes → places ≤ length nodes
+pub value-more : (nodes : List Node) (last : Node) (places path txn : ℕ) → Leads nodes → places ≤ length nodes
     → node_value (nodes ++ last ∷ []) places path txn ≡ node_value nodes places path txn
 value-more [] last zero path txn lead inside = refl
 value-more [] last (suc places) path txn lead inside = absurd (omega arith)

@@ -1,12 +1,22 @@
 -- What a table says of transactions.
-use Rattle.std.specs.Prelude.{◌≡◌, ◌==◌, ℕ, if◌then◌else◌, slice_index_or, unwrap_or}
+use Rattle.std.specs.Prelude.{◌≡◌, ◌==◌, ◌<◌, ◌≤◌, ◌+◌, ◌*◌, ◌-◌, ℕ, nat_lt, if◌then◌else◌, unwrap_or}
 use Rattle.txn_tables.specs.declared.txn_table.TxnTable.{TxnTable}
+use Rattle.txn_tables.specs.declared.txn_table.TheConstants.{FIRST_PLACES}
+use Rattle.txn_tables.specs.Rows.{number_at}
 use Rattle.txn_tables.specs.Searches.{scattered_value}
+
+-- what stands in the row for a transaction, 0 where it has no place there
+abbrev pub placed_value : TxnTable → ℕ → ℕ
+placed_value table txn = if nat_lt txn table.first then 0 else number_at table.row (txn - table.first)
 
 -- the number of a transaction in the table, 0 where none was put
 abbrev pub value_at : TxnTable → ℕ → ℕ
-value_at table txn = unwrap_or (scattered_value table.scattered txn) (slice_index_or table.dense.items txn 0)
+value_at table txn = unwrap_or (scattered_value table.scattered txn) (placed_value table txn)
 
 -- the table after a number was put for one transaction
 abbrev pub PutsValue : TxnTable → TxnTable → ℕ → ℕ → Type 0
 PutsValue old new txn value = (other : ℕ) → value_at new other ≡ (if txn == other then value else value_at old other)
+
+-- the row may have a place for the transaction
+abbrev pub IsPlaced : TxnTable → ℕ → Type 0
+IsPlaced table txn = (table.first ≤ txn) × (txn < table.first + FIRST_PLACES + 2 * table.puts)

@@ -2,6 +2,7 @@
 #![tactic(auto)]
 
 mod node;
+mod row;
 mod scattered;
 mod txn_table;
 

@@ -1,17 +1,25 @@
-ghost use Rattle.std.specs.Prelude.{◌≡◌, ◌≢◌, ◌<◌, ◌≤◌, ◌^◌, ◌-◌, ℕ, None, length, slice_index_or, IfOk, OnOk, MatchOption};
+ghost use Rattle.std.specs.Prelude.{◌≡◌, ◌≢◌, ◌<◌, ◌≤◌, ◌+◌, ◌^◌, ◌-◌, ℕ, None, length, slice_index_or, IfOk, OnOk, MatchOption};
 ghost use Rattle.txn_tables.specs.Nodes.{no_node, LeadInside};
+ghost use Rattle.txn_tables.specs.Roots.{root_of, BeginInside};
 
 use crate::node::{Node, WAYS};
+use crate::row::Row;
 use lsn_space::NoMemory;
 use std::alloc::Global;
 
-/// What is kept of transactions whose numbers may lie anywhere. Each has a node. The search for it begins at the first node,
-/// and goes on from each node of another transaction by the next two bits of the number, so that however the numbers are
-/// chosen, none is more than 16 nodes behind the first.
+/// How many roots there are: one for each value of a number's last 12 bits.
+pub const ROOTS: u32 = 4096;
+
+/// What is kept of transactions whose numbers may lie anywhere. Each has a node. The search for it begins at the root of the
+/// number's last 12 bits, and goes on from each node of another transaction by the next two bits, so that however the numbers
+/// are chosen, it passes no more than 10 nodes of others.
 #[derive(Drop)]
 pub struct Scattered {
+    /// At which node the search for a number with these last bits begins, 1 for the first of all, 0 where there is none.
+    roots: Row,
     nodes: Vec<Node>,
     ghost inside: { LeadInside nodes.items },
+    ghost begin: { BeginInside roots nodes.items },
 }
 
 /// Where a search ends, and what of the number's path is left there.
@@ -28,6 +36,7 @@ impl Scattered {
         ensures { (txn : ℕ) → scattered_value result txn ≡ None }
     {
         Scattered {
+            roots: Row::new(alloc),
             nodes: Vec::new(alloc),
         }
     }
@@ -35,10 +44,10 @@ impl Scattered {
     pub fn value(&self, txn: u32) -> Option<u32>
         ensures { result ≡ scattered_value self.now txn }
     {
-        if self.nodes.is_empty() {
+        let Some(end) = self.search(txn) else {
             return None;
-        }
-        let node = &self.nodes[self.search(txn).at];
+        };
+        let node = &self.nodes[end.at];
         if node.txn == txn {
             Some(node.value)
         } else {
@@ -46,18 +55,21 @@ impl Scattered {
         }
     }
 
-    /// Goes to the transaction's node, or as far as a way leads.
-    fn search(&self, txn: u32) -> End
-        requires { 0 < length self.now.nodes.items }
-        ensures { IsEnd self.now.nodes.items txn result }
+    /// Goes to the transaction's node, or as far as a way leads; nowhere where there is no root.
+    fn search(&self, txn: u32) -> Option<End>
+        ensures { MatchOption result (root_of self.now.roots txn ≡ 0) (λ end. IsEnd self.now.nodes.items (root_of self.now.roots txn) txn end) }
     {
-        let mut at = 0;
-        let mut path = txn;
+        let root = self.roots.at(txn % ROOTS) as usize;
+        if root == 0 {
+            return None;
+        }
+        let mut at = root - 1;
+        let mut path = txn / ROOTS;
         'nodes: loop {
             let node = &self.nodes[at];
             let ahead = node.ahead(path);
             if node.txn == txn || ahead == 0 {
-                return End { at, path };
+                return Some(End { at, path });
             }
             at += ahead as usize;
             path /= WAYS;
@@ -69,11 +81,10 @@ impl Scattered {
         ensures put { OnOk result (PutsScattered self.old self.new txn value) }
         ensures before { IfOk result (λ before. before ≡ scattered_value self.old txn) }
     {
-        if self.nodes.is_empty() {
-            self.put_first(txn, value)?;
+        let Some(end) = self.search(txn) else {
+            self.append_root(txn, value)?;
             return Ok(None);
-        }
-        let end = self.search(txn);
+        };
         let found = self.nodes[end.at];
         if found.txn == txn {
             self.nodes[end.at].value = value;
@@ -83,19 +94,23 @@ impl Scattered {
         Ok(None)
     }
 
-    fn put_first(&mut self, txn: u32, value: u32) -> Result<(), NoMemory>
-        requires { length self.old.nodes.items ≡ 0 }
+    /// Appends the node of a transaction whose search begins nowhere, as its root.
+    fn append_root(&mut self, txn: u32, value: u32) -> Result<(), NoMemory>
+        requires { root_of self.old.roots txn ≡ 0 }
         ensures { OnOk result (PutsScattered self.old self.new txn value) }
     {
-        match self.nodes.push(Node::new(txn, value)) {
-            Ok(()) => Ok(()),
-            Err(_) => Err(NoMemory),
-        }
+        let Ok(()) = self.nodes.push(Node::new(txn, value)) else {
+            return Err(NoMemory);
+        };
+        let Ok(root) = u32::try_from(self.nodes.len()) else {
+            return Err(NoMemory);
+        };
+        self.roots.put(txn % ROOTS, root)
     }
 
     /// Appends the node of a transaction that has none, and leads to it from where its search ends.
     fn append(&mut self, end: End, txn: u32, value: u32) -> Result<(), NoMemory>
-        requires end { IsEnd self.old.nodes.items txn end }
+        requires end { IsEnd self.old.nodes.items (root_of self.old.roots txn) txn end }
         requires other { (slice_index_or self.old.nodes.items end.at no_node).txn ≢ txn }
         ensures { OnOk result (PutsScattered self.old self.new txn value) }
     {

@@ -1,34 +1,39 @@
-ghost use Rattle.std.specs.Prelude.{◌≡◌, ◌<◌, ◌≤◌, ◌+◌, ◌*◌, ◌↔◌, ℕ, None, length, IsTrue, slice_index_or, IfOk, OnOk};
+ghost use Rattle.std.specs.Prelude.{◌≡◌, ◌<◌, ◌≤◌, ◌+◌, ◌*◌, ◌↔◌, ℕ, None, length, IsTrue, IfOk, OnOk};
 ghost use Rattle.txn_tables.specs.declared.txn_table.TheConstants.{FIRST_PLACES};
 
+use crate::row::Row;
 use crate::scattered::Scattered;
 use lsn_space::NoMemory;
 use std::alloc::Global;
 
 /// How many places there may be before anything was put.
-pub const FIRST_PLACES: u64 = 4096;
+pub const FIRST_PLACES: u32 = 4096;
 
-/// A number for each transaction, 0 where none was put. Transactions below a number that grows by two with each that is put
-/// get a place of their own, others are kept as they are scattered, so that the memory is in proportion to what was put.
+/// A number for each transaction, 0 where none was put. Transactions from near the first that is put, up to a number that
+/// grows by two with each that is put there, get a place in a row. Others are kept as they are scattered, so that the memory
+/// is in proportion to what was put.
 #[derive(Drop)]
 pub struct TxnTable {
-    /// How often something was put.
+    /// The transaction whose place is the row's first.
+    first: u32,
+    /// How often something was put into the row.
     puts: u32,
-    dense: Vec<u32>,
+    row: Row,
     scattered: Scattered,
-    ghost bounded: { length dense.items ≤ FIRST_PLACES + 2 * puts },
+    ghost bounded: { length row.numbers.items ≤ FIRST_PLACES + 2 * puts },
 }
 
 impl TxnTable {
     ghost use Rattle.txn_tables.specs.Searches.{scattered_value};
-    ghost use Rattle.txn_tables.specs.Values.{value_at, PutsValue};
+    ghost use Rattle.txn_tables.specs.Values.{placed_value, value_at, PutsValue, IsPlaced};
 
     pub fn new(alloc: Global) -> TxnTable
         ensures { (txn : ℕ) → value_at result txn ≡ 0 }
     {
         TxnTable {
+            first: 0,
             puts: 0,
-            dense: Vec::new(alloc),
+            row: Row::new(alloc),
             scattered: Scattered::new(alloc),
         }
     }
@@ -44,11 +49,12 @@ impl TxnTable {
 
     /// What stands in the row for a transaction, 0 where it has no place there.
     fn in_row(&self, txn: u32) -> u32
-        ensures { result ≡ slice_index_or self.now.dense.items txn 0 }
+        ensures { result ≡ placed_value self.now txn }
     {
-        match self.dense.get(txn as usize) {
-            Some(value) => *value,
-            None => 0,
+        if txn < self.first {
+            0
+        } else {
+            self.row.at(txn - self.first)
         }
     }
 
@@ -57,7 +63,9 @@ impl TxnTable {
         ensures put { OnOk result (PutsValue self.old self.new txn value) }
         ensures before { IfOk result (λ before. before ≡ value_at self.old txn) }
     {
-        self.puts = self.puts.saturating_add(1);
+        if self.row.is_empty() {
+            self.begin_near(txn);
+        }
         if self.has_place(txn) && self.scattered.value(txn).is_none() {
             self.put_in_place(txn, value)
         } else {
@@ -65,27 +73,33 @@ impl TxnTable {
         }
     }
 
-    /// Whether the transaction has a place of its own, or gets one unless it was put among the scattered ones before.
-    fn has_place(&self, txn: u32) -> bool
-        ensures { IsTrue result ↔ (txn < FIRST_PLACES + 2 * self.now.puts) }
+    /// Has the row begin near a transaction. Some before it get a place too, as numbers needn't come in their order.
+    fn begin_near(&mut self, txn: u32)
+        requires { length self.old.row.numbers.items ≡ 0 }
+        ensures { (other : ℕ) → value_at self.new other ≡ value_at self.old other }
     {
-        u64::from(txn) < FIRST_PLACES + 2 * u64::from(self.puts)
+        self.first = txn.saturating_sub(FIRST_PLACES / 2);
+    }
+
+    /// Whether the transaction has a place in the row, or gets one unless it was put among the scattered ones before.
+    fn has_place(&self, txn: u32) -> bool
+        ensures { IsTrue result ↔ IsPlaced self.now txn }
+    {
+        txn >= self.first
+            && u64::from(txn - self.first) < u64::from(FIRST_PLACES) + 2 * u64::from(self.puts)
     }
 
     fn put_in_place(&mut self, txn: u32, value: u32) -> Result<u32, NoMemory>
-        requires bounded { txn < FIRST_PLACES + 2 * self.old.puts }
+        requires placed { IsPlaced self.old txn }
         requires alone { scattered_value self.old.scattered txn ≡ None }
         ensures put { OnOk result (PutsValue self.old self.new txn value) }
         ensures before { IfOk result (λ before. before ≡ value_at self.old txn) }
     {
         let before = self.in_row(txn);
-        let place = txn as usize;
-        if place >= self.dense.len() {
-            let Ok(()) = self.dense.resize(place + 1, 0) else {
-                return Err(NoMemory);
-            };
-        }
-        self.dense[place] = value;
+        let Ok(()) = self.row.put(txn - self.first, value) else {
+            return Err(NoMemory);
+        };
+        self.puts = self.puts.saturating_add(1);
         Ok(before)
     }
 
