@@ -34,7 +34,7 @@ pub fn statement_command<S: Source, K: Sink>(
     let Some(entries) = view.entries(account) else {
         unreachable!()
     };
-    match put_statement(balance, entries.as_slice(), listed.tail.next, out) {
+    match put_statement(balance, entries, listed.tail.next, out) {
         Ok(()) => Detail::Fine,
         Err(_) => Detail::Write,
     }

@@ -6,7 +6,7 @@ ghost use Rattle.log_disk.specs.Streams.{AppendsPart, AppendsBut};
 ghost use Rattle.log_recovery.specs.Dump.{signed_text};
 ghost use Rattle.cli_view.specs.Reports.{entry_line, open_line, statement_lines};
 
-use ledger_view::Entry;
+use ledger_view::{Entries, Entry};
 use log_disk::{OutputBlock, Sink, WriteFault};
 use log_recovery::{Line, put_end};
 use lsn_space::{Lsn, decimal};
@@ -51,7 +51,7 @@ fn line_of(entry: &Entry, line: &mut Line)
 /// Writes the statement of an account that begins with this balance, of a list that ends here, or a part of it at a fault.
 pub fn put_statement<K: Sink>(
     balance: u32,
-    entries: &[Entry],
+    entries: &Entries,
     end: Lsn,
     sink: &mut K,
 ) -> Result<(), WriteFault>
@@ -63,8 +63,9 @@ pub fn put_statement<K: Sink>(
     let mut line = Line::new();
     first_line(balance, &mut line);
     block.put(sink, line.as_slice())?;
-    'entries: for entry in entries {
-        line_of(entry, &mut line);
+    let count = entries.count();
+    'entries: for i in 0..count {
+        line_of(&entries.at(i), &mut line);
         block.put(sink, line.as_slice())?;
     }
     put_end(end, &mut block, sink)?;

@@ -1,5 +1,6 @@
 -- A Commit's entries, change by change.
-use Rattle.std.proofs.Common.{◌≡◌, ◌≢◌, ◌<◌, ◌==◌, ◌||◌, ℕ, Bool, true, false, true≢false, List, [], ◌∷◌, ◌++◌, length, set, refl, ap, ◌∙◌, sym, subst, arith, eq-eqb, eqb-true, get_or-set_same, get_or-set_other, length-set}
+use Rattle.std.proofs.Common.{◌≡◌, ◌≢◌, ◌<◌, ◌==◌, ◌||◌, ℕ, ℤ, Bool, true, false, true≢false, List, [], ◌∷◌, ◌++◌, length, get_or, set, refl, ap, ◌∙◌, sym, subst, arith, eq-eqb, eqb-true, get_or-set_same, get_or-set_other, length-set}
+use Rattle.std.proofs.lemmas.List.{get_or_default}
 use mathlib.Core.Logic.{dite}
 use native.Mathlib.Decide.{ℕ_discrete}
 use Rattle.log_record.specs.declared.rec.Placed.{Placed}
@@ -10,8 +11,32 @@ use Rattle.lock_core.proofs.OneMore.{neither, or-false}
 use Rattle.ledger_view.specs.declared.entries.Entry.{Entry}
 use Rattle.ledger_view.specs.declared.accounts.Account.{Account}
 use Rattle.ledger_view.specs.Entries.{net_of, balance_after}
-use Rattle.ledger_view.specs.Viewing.{untouched, account_at}
-use Rattle.ledger_view.specs.Entering.{with_entry, Enters}
+use Rattle.ledger_view.specs.Viewing.{last_balance, untouched, account_at}
+use Rattle.ledger_view.specs.Entering.{with_entry, LeadsOn, Enters}
+use Rattle.ledger_view.specs.declared.rows.Row.{Row}
+use Rattle.ledger_view.specs.Rows.{entry_of_row}
+use Rattle.ledger_view.proofs.RowLemmas.{entry-of_net}
+
+-- the entry of a net behind others, and the first
+pub next-entered : (entries same : List Entry) (net : ℤ) (row : Row) → LeadsOn entries net row.balance → 0 < length entries → same ≡ entries
+    → same ++ entry_of_row (last_balance 0 same) row ∷ [] ≡ entries ++ record { end = row.end; txn = row.txn; net = net; balance = row.balance } ∷ []
+next-entered entries same net row leads some is =
+    (λ i. is i ++ entry_of_row ((ap (last_balance 0) is ∙ leads.last 0 some) i) row ∷ [])
+    ∙ ap (λ (e : Entry). entries ++ e ∷ []) (entry-of_net leads.before row net leads.sum)
+
+pub first-entered : (entries : List Entry) (first : ℕ) (net : ℤ) (row : Row) → (leads : LeadsOn entries net row.balance) → length entries ≡ 0 → first ≡ leads.before
+    → entry_of_row first row ∷ [] ≡ entries ++ record { end = row.end; txn = row.txn; net = net; balance = row.balance } ∷ []
+first-entered [] first net row leads none is =
+    ap (λ n. entry_of_row n row ∷ []) is ∙ ap (λ (e : Entry). e ∷ []) (entry-of_net leads.before row net leads.sum)
+first-entered (x ∷ entries) first net row leads none is = absurd (omega arith)
+
+-- an account that is written back with an entry more
+pub set-entered : (rows accounts : List Account) (account : ℕ) (kept : Account) (entries : List Entry) (entry : Entry) → rows ≡ accounts → account < length accounts
+    → kept ≡ get_or rows account kept → (kept ≡ account_at accounts account → entries ≡ (account_at accounts account).entries ++ entry ∷ [])
+    → set rows account (record { since = kept.since; entries = entries }) ≡ set accounts account (with_entry (account_at accounts account) entry)
+set-entered rows accounts account kept entries entry seen inside is grown =
+    let same : kept ≡ account_at accounts account = is ∙ ap (λ l. get_or l account kept) seen ∙ get_or_default accounts account kept untouched inside in
+    λ i. set (seen i) account (record { since = (same i).since; entries = grown same i })
 
 touches-more : (account : ℕ) (changes : List Change) (change : Change) → touches account (changes ++ change ∷ []) ≡ (touches account changes || (change.account == account))
 touches-more account [] change = or-false (change.account == account)

@@ -7,6 +7,9 @@ use Rattle.log_record.specs.Spelling.{IsBalance}
 use Rattle.ledger_view.specs.declared.entries.Entry.{Entry}
 use Rattle.ledger_view.specs.Viewing.{last_balance, balance_to, AddUp}
 
+pub no_entry : Entry
+no_entry = record { end = 0; txn = 0; net = pos 0; balance = 0 }
+
 pub last_balance-append : (first : ℕ) (entries : List Entry) (entry : Entry) → last_balance first (entries ++ entry ∷ []) ≡ entry.balance
 last_balance-append first [] entry = refl
 last_balance-append first (x ∷ entries) entry = last_balance-append x.balance entries entry
@@ -80,24 +83,14 @@ none-behind first (entry ∷ entries) lsn d below =
     balance_to-below first entry entries lsn (below 0 (omega arith))
     ∙ none-behind entry.balance entries lsn d (λ k before. below (suc k) (omega arith))
 
--- the same of an entry that is read
-pub next-entry : (first : ℕ) (entries : List Entry) (i lsn : ℕ) (entry : Entry) → AddUp 0 first entries → i < length entries → entry ≡ get_or entries i entry
-    → ((k : ℕ) (d : Entry) → k < i → (get_or entries k d).end ≤ lsn)
-    → ((k : ℕ) (d : Entry) → i ≤ k → k < length entries → lsn < (get_or entries k d).end)
-    → IsBalance (balance_to first entries lsn) × (pos entry.balance ≡ pos (balance_to first entries lsn) +ℤ entry.net)
-next-entry first entries i lsn entry sums inside is below behind =
-    subst (λ (e : Entry). IsBalance (balance_to first entries lsn) × (pos e.balance ≡ pos (balance_to first entries lsn) +ℤ e.net)) (sym is)
-    (next-adds 0 first entries i lsn entry sums inside (λ k before. below k entry before) (behind i entry (le_refl i) inside))
+pub first-adds : (first : ℕ) (entries : List Entry) (d : Entry) → AddUp 0 first entries → 0 < length entries
+    → pos (get_or entries 0 d).balance ≡ pos first +ℤ (get_or entries 0 d).net
+first-adds first [] d sums some = absurd (omega arith)
+first-adds first (entry ∷ entries) d sums some = sums.2
 
-pub first-entry : (first : ℕ) (entries : List Entry) (entry : Entry) → AddUp 0 first entries → 0 < length entries → entry ≡ get_or entries 0 entry
-    → IsBalance first × (pos entry.balance ≡ pos first +ℤ entry.net)
-first-entry first [] entry sums inside is = absurd (omega arith)
-first-entry first (x ∷ entries) entry sums inside is =
-    subst (λ (e : Entry). IsBalance first × (pos e.balance ≡ pos first +ℤ e.net)) (sym is) (sums.1, sums.2)
-
-pub no-entry : (first : ℕ) (entries : List Entry) → length entries ≡ 0 → last_balance first entries ≡ first
-no-entry first [] none = refl
-no-entry first (x ∷ entries) none = absurd (omega arith)
+pub last_balance-none : (first : ℕ) (entries : List Entry) → length entries ≡ 0 → last_balance first entries ≡ first
+last_balance-none first [] none = refl
+last_balance-none first (x ∷ entries) none = absurd (omega arith)
 
 -- where they lead to a balance in its range, each balance on the way is in it
 pub first-range : (least first : ℕ) (entries : List Entry) → AddUp least first entries → IsBalance (last_balance first entries) → IsBalance first

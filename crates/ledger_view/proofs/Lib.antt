@@ -7,4 +7,5 @@ pub mod KeepingLemmas
 pub mod MarkLemmas
 pub mod NetLemmas
 pub mod PlainLemmas
+pub mod RowLemmas
 pub mod ViewLemmas

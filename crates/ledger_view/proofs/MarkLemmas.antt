@@ -1,80 +1,80 @@
--- How a search among the marks, and then among the entries from one mark to the next, finds its place.
-use Rattle.std.proofs.Common.{◌≡◌, ◌<◌, ◌≤◌, ℕ, ◌+◌, ◌-◌, ◌*◌, ◌%◌, pos, min, List, [], ◌∷◌, ◌++◌, length, take, drop, get_or, ap, ◌∙◌, sym, arith, length-append, length-take, length-drop}
+-- How a search among the marks, and then among the rows from one mark to the next, finds its place.
+use Rattle.std.proofs.Common.{◌≡◌, ◌<◌, ◌≤◌, ℕ, ◌+◌, ◌-◌, ◌*◌, ◌%◌, min, List, [], ◌∷◌, ◌++◌, length, take, drop, get_or, ap, ◌∙◌, sym, arith, length-append, length-take, length-drop}
 use Rattle.std.proofs.lemmas.List.{get_or-take, get_or-drop, get_or_append_left, get_or_at}
 use Rattle.std.specs.List.Sorted.{IsNonDecreasingBy}
 use mathlib.Core.Logic.{dite}
 use native.Mathlib.Decide.{dec_lt}
-use Rattle.ledger_view.specs.declared.entries.Entry.{Entry}
+use Rattle.ledger_view.specs.declared.rows.Row.{Row}
 use Rattle.ledger_view.specs.Marks.{AreMarks}
 
-abbrev pub Rises : List Entry → Type 0
-Rises entries = IsNonDecreasingBy (λ (entry : Entry). entry.end) entries
+abbrev pub Rises : List Row → Type 0
+Rises rows = IsNonDecreasingBy (λ (row : Row). row.end) rows
 
-no_entry : Entry
-no_entry = record { end = 0; txn = 0; net = pos 0; balance = 0 }
+pub no_row : Row
+no_row = record { end = 0; txn = 0; balance = 0 }
 
--- the entries between two marks, from this place on
-pub record IsBlock (entries block : List Entry) (from : ℕ) : Type 0 where
-  pub within : from + length block ≤ length entries
-  pub at : (j : ℕ) (none : Entry) → j < length block → get_or block j none ≡ get_or entries (from + j) none
+-- the rows between two marks, from this place on
+pub record IsBlock (rows block : List Row) (from : ℕ) : Type 0 where
+  pub within : from + length block ≤ length rows
+  pub at : (j : ℕ) (none : Row) → j < length block → get_or block j none ≡ get_or rows (from + j) none
 
-pub is-block : (entries rest block : List Entry) (from size : ℕ) → from ≤ length entries → size ≤ length rest → rest ≡ drop from entries → block ≡ take size rest
-    → IsBlock entries block from
-is-block entries rest block from size begun fits rest_is block_is =
-    let left = ap length rest_is ∙ length-drop from entries in
+pub is-block : (rows rest block : List Row) (from size : ℕ) → from ≤ length rows → size ≤ length rest → rest ≡ drop from rows → block ≡ take size rest
+    → IsBlock rows block from
+is-block rows rest block from size begun fits rest_is block_is =
+    let left = ap length rest_is ∙ length-drop from rows in
     let long = ap length block_is ∙ length-take size rest in record {
       within = omega (arith, left, long);
       at = λ j none inside.
           ap (λ l. get_or l j none) block_is ∙ get_or-take size rest j none (omega (arith, long, inside))
-          ∙ ap (λ l. get_or l j none) rest_is ∙ get_or-drop from entries j none;
+          ∙ ap (λ l. get_or l j none) rest_is ∙ get_or-drop from rows j none;
     }
 
-pub block-rises : (entries block : List Entry) (from : ℕ) → IsBlock entries block from → Rises entries → Rises block
-block-rises entries block from is rises i j none before inside =
+pub block-rises : (rows block : List Row) (from : ℕ) → IsBlock rows block from → Rises rows → Rises block
+block-rises rows block from is rises i j none before inside =
     let up = rises (from + i) (from + j) none (omega (arith, before)) (omega (arith, inside, is.within)) in
-    let first = ap (λ (e : Entry). e.end) (is.at i none (omega (arith, before, inside))) in
-    let second = ap (λ (e : Entry). e.end) (is.at j none inside) in
+    let first = ap (λ (e : Row). e.end) (is.at i none (omega (arith, before, inside))) in
+    let second = ap (λ (e : Row). e.end) (is.at j none inside) in
     omega (arith, up, first, second)
 
-module _ (marks : List ℕ) (entries : List Entry) (are : AreMarks marks entries) where
-  -- one more entry where a mark is due, and where none is
-  pub marks-more : (entry : Entry) → length entries % 16 ≡ 0 → AreMarks (marks ++ entry.end ∷ []) (entries ++ entry ∷ [])
-  marks-more entry due =
+module _ (marks : List ℕ) (rows : List Row) (are : AreMarks marks rows) where
+  -- one more row where a mark is due, and where none is
+  pub marks-more : (row : Row) → length rows % 16 ≡ 0 → AreMarks (marks ++ row.end ∷ []) (rows ++ row ∷ [])
+  marks-more row due =
       let enough = are.enough in let few = are.few in
-      let longer = length-append marks (entry.end ∷ []) in let long = length-append entries (entry ∷ []) in
-      let full : length entries ≡ 16 * length marks = omega (arith, due, enough, few) in record {
+      let longer = length-append marks (row.end ∷ []) in let long = length-append rows (row ∷ []) in
+      let full : length rows ≡ 16 * length marks = omega (arith, due, enough, few) in record {
         enough = omega (arith, longer, long, full);
         few = omega (arith, longer, long, full);
         each = λ k otherwise none inside. dite (dec_lt k (length marks))
-            (λ old. get_or_append_left marks (entry.end ∷ []) otherwise k old ∙ are.each k otherwise none old
-            ∙ ap (λ (e : Entry). e.end) (sym (get_or_append_left entries (entry ∷ []) none (16 * k) (omega (arith, old, full)))))
+            (λ old. get_or_append_left marks (row.end ∷ []) otherwise k old ∙ are.each k otherwise none old
+            ∙ ap (λ (e : Row). e.end) (sym (get_or_append_left rows (row ∷ []) none (16 * k) (omega (arith, old, full)))))
             (λ not_old.
             let last : k ≡ length marks = omega (arith, inside, longer, not_old) in
-            get_or_at marks entry.end [] otherwise k (sym last)
-            ∙ ap (λ (e : Entry). e.end) (sym (get_or_at entries entry [] none (16 * k) (omega (arith, last, full)))));
+            get_or_at marks row.end [] otherwise k (sym last)
+            ∙ ap (λ (e : Row). e.end) (sym (get_or_at rows row [] none (16 * k) (omega (arith, last, full)))));
       }
 
-  pub marks-same : (entry : Entry) → (length entries % 16 ≡ 0 → ⊥) → AreMarks marks (entries ++ entry ∷ [])
-  marks-same entry undue =
-      let enough = are.enough in let few = are.few in let long = length-append entries (entry ∷ []) in record {
+  pub marks-same : (row : Row) → (length rows % 16 ≡ 0 → ⊥) → AreMarks marks (rows ++ row ∷ [])
+  marks-same row undue =
+      let enough = are.enough in let few = are.few in let long = length-append rows (row ∷ []) in record {
         enough = omega (arith, long, enough, few, undue);
         few = omega (arith, long, few);
         each = λ k otherwise none inside. are.each k otherwise none inside
-            ∙ ap (λ (e : Entry). e.end) (sym (get_or_append_left entries (entry ∷ []) none (16 * k) (omega (arith, inside, few))));
+            ∙ ap (λ (e : Row). e.end) (sym (get_or_append_left rows (row ∷ []) none (16 * k) (omega (arith, inside, few))));
       }
 
-  module _ (rises : Rises entries) where
+  module _ (rises : Rises rows) where
     pub marks-rise : IsNonDecreasingBy (λ (mark : ℕ). mark) marks
     marks-rise i j otherwise before inside =
         let few = are.few in
-        let first = are.each i otherwise no_entry (omega (arith, before, inside)) in
-        let second = are.each j otherwise no_entry inside in
-        let up = rises (16 * i) (16 * j) no_entry (omega (arith, before)) (omega (arith, inside, few)) in
+        let first = are.each i otherwise no_row (omega (arith, before, inside)) in
+        let second = are.each j otherwise no_row inside in
+        let up = rises (16 * i) (16 * j) no_row (omega (arith, before)) (omega (arith, inside, few)) in
         omega (arith, first, second, up)
 
-    -- where the first mark lies behind the LSN, all entries do
+    -- where the first mark lies behind the LSN, all rows do
     pub all-behind : (lsn : ℕ) → ((i otherwise : ℕ) → 0 ≤ i → i < length marks → lsn < get_or marks i otherwise)
-        → (i : ℕ) (none : Entry) → i < length entries → lsn < (get_or entries i none).end
+        → (i : ℕ) (none : Row) → i < length rows → lsn < (get_or rows i none).end
     all-behind lsn behind i none inside =
         let enough = are.enough in
         let some : 0 < length marks = omega (arith, enough, inside) in
@@ -82,11 +82,11 @@ module _ (marks : List ℕ) (entries : List Entry) (are : AreMarks marks entries
         let up = rises 0 i none (omega arith) inside in
         omega (arith, first, past, up)
 
-    module _ (lsn found : ℕ) (some : 0 < found) (known : found ≤ length marks) (block : List Entry) (from count : ℕ) (start : from ≡ 16 * (found - 1))
-        (is : IsBlock entries block from) (bound : count ≤ length block) where
+    module _ (lsn found : ℕ) (some : 0 < found) (known : found ≤ length marks) (block : List Row) (from count : ℕ) (start : from ≡ 16 * (found - 1))
+        (is : IsBlock rows block from) (bound : count ≤ length block) where
       pub all-below : ((i otherwise : ℕ) → i < found → get_or marks i otherwise ≤ lsn)
-          → ((j : ℕ) (none : Entry) → j < count → (get_or block j none).end ≤ lsn)
-          → (i : ℕ) (none : Entry) → i < from + count → (get_or entries i none).end ≤ lsn
+          → ((j : ℕ) (none : Row) → j < count → (get_or block j none).end ≤ lsn)
+          → (i : ℕ) (none : Row) → i < from + count → (get_or rows i none).end ≤ lsn
       all-below marked below i none inside =
           let few = are.few in
           dite (dec_lt i from)
@@ -96,25 +96,25 @@ module _ (marks : List ℕ) (entries : List Entry) (are : AreMarks marks entries
           let up = rises i (16 * (found - 1)) none (omega (arith, before, start)) (omega (arith, few, some, known)) in
           omega (arith, mark, low, up))
           (λ not_before.
-          let here = ap (λ (e : Entry). e.end) (is.at (i - from) none (omega (arith, inside, not_before, bound))) in
-          let same = ap (λ n. (get_or entries n none).end) (from-again i not_before) in
+          let here = ap (λ (e : Row). e.end) (is.at (i - from) none (omega (arith, inside, not_before, bound))) in
+          let same = ap (λ n. (get_or rows n none).end) (from-again i not_before) in
           let low = below (i - from) none (omega (arith, inside, not_before)) in
           omega (arith, here, same, low))
         where
           from-again : (i : ℕ) → (i < from → ⊥) → from + (i - from) ≡ i
           from-again i not_before = omega (arith, not_before)
 
-      pub rest-behind : length block ≡ min (length entries - from) 16
+      pub rest-behind : length block ≡ min (length rows - from) 16
           → ((i otherwise : ℕ) → found ≤ i → i < length marks → lsn < get_or marks i otherwise)
-          → ((j : ℕ) (none : Entry) → count ≤ j → j < length block → lsn < (get_or block j none).end)
-          → (i : ℕ) (none : Entry) → from + count ≤ i → i < length entries → lsn < (get_or entries i none).end
+          → ((j : ℕ) (none : Row) → count ≤ j → j < length block → lsn < (get_or block j none).end)
+          → (i : ℕ) (none : Row) → from + count ≤ i → i < length rows → lsn < (get_or rows i none).end
       rest-behind size marked behind i none past inside =
           let enough = are.enough in let few = are.few in
           dite (dec_lt (i - from) (length block))
           (λ within.
-          let here = ap (λ (e : Entry). e.end) (is.at (i - from) none within) in
+          let here = ap (λ (e : Row). e.end) (is.at (i - from) none within) in
           let again : from + (i - from) ≡ i = omega (arith, past) in
-          let same = ap (λ n. (get_or entries n none).end) again in
+          let same = ap (λ n. (get_or rows n none).end) again in
           let high = behind (i - from) none (omega (arith, past)) within in
           omega (arith, here, same, high))
           (λ beyond.

@@ -1,5 +1,5 @@
 -- How what a view keeps goes on by one record.
-use Rattle.std.proofs.Common.{◌≡◌, ◌≤◌, ◌<◌, ℕ, ◌+◌, ◌&&◌, Bool, cond, None, true, false, List, [], ◌∷◌, ◌++◌, length, replicate, refl, ap, ◌∙◌, sym, subst, arith, length-append}
+use Rattle.std.proofs.Common.{◌≡◌, ◌≤◌, ◌<◌, ℕ, ◌+◌, pos, ◌+ℤ◌, ◌&&◌, Bool, cond, None, true, false, List, [], ◌∷◌, ◌++◌, length, replicate, refl, ap, ◌∙◌, sym, subst, arith, length-append}
 use Rattle.std.proofs.lemmas.List.{length-replicate, get_or-replicate, get_or_append_left, get_or_at}
 use mathlib.Core.Logic.{dite}
 use native.Mathlib.Decide.{ℕ_discrete}
@@ -21,10 +21,11 @@ use Rattle.lock_core.proofs.Meeting.{meets-passes, met-lawful}
 use Rattle.lock_core.proofs.Pairing.{updates_of-fits}
 use Rattle.ledger_view.specs.declared.accounts.Account.{Account}
 use Rattle.ledger_view.specs.declared.view.View.{View}
-use Rattle.ledger_view.specs.Entries.{balance_after, is_commit_on, entry_of, front_to, balance_up_to}
+use Rattle.ledger_view.specs.Entries.{net_of, balance_after, is_commit_on, entry_of, front_to, balance_up_to}
 use Rattle.ledger_view.specs.Viewing.{untouched, account_at, KeepsAccount, HasViewed}
-use Rattle.ledger_view.specs.Entering.{with_entry, Enters, CanAdd}
+use Rattle.ledger_view.specs.Entering.{with_entry, LeadsOn, AllLeadOn, Enters, CanAdd}
 use Rattle.ledger_view.proofs.HistoryLemmas.{accounts-front, unknown, judged-balance, balance-adds}
+use Rattle.ledger_view.proofs.RowLemmas.{last_balance-some}
 use Rattle.ledger_view.proofs.KeepingLemmas.{StandsBelow, stands-higher, keeps-first, keeps-opened, keeps-same, keeps-entered}
 
 -- what is kept stands at or below the record to come
@@ -129,20 +130,43 @@ module _ (opening : Opening) where
       abbrev commit : Placed
       commit = entry_at lsn (Commit txn legs)
 
+      -- it adds its net to the balance of an account
+      adds : (account : ℕ) → account < length old.accounts → IsBalance (balance_after opening h account)
+          × (pos (balance_after opening (commit ∷ h) account) ≡ pos (balance_after opening h account) +ℤ net_of account (updates_of txn h))
+      adds account inside =
+          let counted = viewed.count in
+          let within : account < (base_with opening h).accounts = omega arith in
+          let before = judged-balance opening old.judge h account viewed.judged within in
+          let after = judged-balance opening judge (commit ∷ h) account judged within in (
+            before.0,
+            balance-adds opening txn legs commit.end h account (balance_after opening h account) (balance_after opening (commit ∷ h) account)
+                (meets-passes opening h commit judged.ledger.judged.lawful.0).ended before.1 after.1,
+          )
+
+      -- which leads on from what is kept of it
+      leads : (account : ℕ) → account < length old.accounts
+          → LeadsOn (account_at old.accounts account).entries (net_of account (updates_of txn h)) (balance_after opening (commit ∷ h) account)
+      leads account inside = let kept = viewed.each account inside in let sums = adds account inside in record {
+        before = balance_after opening h account;
+        range = sums.0;
+        sum = sums.1;
+        last = λ first some. last_balance-some first kept.first (account_at old.accounts account).entries some ∙ kept.last;
+      }
+
+      pub all-lead : (some : List Change) → AllByRecursion (λ (change : Change). change.account < length old.accounts) some
+          → AllLeadOn opening (commit ∷ h) (updates_of txn h) some old.accounts
+      all-lead [] known = tt
+      all-lead (change ∷ some) known = (leads change.account known.0, all-lead some known.1)
+
       entered : (account : ℕ) → account < length old.accounts → touches account (updates_of txn h) ≡ true
           → KeepsAccount opening (commit ∷ h) account (with_entry (account_at old.accounts account) (entry_of opening commit h account))
       entered account inside on =
           let counted = viewed.count in
           let kept = account_at old.accounts account in
-          let within : account < (base_with opening h).accounts = omega arith in
-          let passes = judged.ledger.judged.lawful.0 in
-          let before = judged-balance opening old.judge h account viewed.judged within in
-          let after = judged-balance opening judge (commit ∷ h) account judged within in
+          let sums = adds account inside in
           keeps-entered opening commit h account kept
           (stands-higher lsn commit.end kept (omega arith) (stands-below old lsn (Commit txn legs) can account inside))
-          passes within (viewed.each account inside) on before.0
-          (balance-adds opening txn legs commit.end h account (balance_after opening h account) (balance_after opening (commit ∷ h) account)
-          (meets-passes opening h commit passes).ended before.1 after.1)
+          judged.ledger.judged.lawful.0 (omega arith) (viewed.each account inside) on sums.0 sums.1
 
       pub views-commit : (new : List Account) → Enters opening (commit ∷ h) txn (lsn + 1) (updates_of txn h) (updates_of txn h) old.accounts new
           → HasViewed opening (record { judge = judge; accounts = new }) (commit ∷ h)
@@ -181,6 +205,16 @@ module _ (opening : Opening) where
         subst (λ count. AllByRecursion (λ (change : Change). change.account < count) changes) (sym viewed.count)
         (subst (AllByRecursion (λ (change : Change). change.account < (base_with opening h).accounts)) (sym are)
         (updates_of-fits (base_with opening h) h txn (met-lawful opening h viewed.judged.ledger.judged.lawful)).known)
+
+    -- the net of a Commit's changes leads on, account by account
+    pub commit-leads : (rec : Rec) (txn legs : ℕ) (changes : List Change) → rec ≡ Commit txn legs → changes ≡ open_changes_of txn h
+        → CanAdd old lsn rec → HasJudged opening judge (entry_at lsn rec ∷ h) → AllLeadOn opening (entry_at lsn rec ∷ h) changes changes old.accounts
+    commit-leads rec txn legs changes is are can judged =
+        let updates = are ∙ commit-changes rec txn legs is judged in
+        subst (λ r. AllLeadOn opening (entry_at lsn r ∷ h) changes changes old.accounts) (sym is)
+        (subst (λ (l : List Change). AllLeadOn opening (entry_at lsn (Commit txn legs) ∷ h) l l old.accounts) (sym updates)
+        (all-lead txn legs (subst (CanAdd old lsn) is can) (subst (λ r. HasJudged opening judge (entry_at lsn r ∷ h)) is judged)
+        (updates_of txn h) (commit-known txn (updates_of txn h) refl)))
 
     -- a record that is a Commit
     pub views-committed : (rec : Rec) (txn legs end : ℕ) (changes : List Change) (new : List Account) → rec ≡ Commit txn legs → end ≡ lsn + 1

@@ -2,4 +2,5 @@ pub mod Entering
 pub mod Entries
 pub mod Marks
 pub mod Plain
+pub mod Rows
 pub mod Viewing

@@ -1,13 +1,14 @@
--- The ends of entries, and those of them that are marked.
+-- The ends of rows, and those of them that are marked; and those of entries.
 use Rattle.std.specs.Prelude.{◌≡◌, ◌<◌, ◌≤◌, ◌+◌, ◌*◌, ℕ, List, length, slice_index_or}
 use Rattle.ledger_view.specs.declared.entries.Entry.{Entry}
-use Rattle.ledger_view.specs.declared.entries.TheConstants.{MARKED}
+use Rattle.ledger_view.specs.declared.rows.Row.{Row}
+use Rattle.ledger_view.specs.declared.rows.TheConstants.{MARKED}
 
--- where the first entry ends, and each sixteenth behind it
-pub record AreMarks (marks : List ℕ) (entries : List Entry) : Type 0 where
-  pub enough : length entries ≤ MARKED * length marks
-  pub few : MARKED * length marks < length entries + MARKED
-  pub each : (k otherwise : ℕ) (none : Entry) → k < length marks → slice_index_or marks k otherwise ≡ (slice_index_or entries (MARKED * k) none).end
+-- where the first row ends, and each sixteenth behind it
+pub record AreMarks (marks : List ℕ) (rows : List Row) : Type 0 where
+  pub enough : length rows ≤ MARKED * length marks
+  pub few : MARKED * length marks < length rows + MARKED
+  pub each : (k otherwise : ℕ) (none : Row) → k < length marks → slice_index_or marks k otherwise ≡ (slice_index_or rows (MARKED * k) none).end
 
 -- one of the entries ends here
 abbrev pub IsEndIn : List Entry → ℕ → Type 0

@@ -1,8 +1,14 @@
 //! What is kept of each account.
-ghost use Rattle.std.specs.Prelude.{◌≡◌, ◌<◌, ◌++◌, ◌∷◌, [], replicate, length, slice_set, IfOk, OnOk};
+ghost use Rattle.std.specs.Prelude.{◌≡◌, ◌<◌, ◌≤◌, ◌++◌, ◌∷◌, [], replicate, length, slice_set, IfOk, OnOk};
+ghost use Rattle.lock_core.specs.declared.update.TheConstants.{MOST_UPDATES};
+ghost use Rattle.ledger_view.specs.Entries.{net_of};
 ghost use Rattle.ledger_view.specs.Viewing.{untouched, account_at};
+ghost use Rattle.ledger_view.specs.Entering.{with_entry, LeadsOn};
 
-use crate::entries::{Entries, Entry};
+use crate::entries::Entries;
+use crate::net::{balance_before, net_of};
+use crate::rows::Row;
+use lock_core::Change;
 use lsn_space::{Lsn, NoMemory};
 use std::alloc::Global;
 use std::marker::Model;
@@ -59,13 +65,21 @@ impl Accounts {
         }
     }
 
-    /// Appends an entry to those of an account.
-    pub fn enter(&mut self, account: u32, entry: Entry) -> Result<(), NoMemory>
-        requires { account < length self.old }
-        ensures { OnOk result (self.new ≡ slice_set self.old account
-            (record (account_at self.old account) { entries = (account_at self.old account).entries ++ entry ∷ [] })) }
+    /// Appends to the entries of an account that of a Commit of these changes, which is kept as this row. Only before the first is the
+    /// balance reckoned from which it leads on.
+    pub fn enter(&mut self, account: u32, changes: &[Change], row: Row) -> Result<(), NoMemory>
+        requires known { account < length self.old }
+        requires few { length changes.now ≤ MOST_UPDATES }
+        requires leads { LeadsOn (account_at self.old account).entries (net_of account changes.now) row.balance }
+        ensures { OnOk result (self.new ≡ slice_set self.old account (with_entry (account_at self.old account)
+            (record { end = row.end; txn = row.txn; net = net_of account changes.now; balance = row.balance }))) }
     {
-        self.rows[account as usize].entries.push(entry)
+        if self.at(account).entries.count() > 0 {
+            self.rows[account as usize].entries.push(row)
+        } else {
+            let first = balance_before(row.balance, net_of(changes, account));
+            self.rows[account as usize].entries.push_first(first, row)
+        }
     }
 
     /// What is kept of the account.

@@ -1,10 +1,12 @@
 //! The entries of one account.
-ghost use Rattle.std.specs.Prelude.{◌≡◌, ◌<◌, ◌≤◌, ◌++◌, ◌∷◌, [], ℕ, length, slice_index_or, pos, ◌+ℤ◌, ◌⊎◌, OnOk};
+ghost use Rattle.std.specs.Prelude.{◌≡◌, ◌<◌, ◌≤◌, ◌++◌, ◌∷◌, [], ℕ, length, slice_index_or, pos, ◌-ℤ◌, ◌⊎◌, OnOk};
 ghost use Rattle.std.specs.List.Sorted.{IsNonDecreasingBy};
 ghost use Rattle.log_record.specs.Spelling.{IsBalance};
+ghost use Rattle.ledger_view.specs.Rows.{entry_of_row};
 ghost use Rattle.ledger_view.specs.Viewing.{last_balance, balance_to, AddUp};
 ghost use Rattle.ledger_view.specs.Marks.{IsEndIn};
 
+use crate::rows::{Row, Rows};
 use lsn_space::{Lsn, NoMemory};
 use std::alloc::Global;
 use std::marker::Model;
@@ -25,58 +27,30 @@ pub struct Entry {
     pub balance: u32,
 }
 
-impl Entry {
-    /// The balance of the account before the Commit.
-    fn balance_before(&self) -> u32
-        requires { (before : ℕ) × IsBalance before × (pos self.now.balance ≡ pos before +ℤ self.now.net) }
-        ensures { (before : ℕ) → pos self.now.balance ≡ pos before +ℤ self.now.net → result ≡ before }
-    {
-        (i64::from(self.balance) - self.net) as u32
-    }
-}
-
-/// How many of the entries end at or below an LSN.
-fn count_to(entries: &[Entry], lsn: Lsn) -> usize
-    requires { IsNonDecreasingBy (λ entry. entry.end) entries.now }
-    ensures bound { result ≤ length entries.now }
-    ensures below { (i : ℕ) (otherwise : Entry) → i < result → (slice_index_or entries.now i otherwise).end ≤ lsn }
-    ensures behind { (i : ℕ) (otherwise : Entry) → result ≤ i → i < length entries.now → lsn < (slice_index_or entries.now i otherwise).end }
+/// What leads from one balance to another.
+fn net_between(before: u32, after: u32) -> i64
+    ensures { result ≡ pos after -ℤ pos before }
 {
-    entries.partition_point(|entry| entry.end.units() <= lsn.units())
+    i64::from(after) - i64::from(before)
 }
 
-/// How many of the marks lie at or below an LSN.
-fn marks_to(marks: &[Lsn], lsn: Lsn) -> usize
-    requires { IsNonDecreasingBy (λ mark. mark) marks.now }
-    ensures bound { result ≤ length marks.now }
-    ensures below { (i otherwise : ℕ) → i < result → slice_index_or marks.now i otherwise ≤ lsn }
-    ensures behind { (i otherwise : ℕ) → result ≤ i → i < length marks.now → lsn < slice_index_or marks.now i otherwise }
-{
-    marks.partition_point(|mark| mark.units() <= lsn.units())
-}
-
-/// How many entries stand between one mark and the next.
-pub const MARKED: usize = 16;
-
-/// The entries of an account, in the order of their Commits. Contracts see the list of them.
+/// The entries of an account, in the order of their Commits, each of which adds its net to the balance before it. Contracts see the list
+/// of them.
 #[derive(Debug, Drop)]
 pub struct Entries {
-    items: Vec<Entry>,
-
-    /// Where the first entry ends, and each sixteenth behind it: they lie so close that a search for an LSN among them stays in the cache.
-    marks: Vec<Lsn>,
+    /// The balance before the first entry, as soon as there is one.
+    first: u32,
+    rows: Rows,
 }
 
 impl Model for Entries {
     ghost use Rattle.std.specs.Prelude.{List};
     ghost use Rattle.ledger_view.specs.declared.entries.Entry.{Entry};
-    ghost use Rattle.ledger_view.specs.Marks.{AreMarks};
+    ghost use Rattle.ledger_view.specs.Rows.{entries_of_rows};
 
     ghost Value = { List Entry };
 
-    ghost view = { λ entries. entries.items.items };
-
-    ghost invariant = { λ entries. AreMarks entries.marks.items entries.items.items };
+    ghost view = { λ entries. entries_of_rows entries.first entries.rows };
 }
 
 impl Entries {
@@ -85,27 +59,26 @@ impl Entries {
         ensures { result ≡ [] }
     {
         Entries {
-            items: Vec::new(alloc),
-            marks: Vec::new(alloc),
+            first: 0,
+            rows: Rows::new(alloc),
         }
     }
 
-    /// Appends an entry.
-    pub(crate) fn push(&mut self, entry: Entry) -> Result<(), NoMemory>
-        ensures { OnOk result (self.new ≡ self.old ++ entry ∷ []) }
+    /// Appends the first entry, before which the account has this balance.
+    pub(crate) fn push_first(&mut self, first: u32, row: Row) -> Result<(), NoMemory>
+        requires { self.old ≡ [] }
+        ensures { OnOk result (self.new ≡ entry_of_row first row ∷ []) }
     {
-        let end = entry.end;
-        let is_marked = self.items.len() % MARKED == 0;
-        let Ok(()) = self.items.push(entry) else {
-            return Err(NoMemory);
-        };
-        if is_marked {
-            let Ok(()) = self.marks.push(end) else {
-                let _ = self.items.pop();
-                return Err(NoMemory);
-            };
-        }
-        Ok(())
+        self.first = first;
+        self.rows.push(row)
+    }
+
+    /// Appends an entry to those that there are.
+    pub(crate) fn push(&mut self, row: Row) -> Result<(), NoMemory>
+        requires { 0 < length self.old }
+        ensures { OnOk result ((first : ℕ) → self.new ≡ self.old ++ entry_of_row (last_balance first self.old) row ∷ []) }
+    {
+        self.rows.push(row)
     }
 
     /// How many of the entries end at or below an LSN.
@@ -115,13 +88,19 @@ impl Entries {
         ensures below { (i : ℕ) (otherwise : Entry) → i < result → (slice_index_or self.now i otherwise).end ≤ lsn }
         ensures behind { (i : ℕ) (otherwise : Entry) → result ≤ i → i < length self.now → lsn < (slice_index_or self.now i otherwise).end }
     {
-        let marks = marks_to(self.marks.as_slice(), lsn);
-        if marks == 0 {
-            return 0;
+        self.rows.count_to(lsn)
+    }
+
+    /// The balance of the account before an entry.
+    fn balance_before(&self, i: usize) -> u32
+        requires { i < length self.now }
+        ensures { (otherwise : Entry) → (slice_index_or self.now i otherwise).net
+            ≡ pos (slice_index_or self.now i otherwise).balance -ℤ pos result }
+    {
+        if i == 0 {
+            return self.first;
         }
-        let from = MARKED * (marks - 1);
-        let rest = self.items.as_slice().split_at(from).1;
-        from + count_to(rest.split_at(rest.len().min(MARKED)).0, lsn)
+        self.rows.at(i - 1).balance
     }
 
     /// Where the last entry ends of those that end at or below an LSN; or this least one, where there is none behind it.
@@ -129,12 +108,11 @@ impl Entries {
         requires { IsNonDecreasingBy (λ entry. entry.end) self.now }
         ensures { (result ≡ least) ⊎ ((result ≤ lsn) × IsEndIn self.now result) }
     {
-        let entries = self.as_slice();
         let next = self.count_to(lsn);
         if next == 0 {
             return least;
         }
-        let end = entries[next - 1].end;
+        let end = self.at(next - 1).end;
         if end.units() < least.units() {
             least
         } else {
@@ -149,10 +127,9 @@ impl Entries {
         ensures range { IsBalance result }
         ensures balance { (first : ℕ) → AddUp 0 first self.now → last ≡ last_balance first self.now → result ≡ balance_to first self.now lsn }
     {
-        let entries = self.as_slice();
         let next = self.count_to(lsn);
-        if next < entries.len() {
-            entries[next].balance_before()
+        if next < self.count() {
+            self.balance_before(next)
         } else {
             last
         }
@@ -163,18 +140,31 @@ impl Entries {
         requires sums { (first : ℕ) × AddUp 0 first self.now × (last ≡ last_balance first self.now) }
         ensures { (first : ℕ) → AddUp 0 first self.now → last ≡ last_balance first self.now → result ≡ first }
     {
-        let entries = self.as_slice();
-        if entries.is_empty() {
+        if self.count() == 0 {
             last
         } else {
-            entries[0].balance_before()
+            self.balance_before(0)
         }
     }
 
-    /// The entries, in their order.
-    pub fn as_slice(&self) -> &[Entry]
-        ensures { result.now ≡ self.now }
+    /// The number of entries.
+    pub fn count(&self) -> usize
+        ensures { result ≡ length self.now }
     {
-        self.items.as_slice()
+        self.rows.count()
+    }
+
+    /// The entry at this place, from 0 on.
+    pub fn at(&self, i: usize) -> Entry
+        requires { i < length self.now }
+        ensures { (otherwise : Entry) → result ≡ slice_index_or self.now i otherwise }
+    {
+        let row = self.rows.at(i);
+        Entry {
+            end: row.end,
+            txn: row.txn,
+            net: net_between(self.balance_before(i), row.balance),
+            balance: row.balance,
+        }
     }
 }

@@ -9,6 +9,7 @@ ghost use Rattle.ledger_view.specs.Viewing.{HasViewed};
 
 use crate::entries::Entries;
 use crate::plain::{plain_balance_at, plain_entries};
+use crate::plain_list::EntryList;
 use crate::view::View;
 use log_record::Placed;
 use lsn_space::{Lsn, NoMemory, Opening};
@@ -47,7 +48,7 @@ pub fn entries_are_plain<'a>(
     opening: &Opening,
     entries: &[Placed],
     account: u32,
-) -> Result<(Option<&'a Entries>, Option<Entries>), NoMemory>
+) -> Result<(Option<&'a Entries>, Option<EntryList>), NoMemory>
     requires few { length entries.now ≤ LAST }
     requires viewed { HasViewed (opening_of opening.now) view.now (reverse entries.now) }
     ensures same { IfOk result (λ both. MatchOption both.0 (both.1 ≡ None) (λ found. both.1 ≡ Some found.now)) }

@@ -6,9 +6,12 @@ mod entries;
 mod laws;
 mod net;
 mod plain;
+mod plain_list;
+mod rows;
 mod view;
 
 pub use entries::{Entries, Entry};
 pub use laws::{balances_are_plain, entries_are_plain, fronts_are_prefixes};
 pub use plain::{plain_balance_at, plain_entries};
+pub use plain_list::EntryList;
 pub use view::View;

@@ -1,5 +1,6 @@
 //! What the changes of a transaction do to one account.
-ghost use Rattle.std.specs.Prelude.{◌≡◌, ◌==◌, ◌≤◌, pos, neg_ℤ, ◌≤ℤ◌, if◌then◌else◌, length};
+ghost use Rattle.std.specs.Prelude.{◌≡◌, ◌==◌, ◌≤◌, ℕ, pos, neg_ℤ, ◌+ℤ◌, ◌≤ℤ◌, if◌then◌else◌, length};
+ghost use Rattle.log_record.specs.Spelling.{IsBalance};
 ghost use Rattle.lock_core.specs.declared.update.TheConstants.{MOST_UPDATES};
 ghost use Rattle.lock_core.specs.Transactions.{touches};
 ghost use Rattle.ledger_view.specs.Entries.{net_of};
@@ -29,6 +30,14 @@ pub fn net_of(changes: &[Change], account: u32) -> i64
         net += delta_on(change, account);
     }
     net
+}
+
+/// The balance from which a net leads to this one.
+pub fn balance_before(balance: u32, net: i64) -> u32
+    requires { (before : ℕ) × IsBalance before × (pos balance ≡ pos before +ℤ net) }
+    ensures { (before : ℕ) → pos balance ≡ pos before +ℤ net → result ≡ before }
+{
+    (i64::from(balance) - net) as u32
 }
 
 /// Whether one of the changes is of the account.

@@ -10,7 +10,8 @@ ghost use Rattle.lock_core.specs.Settling.{opening_of};
 ghost use Rattle.ledger_view.specs.Entries.{net_of, front_to, balance_after, balance_if_known, balance_up_to, entries_if_known};
 ghost use Rattle.ledger_view.specs.Plain.{own_changes, IsNetOf, IsEntryOf, KeepsRange};
 
-use crate::entries::{Entries, Entry};
+use crate::entries::Entry;
+use crate::plain_list::EntryList;
 use log_record::{Placed, Rec};
 use lsn_space::{Lsn, NoMemory, Opening};
 use std::alloc::Global;
@@ -246,7 +247,7 @@ pub fn plain_entries(
     opening: &Opening,
     entries: &[Placed],
     account: u32,
-) -> Result<Option<Entries>, NoMemory>
+) -> Result<Option<EntryList>, NoMemory>
     requires few { length entries.now ≤ LAST }
     requires range { KeepsRange (opening_of opening.now) (reverse entries.now) account }
     ensures { IfOk result (λ found. found ≡ entries_if_known (opening_of opening.now) (reverse entries.now) account) }
@@ -254,7 +255,7 @@ pub fn plain_entries(
     if u64::from(account) >= account_count(opening, entries) {
         return Ok(None);
     }
-    let mut found = Entries::new(alloc);
+    let mut found = EntryList::new(alloc);
     'entries: for i in 0..entries.len() {
         let Some(entry) = plain_entry(opening, entries, i, account) else {
             continue;

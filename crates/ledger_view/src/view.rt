@@ -14,11 +14,12 @@ ghost use Rattle.lock_core.specs.Settling.{opening_of};
 ghost use Rattle.lock_core.specs.Taking.{IsTakeFault, HasJudged, count_of};
 ghost use Rattle.ledger_view.specs.Entries.{entries_of, balance_up_to, EndsAt};
 ghost use Rattle.ledger_view.specs.Viewing.{account_at, HasViewed};
-ghost use Rattle.ledger_view.specs.Entering.{Enters, CanAdd, AddsEntry};
+ghost use Rattle.ledger_view.specs.Entering.{AllLeadOn, Enters, CanAdd, AddsEntry};
 
 use crate::accounts::{Account, Accounts};
-use crate::entries::{Entries, Entry};
-use crate::net::{net_of, touches};
+use crate::entries::Entries;
+use crate::net::touches;
+use crate::rows::Row;
 use arrayvec::ArrayVec;
 use lock_core::{Change, Judge, JudgeFault, TakesRecords};
 use log_record::Rec;
@@ -49,18 +50,15 @@ fn enter_commit(
     requires few { length changes.now ≤ MOST_UPDATES }
     requires known { AllByRecursion (λ change. change.account < length accounts.old) changes.now }
     requires counted { length accounts.old ≡ count_of judge.now }
+    requires lead { (opening : Opening) × (h : List Placed) × HasJudged opening judge.now h
+        × AllLeadOn opening h changes.now changes.now accounts.old }
     ensures { OnOk result ((opening : Opening) (h : List Placed) → HasJudged opening judge.now h
         → Enters opening h txn end changes.now changes.now accounts.old accounts.new) }
 {
     for (i, change) in changes.iter().enumerate() {
         if !touches(&changes[..i], change.account) {
-            let entry = Entry {
-                end,
-                txn,
-                net: net_of(changes, change.account),
-                balance: judge.balance(change.account),
-            };
-            accounts.enter(change.account, entry)?;
+            let balance = judge.balance(change.account);
+            accounts.enter(change.account, changes, Row { end, txn, balance })?;
         }
     }
     Ok(())

@@ -6,7 +6,7 @@ ghost use Rattle.lsn_space.specs.Opening.{IsSnapshot};
 ghost use Rattle.lock_core.specs.Settling.{opening_of};
 ghost use Rattle.ledger_view.specs.Viewing.{HasViewed};
 
-use ledger_view::{View, balances_are_plain, entries_are_plain};
+use ledger_view::{Entries, Entry, View, balances_are_plain, entries_are_plain};
 use log_record::{Placed, read};
 use log_recovery::taken;
 use lsn_space::{Lsn, Opening};
@@ -41,6 +41,19 @@ fn viewed(alloc: Global, opening: &Opening, units: &[u64]) -> Option<(View, Vec<
     Some((view, entries))
 }
 
+/// Whether the entries of a view are these.
+fn are_entries(viewed: &Entries, plain: &[Entry]) -> bool {
+    if viewed.count() != plain.len() {
+        return false;
+    }
+    'entries: for i in 0..plain.len() {
+        if viewed.at(i) != plain[i] {
+            return false;
+        }
+    }
+    true
+}
+
 /// Whether both have the same entries of the account.
 fn has_same_entries(
     alloc: Global,
@@ -56,7 +69,7 @@ fn has_same_entries(
         return false;
     };
     match (viewed, &plain) {
-        (Some(viewed), Some(plain)) => viewed.as_slice() == plain.as_slice(),
+        (Some(viewed), Some(plain)) => are_entries(viewed, plain.as_slice()),
         (None, None) => true,
         _ => false,
     }

@@ -143,11 +143,11 @@ const BEHIND: &[Row] = &[
 ];
 
 fn are_lines(rt: &impl Abort, account: u32, entries: &Entries, lines: &[Line]) {
-    let entries = entries.as_slice();
-    assert_eq!(rt; entries.len(), lines.len(), "{account}");
-    for (entry, line) in entries.iter().zip(lines) {
+    assert_eq!(rt; entries.count(), lines.len(), "{account}");
+    'entries: for i in 0..entries.count() {
+        let entry = entries.at(i);
         let found = (entry.end.units(), entry.txn, entry.net, entry.balance);
-        assert_eq!(rt; found, *line, "{account}");
+        assert_eq!(rt; Some(&found), lines.get(i), "{account}");
     }
 }
 

@@ -1,7 +1,5 @@
-use Rattle.std.proofs.Common.{subst}
-use Rattle.log_disk.specs.Streams.{AppendsPart}
 use Rattle.cli_reports.proofs.ReportLemmas.{report-fault}
-use Rattle.cli_view.specs.Reports.{RefusesAccount, SaysStatement, statement_lines}
+use Rattle.cli_view.specs.Reports.{RefusesAccount, SaysStatement}
 use Rattle.cli_view.proofs.ReadLemmas.{statement-cut}
 use Rattle.cli_view.proofs.statement_command.statement_command.Goals as goal
 
@@ -13,7 +11,5 @@ returns-in-Err-clause-answer g c =
 -- the writing failed
 pub returns-clause-answer : goal.returns-clause-answer
 returns-clause-answer g c =
-    let cut = subst (λ entries. AppendsPart (g.K.Sink.held_bytes c.args.out.now) (g.K.Sink.held_bytes c.put_statement.new.sink)
-    (statement_lines c.in-Some.balance entries c.in-Ok.both.1.tail.next)) c.as_slice.ensures c.in-Err-put_statement.ensures.prefix in
     statement-cut _ _ _ _ c.in-Ok.ensures.ok c.args.account c.in-Some.balance c.in-Some-entries.entries.now c.in-Some.ensures.some
-    c.in-Some-entries.ensures.some _ _ cut
+    c.in-Some-entries.ensures.some _ _ c.in-Err-put_statement.ensures.prefix

@@ -1,4 +1,4 @@
-use Rattle.std.proofs.Common.{◌∙◌, ◌++◌, subst}
+use Rattle.std.proofs.Common.{◌∙◌, ◌++◌, subst, arith}
 use Rattle.std.proofs.lemmas.Result.{err_from_is_err_and, on_ok_weaker, on_err_weaker}
 use Rattle.log_disk.specs.Streams.{AppendsPart, AppendsBut}
 use Rattle.log_disk.proofs.Blocks.{AppendsBut-all, AppendsBut-cut}
@@ -15,7 +15,7 @@ returns-in_err-put-2-clause-prefix g c =
     let failed = err_from_is_err_and c.from_residual-in_err-put-2.result c.from_residual-in_err-put-2.ensures.1 in
     let cut = subst (λ line. AppendsPart (g.K.Sink.held_bytes c.entries.sink) (g.K.Sink.held_bytes c.put-in-entries.new.sink) (c.entries.block ++ line))
     (c.as_slice-in-entries.ensures.bytes ∙ c.line_of.ensures) c.in_err-put-2.ensures.prefix in
-    rw failed.1 (line-cut _ _ _ _ _ _ _ c.entries.entry-index c.entry-item.result c.entries-test.true c.entry-item.is c.entries.invariant.written cut)
+    rw failed.1 (line-cut _ _ _ _ _ _ _ c.entries.i c.at.result (omega (arith, c.entries-test.true, c.count-count.ensures)) (c.at.ensures c.at.result) c.entries.invariant.written cut)
 
 pub entries-preserved : goal.entries-preserved
 entries-preserved g c =
@@ -23,21 +23,21 @@ entries-preserved g c =
     (λ line. AppendsBut (g.K.Sink.held_bytes c.entries.sink) (g.K.Sink.held_bytes c.put-in-entries.new.sink) (c.entries.block ++ line) c.put-in-entries.new.self)
     (c.as_slice-in-entries.ensures.bytes ∙ c.line_of.ensures) c.in_ok-put-2.ensures.all in
     record {
-      written = line-more _ _ c.args.end _ _ _ _ c.entries.entry-index c.entry-item.result c.entries-test.true c.entry-item.is c.entries.invariant.written _ put;
+      written = line-more _ _ c.args.end _ _ _ _ c.entries.i c.at.result (omega (arith, c.entries-test.true, c.count-count.ensures)) (c.at.ensures c.at.result) c.entries.invariant.written _ put;
       same = c.in_ok-put-2.ensures.cause.fine ∙ c.entries.invariant.same;
     }
 
 pub returns-in_err-put_end-clause-prefix : goal.returns-in_err-put_end-clause-prefix
 returns-in_err-put_end-clause-prefix g c =
     let failed = err_from_is_err_and c.from_residual-in_err-put_end.result c.from_residual-in_err-put_end.ensures.1 in
-    rw failed.1 (end-cut _ _ _ _ _ _ _ c.entries.entry-index c.entries-test.false c.entries.invariant.written c.in_err-put_end.ensures.prefix)
+    rw failed.1 (end-cut _ _ _ _ _ _ _ c.entries.i (omega (arith, c.entries-test.false, c.count-count.ensures)) c.entries.invariant.written c.in_err-put_end.ensures.prefix)
 
 pub returns-clause-all : goal.returns-clause-all
 returns-clause-all g c =
-    let put = end-put _ _ _ _ _ _ _ c.entries.entry-index c.entries-test.false c.entries.invariant.written _ c.in_ok-put_end.ensures.all in
+    let put = end-put _ _ _ _ _ _ _ c.entries.i (omega (arith, c.entries-test.false, c.count-count.ensures)) c.entries.invariant.written _ c.in_ok-put_end.ensures.all in
     on_ok_weaker c.write_out.result (AppendsBut-all _ _ _ _ _ put) c.write_out.ensures.all
 
 pub returns-clause-prefix : goal.returns-clause-prefix
 returns-clause-prefix g c =
-    let put = end-put _ _ _ _ _ _ _ c.entries.entry-index c.entries-test.false c.entries.invariant.written _ c.in_ok-put_end.ensures.all in
+    let put = end-put _ _ _ _ _ _ _ c.entries.i (omega (arith, c.entries-test.false, c.count-count.ensures)) c.entries.invariant.written _ c.in_ok-put_end.ensures.all in
     on_err_weaker c.write_out.result (AppendsBut-cut _ _ _ _ _ put) c.write_out.ensures.prefix

@@ -1,40 +1,31 @@
-use Rattle.std.proofs.Common.{◌≡◌, ◌<◌, ◌≤◌, ◌∙◌, ◌+◌, ◌-◌, ◌*◌, ℕ, ap, refl, sym, subst, arith, length, get_or, drop, min}
+use Rattle.std.proofs.Common.{◌<◌, ◌≤◌, ℕ, length, get_or, ap, sym, subst, arith}
 use Rattle.std.specs.List.Sorted.{IsNonDecreasingBy}
 use Rattle.ledger_view.specs.declared.entries.Entry.{Entry}
-use Rattle.ledger_view.proofs.MarkLemmas.{Rises, IsBlock, is-block, marks-rise, all-below, rest-behind}
+use Rattle.ledger_view.proofs.MarkLemmas.{no_row}
+use Rattle.ledger_view.proofs.RowLemmas.{length-entries_of_rows, ends-at, rows-rise}
 use Rattle.ledger_view.proofs.entries.Entries.count_to.Goals as goal
 
-pub marks_to-marks-requires : goal.marks_to-marks-requires
-marks_to-marks-requires c =
-    subst (IsNonDecreasingBy (λ (mark : ℕ). mark)) (sym c.as_slice.ensures.value)
-    (marks-rise c.self.inside.marks.items c.self.inside.items.items c.self.invariant (subst Rises (sym c.self.view_is) c.requires))
+pub count_to-requires : goal.count_to-requires
+count_to-requires c =
+    rows-rise c.self.inside.first c.self.inside.rows (subst (IsNonDecreasingBy (λ (entry : Entry). entry.end)) (sym c.self.view_is) c.requires)
 
--- the entries from the last mark on that lies at or below the LSN, up to the next
-block : (c : goal.After-count_to) → IsBlock c.self.inside.items.items c.split_at-2.result.0.now (16 * (c.marks_to-marks.result - 1))
-block c =
-    let marks = ap length c.as_slice.ensures.value in let few = c.self.invariant.few in
-    is-block c.self.inside.items.items c.split_at.result.1.now c.split_at-2.result.0.now (16 * (c.marks_to-marks.result - 1)) c.min.result
-    (omega (arith, marks, few, c.marks_to-marks.ensures.bound, c.if-marks-eq0.false)) (omega (arith, c.min.ensures))
-    (c.split_at.ensures.back ∙ ap (drop (16 * (c.marks_to-marks.result - 1))) c.as_slice-2.ensures.value) c.split_at-2.ensures.front
+pub returns-clause-bound : goal.returns-clause-bound
+returns-clause-bound c =
+    let long = length-entries_of_rows c.self.inside.first c.self.inside.rows in let seen = ap length c.self.view_is in
+    omega (arith, long, seen, c.count_to.ensures.bound)
 
 pub returns-clause-below : goal.returns-clause-below
-returns-clause-below c =
-    let marks = ap length c.as_slice.ensures.value in
-    subst (λ l. (i : ℕ) (none : Entry) → i < 16 * (c.marks_to-marks.result - 1) + c.count_to.result → (get_or l i none).end ≤ c.args.lsn) c.self.view_is
-    (all-below c.self.inside.marks.items c.self.inside.items.items c.self.invariant (subst Rises (sym c.self.view_is) c.requires) c.args.lsn
-    c.marks_to-marks.result (omega (arith, c.if-marks-eq0.false)) (omega (arith, marks, c.marks_to-marks.ensures.bound))
-    c.split_at-2.result.0.now (16 * (c.marks_to-marks.result - 1)) c.count_to.result refl (block c) c.count_to.ensures.bound
-    (subst (λ l. (i d : ℕ) → i < c.marks_to-marks.result → get_or l i d ≤ c.args.lsn) c.as_slice.ensures.value c.marks_to-marks.ensures.below)
-    c.count_to.ensures.below)
+returns-clause-below c = subst (λ l. (i : ℕ) (d : Entry) → i < c.count_to.result → (get_or l i d).end ≤ c.args.lsn) c.self.view_is
+    (λ i d before.
+    let end = ends-at c.self.inside.first c.self.inside.rows i d no_row (omega (arith, before, c.count_to.ensures.bound)) in
+    let low = c.count_to.ensures.below i no_row before in
+    omega (arith, end, low))
 
 pub returns-clause-behind : goal.returns-clause-behind
-returns-clause-behind c =
-    let marks = ap length c.as_slice.ensures.value in let items = ap length c.as_slice-2.ensures.value in
-    let left : length c.split_at.result.1.now ≡ length c.self.inside.items.items - 16 * (c.marks_to-marks.result - 1) = omega (arith, c.split_at.ensures.back_len, items) in
-    subst (λ l. (i : ℕ) (none : Entry) → 16 * (c.marks_to-marks.result - 1) + c.count_to.result ≤ i → i < length l → c.args.lsn < (get_or l i none).end) c.self.view_is
-    (rest-behind c.self.inside.marks.items c.self.inside.items.items c.self.invariant (subst Rises (sym c.self.view_is) c.requires) c.args.lsn
-    c.marks_to-marks.result (omega (arith, c.if-marks-eq0.false)) (omega (arith, marks, c.marks_to-marks.ensures.bound))
-    c.split_at-2.result.0.now (16 * (c.marks_to-marks.result - 1)) c.count_to.result refl (block c) c.count_to.ensures.bound
-    (c.split_at-2.ensures.front_len ∙ c.min.ensures ∙ ap (λ n. min n 16) left)
-    (subst (λ l. (i d : ℕ) → c.marks_to-marks.result ≤ i → i < length l → c.args.lsn < get_or l i d) c.as_slice.ensures.value c.marks_to-marks.ensures.behind)
-    c.count_to.ensures.behind)
+returns-clause-behind c = subst (λ l. (i : ℕ) (d : Entry) → c.count_to.result ≤ i → i < length l → c.args.lsn < (get_or l i d).end) c.self.view_is
+    (λ i d from inside.
+    let long = length-entries_of_rows c.self.inside.first c.self.inside.rows in
+    let within : i < length c.self.inside.rows = omega (arith, long, inside) in
+    let end = ends-at c.self.inside.first c.self.inside.rows i d no_row within in
+    let high = c.count_to.ensures.behind i no_row from within in
+    omega (arith, end, high))

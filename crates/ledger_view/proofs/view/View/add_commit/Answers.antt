@@ -1,6 +1,6 @@
 use Rattle.std.proofs.Common.{◌+◌, ◌∙◌, ◌∷◌, ap}
 use Rattle.lock_core.specs.History.{entry_at}
-use Rattle.ledger_view.proofs.ViewLemmas.{commit-changes, commit-known, views-committed}
+use Rattle.ledger_view.proofs.ViewLemmas.{commit-changes, commit-known, commit-leads, views-committed}
 use Rattle.ledger_view.proofs.view.View.add_commit.Goals as goal
 
 pub enter_commit-requires-clause-known : goal.enter_commit-requires-clause-known
@@ -10,6 +10,17 @@ enter_commit-requires-clause-known c =
     commit-known opening old c.args.lsn c.take.new.self h viewed c.args.txn c.as_slice.result.now
     (c.as_slice.ensures.value ∙ c.changes_of.ensures.changes opening h viewed.judged
     ∙ commit-changes opening old c.args.lsn c.take.new.self h viewed c.args.rec.now c.args.txn c.args.legs c.requires.is judged)
+
+pub enter_commit-requires-clause-lead : goal.enter_commit-requires-clause-lead
+enter_commit-requires-clause-lead c =
+    let old = c.args.self.now in let opening = c.requires.can.given.0 in let h = c.requires.can.given.1 in let viewed = c.requires.can.given.2 in
+    let judged = c.in_ok-take.ensures.taken opening h viewed.judged in (
+      opening,
+      entry_at c.args.lsn c.args.rec.now ∷ h,
+      judged,
+      commit-leads opening old c.args.lsn c.take.new.self h viewed c.args.rec.now c.args.txn c.args.legs c.as_slice.result.now c.requires.is
+          (c.as_slice.ensures.value ∙ c.changes_of.ensures.changes opening h viewed.judged) c.requires.can judged,
+    )
 
 pub returns-in-Ok : goal.returns-in-Ok
 returns-in-Ok c = λ opening h viewed.

@@ -7,7 +7,8 @@ use Rattle.ledger_view.specs.Marks.{IsEndIn}
 use Rattle.ledger_view.specs.Viewing.{account_at, HasViewed}
 use Rattle.ledger_view.proofs.EndLemmas.{end-viewed}
 use Rattle.ledger_view.proofs.EntryLemmas.{add_up-rises}
-use Rattle.ledger_view.proofs.MarkLemmas.{Rises}
+use Rattle.std.specs.List.Sorted.{IsNonDecreasingBy}
+use Rattle.ledger_view.specs.declared.entries.Entry.{Entry}
 use Rattle.ledger_view.proofs.view.View.last_commit.Goals as goal
 
 pub accounts-init : goal.accounts-init
@@ -20,7 +21,7 @@ inside c opening h viewed =
 pub last_end-last-requires : goal.last_end-last-requires
 last_end-last-requires c =
     let given = c.requires.viewed in let kept = given.2.each c.accounts.account (inside c given.0 given.1 given.2) in
-    subst (λ (a : Account). Rises a.entries) (sym c.at.ensures)
+    subst (λ (a : Account). IsNonDecreasingBy (λ (entry : Entry). entry.end) a.entries) (sym c.at.ensures)
     (add_up-rises 0 kept.first (account_at c.args.self.now.accounts c.accounts.account).entries kept.sums)
 
 pub accounts-preserved : goal.accounts-preserved

@@ -1,6 +1,6 @@
 use Rattle.std.proofs.Common.{ℕ, leb, rules, arith, leb-true, leb-false}
 use Rattle.std.proofs.lemmas.List.Sorted.{IsPartitionPoint-from_clause, IsPartitionedBy-leb}
-use Rattle.ledger_view.proofs.entries.marks_to.Goals as goal
+use Rattle.ledger_view.proofs.rows.marks_to.Goals as goal
 
 pub returns : goal.returns
 returns c =
