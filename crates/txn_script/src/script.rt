@@ -79,7 +79,7 @@ impl Script {
     {
         match self.stored[place as usize] {
             Stored::Single(leg) => job.become_single(leg),
-            Stored::Long(at) => *job = self.long[at].copy(),
+            Stored::Long(at) => copy_at(self.long.as_slice(), at, job),
         }
     }
 
@@ -92,6 +92,14 @@ impl Script {
         self.fetch(place, &mut job);
         job
     }
+}
+
+/// Makes this the job at that place. It is no part of `fetch`, which clears the place of a copy as it begins.
+fn copy_at(jobs: &[Job], at: usize, job: &mut Job)
+    requires { at < length jobs.now }
+    ensures { slice_get jobs.now at ≡ Some job.new }
+{
+    *job = jobs[at].copy();
 }
 
 fn put<T: Drop>(list: &mut Vec<T>, element: T) -> Result<(), NoMemory>
