@@ -17,7 +17,7 @@ use txn_script::Script;
 #[derive(Drop)]
 pub struct Jobs {
     pub(crate) queue: Queue,
-    pub(crate) pass: Pass<u64, Takings>,
+    pub(crate) pass: Pass<u32, Takings>,
 }
 
 impl Jobs {
@@ -39,7 +39,7 @@ impl Jobs {
         ensures out { IfOk result (λ jobs. passes_out jobs ≡ 0) }
         ensures none { IfOk result (λ jobs. (places_back jobs ≡ []) × (marks_back jobs ≡ [])) }
     {
-        let (line, pass) = filled(rt, alloc, script.count(), workers)?;
+        let (line, pass) = filled(rt, alloc, script.count() as u32, workers)?;
         let queue = Queue {
             script,
             first,

@@ -12,7 +12,7 @@ use txn_jobs::{Cause, Row, Worked};
 #[derive(Drop)]
 pub struct Rows {
     told: txn_jobs::Rows,
-    pub(crate) pass: Option<Pass<u64, Takings>>,
+    pub(crate) pass: Option<Pass<u32, Takings>>,
 }
 
 impl Rows {

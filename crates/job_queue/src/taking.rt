@@ -36,7 +36,7 @@ impl Queue {
 
     /// The next number of the queue, a place or a mark. There always is one for a pass that may take a mark.
     #[inline(always)]
-    fn pop<R: Wait>(&self, rt: &R, pass: &mut Pass<u64, Takings>) -> u64
+    fn pop<R: Wait>(&self, rt: &R, pass: &mut Pass<u32, Takings>) -> u64
         requires pass { IsWorkersPass self.now pass.old }
         requires mark { (view pass.old).own_marks ≡ [] }
         ensures pass { IsWorkersPass self.now pass.new }
@@ -45,6 +45,6 @@ impl Queue {
         let Some(next) = self.line.pop_as::<Takes, R>(rt, pass) else {
             unreachable!()
         };
-        next
+        u64::from(next)
     }
 }

@@ -20,7 +20,7 @@ pub struct Takings {
 /// The rule of the queue: what was put is taken in order, each number by one pass.
 pub struct OneByOne;
 
-impl Protocol<u64, Takings> for OneByOne {
+impl Protocol<u32, Takings> for OneByOne {
     ghost use Rattle.std.specs.Prelude.{true};
     ghost use Rattle.job_queue.specs.Takings.{fresh};
     ghost use Rattle.job_queue.specs.Rule.{IsShared};
@@ -33,7 +33,7 @@ impl Protocol<u64, Takings> for OneByOne {
 /// The next place is put.
 pub(crate) struct PutsPlace;
 
-impl Outcome<u64, Takings> for PutsPlace {
+impl Outcome<u32, Takings> for PutsPlace {
     ghost use Rattle.std.specs.Prelude.{◌≡◌};
     ghost use Rattle.job_queue.specs.Takings.{put_place};
 
@@ -43,7 +43,7 @@ impl Outcome<u64, Takings> for PutsPlace {
 /// The next mark is put.
 pub(crate) struct PutsMark;
 
-impl Outcome<u64, Takings> for PutsMark {
+impl Outcome<u32, Takings> for PutsMark {
     ghost use Rattle.std.specs.Prelude.{◌≡◌};
     ghost use Rattle.job_queue.specs.Takings.{put_mark};
 
@@ -52,13 +52,13 @@ impl Outcome<u64, Takings> for PutsMark {
 
 // The queue holds no more than was put.
 
-impl Lesson<u64, Takings> for PutsPlace {
+impl Lesson<u32, Takings> for PutsPlace {
     ghost use Rattle.std.specs.Prelude.{◌≤◌, ◌+◌, length};
 
     ghost fact = { λ v items. length items ≤ v.count + v.marks };
 }
 
-impl Lesson<u64, Takings> for PutsMark {
+impl Lesson<u32, Takings> for PutsMark {
     ghost use Rattle.std.specs.Prelude.{◌≤◌, ◌+◌, length};
 
     ghost fact = { λ v items. length items ≤ v.count + v.marks };
@@ -67,14 +67,14 @@ impl Lesson<u64, Takings> for PutsMark {
 /// The next place is taken, or a mark.
 pub(crate) struct Takes;
 
-impl Outcome<u64, Takings> for Takes {
+impl Outcome<u32, Takings> for Takes {
     ghost use Rattle.job_queue.specs.Takings.{TakesNext};
 
     ghost then = { TakesNext };
 }
 
 /// While the pass may take a mark, the queue isn't empty.
-impl Lesson<u64, Takings> for Takes {
+impl Lesson<u32, Takings> for Takes {
     ghost use Rattle.std.specs.Prelude.{◌≤◌, length};
 
     ghost fact = { λ v items. 1 ≤ v.marks_left → 1 ≤ length items };
@@ -106,7 +106,7 @@ impl Join<Takings> for Dismisses {
 /// What the first pass has back was taken once, and each mark is out, left or taken.
 pub(crate) struct Balances;
 
-impl Lesson<u64, Takings> for Balances {
+impl Lesson<u32, Takings> for Balances {
     ghost use Rattle.job_queue.specs.Takings.{IsBalanced};
 
     ghost fact = { λ v items. IsBalanced v };
@@ -115,7 +115,7 @@ impl Lesson<u64, Takings> for Balances {
 /// What the first pass learns once it has all others back.
 pub(crate) struct Counts;
 
-impl Lesson<u64, Takings> for Counts {
+impl Lesson<u32, Takings> for Counts {
     ghost use Rattle.std.specs.Prelude.{◌≡◌};
     ghost use Rattle.job_queue.specs.Takings.{HasAllBelow};
 
