@@ -16,6 +16,7 @@ use txn_parts::{Holding, Release};
 
 /// Gives the accounts back in the order in which they were taken. `durable`: the worker has seen that the end record of the
 /// transfer is on the disk.
+#[inline(always)]
 pub fn give_all(
     table: &LogTable,
     seat: &mut Seat,

@@ -67,6 +67,7 @@ fn insert_note<R: Wait, Q: Relief, G: Gate>(
 }
 
 /// Spells the end record of a transfer with this answer.
+#[inline(always)]
 fn spell_end(units: &mut Units, numbered: &Numbered, answer: Answer)
     requires { IsSpellable (last_record numbered.now.number numbered.now.job answer) }
     ensures { units.new ≡ spelling (last_record numbered.now.number numbered.now.job answer) }

@@ -6,6 +6,7 @@ use crate::numbered::Numbered;
 use log_record::{Units, spell_note};
 
 /// Spells the Note of this transfer. False: it has none.
+#[inline(always)]
 pub fn spell_job_note(units: &mut Units, numbered: &Numbered) -> bool
     ensures noted { result ≡ true → SpellsNote numbered.now.number numbered.now.job units.new }
     ensures none { result ≡ false → numbered.now.job.note ≡ None }
