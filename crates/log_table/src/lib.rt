@@ -4,6 +4,7 @@
 
 mod closing;
 mod hiring;
+mod indexing;
 mod plays;
 mod seating;
 mod steps;

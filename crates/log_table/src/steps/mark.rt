@@ -6,9 +6,9 @@ ghost use Rattle.log_rule.specs.MarkViews.{marked, saw_mark};
 ghost use Rattle.log_rule.specs.May.{MayMark, MayLookMark};
 ghost use Rattle.log_table.specs.Seats.{IsOf, Becomes, view_of, number_of, key_of};
 
+use crate::indexing::mark_place;
 use crate::plays::{LoadMark, StoreMark};
 use crate::table::{LogTable, Seat};
-use log_rule::mark_place;
 use lsn_space::Lsn;
 
 impl LogTable {

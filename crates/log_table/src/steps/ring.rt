@@ -7,10 +7,11 @@ ghost use Rattle.log_table.specs.Seats.{IsOf, Becomes, view_of, number_of, key_o
 ghost use Rattle.log_rule.specs.Sends.{ReadsWholeEntries};
 ghost use Rattle.log_rule.specs.Views.{filled, has_read};
 
+use crate::indexing::place;
 use crate::plays::{LoadRing, StoreRing};
 use crate::table::{LogTable, Seat};
 use log_rule::RING;
-use lsn_space::{Lsn, place};
+use lsn_space::Lsn;
 
 impl LogTable {
     /// Copies the next unit of the seat's record into the ring, to the run that it has reserved alone, or to its
