@@ -6,6 +6,8 @@ ghost use Rattle.log_table.specs.Seats.{Becomes, IsOf, view_of};
 ghost use Rattle.flusher.specs.Flushing.{ChangesSeat};
 ghost use Rattle.commit_pipeline.specs.Told.{HasTold, HasToldAll};
 
+mod turning;
+
 use end_lines::{Tally, Voice};
 use flusher::Flusher;
 use log_disk::{LogDisk, Sink};
@@ -13,11 +15,12 @@ use log_table::Seat;
 use std::snapshot::Snapshot;
 use stop_word::DaemonFault;
 
-/// A flusher, and the sink that the lines of ended transactions go to. As long as it is there nothing else reaches the sink.
+/// A flusher, and the sink that the lines of ended transactions go to. As long as it is there nothing else reaches the sink, and of
+/// its own methods those alone that always return: what may wait stands in a module that doesn't see it.
 #[derive(Drop)]
 pub struct Daemon<'a, D: LogDisk, K: Sink> {
     pub flusher: Flusher<'a, D>,
-    pub(crate) sink: &'a mut K,
+    sink: &'a mut K,
     pub voice: Voice,
     pub(crate) tally: Tally,
     pub(crate) fault: Option<DaemonFault>,

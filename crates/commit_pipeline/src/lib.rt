@@ -3,7 +3,6 @@
 
 mod daemon;
 mod running;
-mod turning;
 
 pub use daemon::{Daemon, DaemonParts};
 pub use daemon_turn::Turn;

@@ -3,7 +3,7 @@ ghost use Rattle.std.specs.Prelude.{IfOk, IfErr, OnOk};
 ghost use Rattle.commit_pipeline.specs.Later.{Later};
 ghost use Rattle.commit_pipeline.specs.Turning.{HasCounted, MayTurn, Turns, Fails};
 
-use crate::daemon::Daemon;
+use super::Daemon;
 use daemon_turn::{Turn, make_turn};
 use log_disk::{LogDisk, Sink};
 use stop_word::DaemonFault;
