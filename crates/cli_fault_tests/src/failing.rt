@@ -151,7 +151,7 @@ fn failed_at<R: Threads + Wait + Clock + Sync + AllocGlobal + Abort>(
 }
 
 /// Each call of that part fails, alone and for good, from the first on, until none is left that could. Answers how many failed in all runs.
-pub(crate) fn each_call_fails<R: Threads + Wait + Clock + Sync + AllocGlobal + Abort>(
+fn each_call_fails<R: Threads + Wait + Clock + Sync + AllocGlobal + Abort>(
     rt: &R,
     command: &Command,
     part: Part,
@@ -170,6 +170,19 @@ pub(crate) fn each_call_fails<R: Threads + Wait + Clock + Sync + AllocGlobal + A
     }
     let words = command.words;
     Err(Fail::new(format_args!("more than {failed} calls: {words:?}")))
+}
+
+/// Calls of that part fail, alone and for good, one at least in each run.
+pub(crate) fn some_calls_fail<R: Threads + Wait + Clock + Sync + AllocGlobal + Abort>(
+    rt: &R,
+    command: &Command,
+    part: Part,
+) -> Result<(), Fail> {
+    if each_call_fails(rt, command, part)? == 0 {
+        let words = command.words;
+        return Err(Fail::new(format_args!("no call failed: {words:?}")));
+    }
+    Ok(())
 }
 
 /// So many calls of that part fail, alone and for good, and no other is made.
