@@ -3,6 +3,9 @@ use Rattle.log_rule.specs.Views.{knows_all_enrolled}
 use Rattle.commit_pipeline.proofs.RanLemmas.{Later-trans, Later-standing}
 use Rattle.commit_pipeline.proofs.daemon.Daemon.run_until_drained.Goals as goal
 
+pub turn-requires : goal.turn-requires
+turn-requires g c = record { ready = c.loop.invariant.ready }
+
 pub returns-in_err-turn-clause-later : goal.returns-in_err-turn-clause-later
 returns-in_err-turn-clause-later g c =
     Later-trans g.D.LogDisk g.K.Sink c.args.self.now c.loop.self c.turn.new.self c.loop.invariant.later c.turn.ensures.later
