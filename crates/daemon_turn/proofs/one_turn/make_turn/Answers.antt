@@ -3,18 +3,18 @@ use Rattle.flusher.specs.Flushing.{Flushes}
 use Rattle.daemon_turn.proofs.TurnLemmas.{FindsAll-found, SendsAndTells-told, CannotSend-stop, CannotTell-stop, MayGoOn-found, MayGoOn-sent, IsSame-stop, counted-sent, sent-lost, sent-stop, keeps-stop, StandsInAll-sent}
 use Rattle.daemon_turn.proofs.one_turn.make_turn.Goals as goal
 
-pub invariant_of-flusher : goal.invariant_of-flusher
-invariant_of-flusher g c = record { keeps = keeps-stop c.flush.new.self c.tell_fault.new.seat _ c.tell_fault.ensures.stops }
-
-pub invariant_of-flusher-in-Err : goal.invariant_of-flusher-in-Err
-invariant_of-flusher-in-Err g c = record { keeps = keeps-stop c.flush.new.self c.tell_fault-in-Err.new.seat _ c.tell_fault-in-Err.ensures.stops }
-
 -- each image holds the batch before a line of it is written
 pub tell-told-requires-clause-held : goal.tell-told-requires-clause-held
 tell-told-requires-clause-held g c =
     let sends = subst (Flushes g.D.LogDisk c.args.flusher.now c.flush.new.self) c.in-To.is c.in-Ok.ensures.flushed in
     StandsInAll-sent g.D.LogDisk c.args.flusher.now c.flush.new.self c.in-To.from c.in-To.to c.requires.ready.flusher
     c.in-Ok.ensures.ready sends
+
+pub invariant_of-flusher : goal.invariant_of-flusher
+invariant_of-flusher g c = record { keeps = keeps-stop c.flush.new.self c.tell_fault.new.seat _ c.tell_fault.ensures.stops }
+
+pub invariant_of-flusher-in-Err : goal.invariant_of-flusher-in-Err
+invariant_of-flusher-in-Err g c = record { keeps = keeps-stop c.flush.new.self c.tell_fault-in-Err.new.seat _ c.tell_fault-in-Err.ensures.stops }
 
 pub returns-in_default-clause-failed : goal.returns-in_default-clause-failed
 returns-in_default-clause-failed g c =
