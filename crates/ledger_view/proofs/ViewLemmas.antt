@@ -1,5 +1,6 @@
 -- How what a view keeps goes on by one record.
-use Rattle.std.proofs.Common.{◌≡◌, ◌≤◌, ◌<◌, ℕ, ◌+◌, pos, ◌+ℤ◌, ◌&&◌, Bool, cond, None, true, false, List, [], ◌∷◌, ◌++◌, length, replicate, refl, ap, ◌∙◌, sym, subst, arith, length-append}
+use Rattle.std.proofs.Common.{◌≡◌, ◌≤◌, ◌<◌, ℕ, ◌+◌, pos, ◌+ℤ◌, ◌&&◌, Bool, cond, None, true, false, List, [], ◌∷◌, ◌++◌, length, replicate, Result, Ok, Err, refl, ap, ◌∙◌, sym, subst, arith, length-append}
+use Rattle.std.specs.Prelude.{OnOk, IfErr}
 use Rattle.std.proofs.lemmas.List.{length-replicate, get_or-replicate, get_or_append_left, get_or_at}
 use mathlib.Core.Logic.{dite}
 use native.Mathlib.Decide.{ℕ_discrete}
@@ -16,14 +17,15 @@ use Rattle.lock_core.specs.Transactions.{updates_of, open_changes_of, touches}
 use Rattle.lock_core.specs.Sums.{Opening}
 use Rattle.lock_core.specs.Tests.{IsGenesis}
 use Rattle.lock_core.specs.Lawful.{base_with, with_genesis}
-use Rattle.lock_core.specs.Taking.{HasJudged}
+use Rattle.lock_core.specs.Taking.{HasJudged, IsTakeFault}
+use Rattle.lock_core.specs.declared.reason.JudgeFault.{JudgeFault}
 use Rattle.lock_core.proofs.Meeting.{meets-passes, met-lawful}
 use Rattle.lock_core.proofs.Pairing.{updates_of-fits}
 use Rattle.ledger_view.specs.declared.accounts.Account.{Account}
 use Rattle.ledger_view.specs.declared.view.View.{View}
 use Rattle.ledger_view.specs.Entries.{net_of, balance_after, is_commit_on, entry_of, front_to, balance_up_to}
 use Rattle.ledger_view.specs.Viewing.{untouched, account_at, KeepsAccount, HasViewed}
-use Rattle.ledger_view.specs.Entering.{with_entry, LeadsOn, AllLeadOn, Enters, CanAdd}
+use Rattle.ledger_view.specs.Entering.{with_entry, LeadsOn, AllLeadOn, Enters, CanAdd, AddsEntry}
 use Rattle.ledger_view.proofs.HistoryLemmas.{accounts-front, unknown, judged-balance, balance-adds}
 use Rattle.ledger_view.proofs.RowLemmas.{last_balance-some}
 use Rattle.ledger_view.proofs.KeepingLemmas.{StandsBelow, stands-higher, keeps-first, keeps-opened, keeps-same, keeps-entered}
@@ -226,3 +228,15 @@ module _ (opening : Opening) where
         (views-commit txn legs (subst (CanAdd old lsn) is can) (subst (λ r. HasJudged opening judge (entry_at lsn r ∷ h)) is judged) new
         (subst (λ e. Enters opening (entry_at lsn (Commit txn legs) ∷ h) txn e (updates_of txn h) (updates_of txn h) old.accounts new) at
         (subst (λ r. Enters opening (entry_at lsn r ∷ h) txn end (updates_of txn h) (updates_of txn h) old.accounts new) is own)))
+
+-- what adding an entry says where it succeeds
+pub adds-taken : {A : Type 0} (old new : View) (entry : Placed) (r : Result A JudgeFault) → AddsEntry old new entry r
+    → OnOk r ((opening : Opening) (h : List Placed) → HasViewed opening old h → HasViewed opening new (entry ∷ h))
+adds-taken old new entry (Ok x) adds = adds
+adds-taken old new entry (Err fault) adds = tt
+
+-- and where it fails
+pub adds-fault : {A : Type 0} (old new : View) (entry : Placed) (r : Result A JudgeFault) → AddsEntry old new entry r
+    → IfErr r (λ fault. (opening : Opening) (h : List Placed) → HasViewed opening old h → IsTakeFault opening h entry fault)
+adds-fault old new entry (Ok x) adds = tt
+adds-fault old new entry (Err fault) adds = adds

@@ -5,7 +5,7 @@ use Rattle.lock_core.specs.History.{entry_at}
 use Rattle.lock_core.specs.Sums.{Opening}
 use Rattle.lock_core.specs.Taking.{HasJudged, IsTakeFault}
 use Rattle.ledger_view.specs.Viewing.{HasViewed}
-use Rattle.ledger_view.proofs.ViewLemmas.{other-kinds, views-plain}
+use Rattle.ledger_view.proofs.ViewLemmas.{adds-fault, adds-taken, other-kinds, views-plain}
 use Rattle.ledger_view.proofs.view.View.add.Goals as goal
 
 pub returns-in_default : goal.returns-in_default
@@ -22,3 +22,15 @@ returns-in_default c =
           (λ fault. (opening : Opening) (h : List Placed) → HasViewed opening old h → IsTakeFault opening h (entry_at c.args.lsn rec') fault)
           (λ fault told opening h viewed. told opening h viewed.judged) c.take.ensures.fault;
     }
+
+pub returns-in-Genesis-clause-taken : goal.returns-in-Genesis-clause-taken
+returns-in-Genesis-clause-taken c = adds-taken c.args.self.now c.add_genesis.new.self _ c.add_genesis.result c.add_genesis.ensures
+
+pub returns-in-Genesis-clause-fault : goal.returns-in-Genesis-clause-fault
+returns-in-Genesis-clause-fault c = adds-fault c.args.self.now c.add_genesis.new.self _ c.add_genesis.result c.add_genesis.ensures
+
+pub returns-in-Commit-clause-taken : goal.returns-in-Commit-clause-taken
+returns-in-Commit-clause-taken c = adds-taken c.args.self.now c.add_commit.new.self _ c.add_commit.result c.add_commit.ensures
+
+pub returns-in-Commit-clause-fault : goal.returns-in-Commit-clause-fault
+returns-in-Commit-clause-fault c = adds-fault c.args.self.now c.add_commit.new.self _ c.add_commit.result c.add_commit.ensures
