@@ -210,3 +210,12 @@ AreDone-here workers same_table same_queue same_wait done =
 pub ends-of_shares : (workers : List Worker) → map (λ (share : Share). share.worked) (map share_of workers) ≡ map worked_of workers
 ends-of_shares [] = refl
 ends-of_shares (worker ∷ workers) = ap (λ l. worked_of worker ∷ l) (ends-of_shares workers)
+
+-- of what is in a place two facts hold; and one fact leads to another
+pub both-some : {A : Type 0} (P Q : A → Type 0) (place : Option A) → IsSomeAnd place P → IsSomeAnd place Q → (one : A) × P one × Q one
+both-some P Q None first second = absurd first
+both-some P Q (Some one) first second = (one, first, second)
+
+pub some-then : {A : Type 0} (P Q : A → Type 0) (place : Option A) → IsSomeAnd place P → ((one : A) → P one → Q one) → IsSomeAnd place Q
+some-then P Q None first then = absurd first
+some-then P Q (Some one) first then = then one first

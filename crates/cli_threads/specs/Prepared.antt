@@ -8,20 +8,26 @@ use Rattle.lock_core.specs.Transfers.{IsAllowedJob}
 use Rattle.log_table.specs.declared.table.LogTable.{LogTable}
 use Rattle.log_table.specs.declared.table.Seat.{Seat}
 use Rattle.log_table.specs.Hiring.{HasHired}
-use Rattle.log_table.specs.Seats.{IsOf, view_of}
+use Rattle.log_table.specs.Seats.{IsOf, key_of, view_of}
+use Rattle.log_rule.specs.Closing.{HasHeardOfWorkers, IsGathered, IsSettled}
+use Rattle.log_rule.specs.May.{MayClose}
 use Rattle.log_rule.specs.Sends.{IsDrained}
-use Rattle.log_rule.specs.Sound.{HasReadStop}
+use Rattle.log_rule.specs.Sound.{HasReadStop, base_of}
 use Rattle.commit_pipeline.specs.Later.{Later}
 use Rattle.commit_pipeline.specs.declared.daemon.Daemon.{Daemon}
 use Rattle.end_lines.specs.declared.voice.Voice.{Voice}
 use Rattle.commit_pipeline.specs.Turning.{IsMade}
+use Rattle.txn_jobs.specs.declared.cause.Worked.{Worked}
+use Rattle.cli_ending.specs.declared.conclusion.Ended.{Ended}
 use Rattle.job_queue.specs.declared.jobs.Jobs.{Jobs}
 use Rattle.job_queue.specs.declared.queue.Queue.{Queue}
 use Rattle.job_queue.specs.Passes.{HasFirstPass, marks_back, passes_out, places_back, workers_of}
 use Rattle.cli_threads.specs.declared.transfers.Crew.{Crew}
+use Rattle.cli_threads.specs.declared.transfers.Hands.{Hands}
 use Rattle.cli_threads.specs.declared.room.Room.{Room}
 use Rattle.cli_threads.specs.declared.transfers.Prepared.{Prepared}
 use Rattle.cli_workers.specs.declared.workers.Worker.{Worker}
+use Rattle.flushing_relief.specs.declared.relief.FlushingRelief.{FlushingRelief}
 use Rattle.cli_workers.specs.Workers.{AreUnused}
 use Rattle.cli_threads.specs.declared.transfers.Served.{Served}
 use Rattle.cli_threads.specs.Gathering.{AreFront, all_marks, all_places, takes_all, view_in, worked_of}
@@ -34,13 +40,17 @@ pub record HasRoomFor (workers : ℕ) (room : Room) : Type 0 where
   pub back : workers ≤ vec_capacity room.back
   pub ends : workers ≤ vec_capacity room.ends
 
+-- so many workers have taken nothing yet, and there is room for what is to come of them
+pub record AreReady (table : LogTable) (queue : Queue) (size : ℕ) (hands : Hands) : Type 0 where
+  pub workers : AreUnused table queue hands.workers.items
+  pub count : vec_len hands.workers ≡ size
+  pub room : HasRoomFor size hands.room
+
 -- All of so many workers are enrolled, as the flusher's seat knows, and there is room for all that they and the daemon need.
 pub record IsCrew (table : LogTable) (queue : Queue) (size : ℕ) (crew : Crew) : Type 0 where
   pub boss : HasHired table size crew.boss
-  pub workers : AreUnused table queue crew.workers.items
-  pub count : vec_len crew.workers ≡ size
   pub batch : table.ring ≤ crew.batch.room
-  pub room : HasRoomFor size crew.room
+  pub hands : AreReady table queue size crew.hands
 
 -- each of the workers, one at least, has its pass, and nothing was given back yet
 pub record AreEnlisted (jobs : Jobs) : Type 0 where
@@ -68,25 +78,64 @@ pub record IsBegun {D : Type 0} {K : Type 0} (g : Ghosts D) (h : SinkGhosts K) (
   pub sink_is : d.sink.now ≡ sink
   pub none_counted : (d.tally.done ≡ 0) × (d.tally.refused ≡ 0)
 
--- Turns led from a daemon that was made just now, over this seat, disk and sink, to one over the others, and so many workers did their work.
--- Then its seat took in theirs, and the first pass theirs; and the log was drained where nothing befell that.
-pub record HasTurned {D : Type 0} {K : Type 0} (g : Ghosts D) (h : SinkGhosts K) (table : LogTable) (queue : Queue) (size : ℕ) (wait : Bool)
-    (tail : Tail) (voice : Voice) (boss : Seat) (disk disk_new : D) (sink sink_new : K) (served : Served) : Type 0 where
-  pub first : Daemon D K g h
+-- Turns led from the first daemon to the last, and so many workers did their work. Then its seat took in theirs, which left this daemon, and
+-- the first pass theirs; and the log was drained where nothing befell that.
+pub record HasServedAll {D : Type 0} {K : Type 0} (g : Ghosts D) (h : SinkGhosts K) (table : LogTable) (queue : Queue) (size : ℕ) (wait : Bool)
+    (first left : Daemon D K g h) (ends : List Worked) : Type 0 where
   pub last : Daemon D K g h
   pub workers : List Worker
-  pub begun : IsBegun g h tail voice boss disk sink first
   pub later : Later g h first last
   pub done : AreDone table queue wait workers
   pub count : length workers ≡ size
   pub front : AreFront (length queue.script) (all_places workers) (all_marks workers)
   pub stops : AllByRecursion (HasReadStop (view_of last.flusher.seat).sending.stop) (map view_in workers)
   pub drained : last.fault ≡ None → IsDrained (view_of last.flusher.seat)
+  pub seat : IsOf table left.flusher.seat
+  pub view : view_of left.flusher.seat ≡ takes_all (view_of last.flusher.seat) (map view_in workers)
+  pub ends_are : ends ≡ map worked_of workers
+  pub fault_is : last.fault ≡ left.fault
+  pub done_is : last.tally.done ≡ left.tally.done
+  pub refused_is : last.tally.refused ≡ left.tally.refused
+  pub disk_is : last.flusher.disk.now ≡ left.flusher.disk.now
+  pub sink_is : last.sink.now ≡ left.sink.now
+
+-- this relief has served: its daemon may be taken apart, since all workers' seats were taken in
+pub record MayBeTakenApart {D : Type 0} {K : Type 0} {g : Ghosts D} {h : SinkGhosts K} (relief : FlushingRelief D K g h) : Type 0 where
+  pub over : MayClose (view_of relief.daemon.flusher.seat)
+
+-- What is left of the daemon and of the works, but for disk and sink. The table may be closed with this seat.
+pub record IsLeftOf {D : Type 0} {K : Type 0} (g : Ghosts D) (h : SinkGhosts K) (left : Daemon D K g h) (ends : List Worked) (served : Served)
+    : Type 0 where
+  pub fault : left.fault ≡ served.fault
+  pub done : left.tally.done ≡ served.done
+  pub refused : left.tally.refused ≡ served.refused
+  pub ends_are : served.ends.items ≡ ends
+  pub boss : served.boss ≡ left.flusher.seat
+  pub over : MayClose (view_of served.boss)
+
+-- A daemon was made just now, over this seat, disk and sink, and the crew was served by it; this is left, with these disk and sink.
+pub record HasTurned {D : Type 0} {K : Type 0} (g : Ghosts D) (h : SinkGhosts K) (table : LogTable) (queue : Queue) (size : ℕ) (wait : Bool)
+    (tail : Tail) (voice : Voice) (boss : Seat) (disk disk_new : D) (sink sink_new : K) (served : Served) : Type 0 where
+  pub first : Daemon D K g h
+  pub left : Daemon D K g h
+  pub ends : List Worked
+  pub begun : IsBegun g h tail voice boss disk sink first
+  pub crew : HasServedAll g h table queue size wait first left ends
+  pub rest : IsLeftOf g h left ends served
+  pub disk_is : left.flusher.disk.now ≡ disk_new
+  pub sink_is : left.sink.now ≡ sink_new
+
+-- the table may be closed
+pub record IsOver (table : LogTable) (served : Served) : Type 0 where
   pub seat : IsOf table served.boss
-  pub view : view_of served.boss ≡ takes_all (view_of last.flusher.seat) (map view_in workers)
-  pub ends : served.ends.items ≡ map worked_of workers
-  pub fault_is : last.fault ≡ served.fault
-  pub done_is : last.tally.done ≡ served.done
-  pub refused_is : last.tally.refused ≡ served.refused
-  pub disk_is : last.flusher.disk.now ≡ disk_new
-  pub sink_is : last.sink.now ≡ sink_new
+  pub over : MayClose (view_of served.boss)
+
+-- the table was closed, and nothing else is told than was left
+pub record IsEndOf (table : LogTable) (ended : Ended) (served : Served) : Type 0 where
+  pub fault : served.fault ≡ ended.fault
+  pub done : served.done ≡ ended.done
+  pub refused : served.refused ≡ ended.refused
+  pub ends_are : served.ends.items ≡ ended.ends.items
+  pub gathered : IsGathered ended.closed.tail (view_of served.boss)
+  pub settled : IsSettled (base_of (key_of table)) (view_of served.boss) ended.closed.accounts.rows
+  pub heard : HasHeardOfWorkers (view_of served.boss)

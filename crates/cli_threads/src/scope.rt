@@ -35,6 +35,7 @@ fn drain<'a, R: Wait + Clock, D: LogDisk, K: Sink>(rt: &R, daemon: &mut Daemon<'
 pub(crate) fn serve_all<
     'a,
     'b,
+    'c,
     R: Threads + Wait + Clock + Sync,
     D: LogDisk,
     K: Sink,
@@ -44,40 +45,41 @@ pub(crate) fn serve_all<
     workers: Vec<Worker>,
     started: Vec<Started>,
     back: Vec<Worker>,
-    relief: FlushingRelief<'a, D, K>,
-) -> (FlushingRelief<'a, D, K>, Vec<Worker>)
+    relief: &'c mut FlushingRelief<'a, D, K>,
+) -> (&'c mut FlushingRelief<'a, D, K>, Vec<Worker>)
     requires workers { AreUnused run.table.now run.queue.now workers.items }
     requires flags { vec_len workers ≤ length run.refused.now }
     requires none { (started.items ≡ []) × (back.items ≡ []) }
     requires room { (vec_len workers ≤ vec_capacity started) × (vec_len workers ≤ vec_capacity back) }
-    requires ready { relief.daemon.fault ≡ None → MayTurn D.LogDisk relief.daemon }
-    requires told { knows_all_enrolled (view_of relief.daemon.flusher.seat).standing ≡ true }
+    requires ready { relief.old.daemon.fault ≡ None → MayTurn D.LogDisk relief.old.daemon }
+    requires told { knows_all_enrolled (view_of relief.old.daemon.flusher.seat).standing ≡ true }
     ensures done { AreDone run.entry.table.now run.entry.queue.now run.entry.wait result.1.items }
     ensures count { vec_len result.1 ≡ vec_len workers }
-    ensures drained { result.0.daemon.fault ≡ None → IsDrained (view_of result.0.daemon.flusher.seat) }
-    ensures later { Later D.LogDisk K.Sink relief.entry.daemon result.0.daemon }
-    ensures same { IsSameDaemon D.LogDisk relief.entry.daemon result.0.daemon }
+    ensures drained { result.0.now.daemon.fault ≡ None → IsDrained (view_of result.0.now.daemon.flusher.seat) }
+    ensures later { Later D.LogDisk K.Sink relief.old.daemon result.0.now.daemon }
+    ensures relief { result.0.ghost_name ≡ relief.entry.ghost_name }
+    ensures same { IsSameDaemon D.LogDisk relief.old.daemon result.0.now.daemon }
 {
     thread::scope(
         thread::scope_env(),
         run.rt,
-        move |scope| -> (FlushingRelief<D, K>, Vec<Worker>)
+        move |scope| -> (&mut FlushingRelief<D, K>, Vec<Worker>)
             requires workers { AreUnused run.table.now run.queue.now workers.items }
             requires flags { vec_len workers ≤ length run.refused.now }
             requires none { (started.items ≡ []) × (back.items ≡ []) }
             requires room { (vec_len workers ≤ vec_capacity started) × (vec_len workers ≤ vec_capacity back) }
-            requires ready { relief.daemon.fault ≡ None → MayTurn D.LogDisk relief.daemon }
-            requires told { knows_all_enrolled (view_of relief.daemon.flusher.seat).standing ≡ true }
+            requires ready { relief.now.daemon.fault ≡ None → MayTurn D.LogDisk relief.now.daemon }
+            requires told { knows_all_enrolled (view_of relief.now.daemon.flusher.seat).standing ≡ true }
             ensures done { AreDone run.entry.table.now run.entry.queue.now run.entry.wait result.1.items }
             ensures count { vec_len result.1 ≡ vec_len workers }
-            ensures drained { result.0.daemon.fault ≡ None → IsDrained (view_of result.0.daemon.flusher.seat) }
-            ensures later { Later D.LogDisk K.Sink relief.entry.daemon result.0.daemon }
-            ensures same { IsSameDaemon D.LogDisk relief.entry.daemon result.0.daemon }
+            ensures drained { result.0.now.daemon.fault ≡ None → IsDrained (view_of result.0.now.daemon.flusher.seat) }
+            ensures later { Later D.LogDisk K.Sink relief.entry.now.daemon result.0.now.daemon }
+            ensures relief { result.0.ghost_name ≡ relief.entry.ghost_name }
+            ensures same { IsSameDaemon D.LogDisk relief.entry.now.daemon result.0.now.daemon }
         {
-            let mut relief = relief;
-            let started = start_all(&run, scope, workers, started, &mut relief);
+            let started = start_all(&run, scope, workers, started, relief);
             drain(run.rt, &mut relief.daemon);
-            let workers = join_all(&run, started, back, &mut relief);
+            let workers = join_all(&run, started, back, relief);
             // A worker that came back as it was hired was served here, and what it released is to be sent as well.
             drain(run.rt, &mut relief.daemon);
             (relief, workers)

@@ -11,7 +11,7 @@ ghost use Rattle.segment_file.specs.Standing.{IsShut, LogStands};
 ghost use Rattle.lock_core.specs.Transfers.{IsAllowedJob};
 ghost use Rattle.job_queue.specs.Passes.{workers_of};
 ghost use Rattle.cli_threads.specs.Ending.{HasEnded};
-ghost use Rattle.cli_threads.specs.Prepared.{AreEnlisted, HasTurned, IsBegun, IsCrew, IsPrepared};
+ghost use Rattle.cli_threads.specs.Prepared.{AreEnlisted, AreReady, HasServedAll, HasTurned, IsBegun, IsCrew, IsEndOf, IsLeftOf, IsOver, IsPrepared, MayBeTakenApart};
 ghost use Rattle.cli_threads.specs.Transferred.{IsOpened};
 ghost use Rattle.commit_pipeline.specs.Turning.{MayTurn};
 ghost use Rattle.segment_file.specs.Log.{Log};
@@ -53,12 +53,17 @@ pub struct ReadyRun {
     pub tail: Tail,
 }
 
-/// The table's first seat, a batch as long as the ring, the workers, each of which is enrolled, and room for what is to come of
-/// them.
+/// The table's first seat, a batch as long as the ring, and the workers.
 #[derive(Drop)]
 pub(crate) struct Crew {
     pub(crate) boss: Seat,
     pub(crate) batch: Batch,
+    pub(crate) hands: Hands,
+}
+
+/// The workers, each of which is enrolled, and room for what is to come of them.
+#[derive(Drop)]
+pub(crate) struct Hands {
     pub(crate) workers: Vec<Worker>,
     pub(crate) room: Room,
 }
@@ -109,12 +114,11 @@ pub fn prepare<R: Wait>(
     let hired = hire_all(alloc, &table, &mut boss, &mut jobs, workers)?;
     let refused = flags(alloc, workers)?;
     let room = Room::make(alloc, workers)?;
-    let crew = Crew {
-        boss,
-        batch,
+    let hands = Hands {
         workers: hired,
         room,
     };
+    let crew = Crew { boss, batch, hands };
     Ok(Prepared {
         table,
         jobs,
@@ -128,23 +132,23 @@ fn relief_of<'a, D: LogDisk, K: Sink>(
     table: &'a LogTable,
     seat: Seat,
     batch: Batch,
-    disk: &'a mut D,
+    outside: Outside<'a, D, K>,
     tail: Tail,
-    out: &'a mut K,
     voice: Voice,
 ) -> FlushingRelief<'a, D, K>
     requires seat { (n : ℕ) × HasHired table.now n seat }
     requires batch { table.now.ring ≤ batch.room }
-    requires stand { D.honest disk.old → (opened : Log) × LogStands tail opened (D.images disk.old) }
-    requires shut { D.honest disk.old → IsShut tail.at (D.images disk.old) }
+    requires stand { D.honest outside.disk.now → (opened : Log) × LogStands tail opened (D.images outside.disk.now) }
+    requires shut { D.honest outside.disk.now → IsShut tail.at (D.images outside.disk.now) }
     requires next { tail.next ≡ (key_of table.now).start }
     requires place { tail.at ≤ 2 ^ 63 + 16 * tail.next }
     ensures ready { MayTurn D.LogDisk result.daemon }
-    ensures begun { IsBegun D.LogDisk K.Sink tail voice seat disk.old out.old result.daemon }
+    ensures begun { IsBegun D.LogDisk K.Sink tail voice seat outside.entry.disk.now outside.entry.out.now result.daemon }
     ensures table { result.daemon.flusher.table ≡ table.entry }
-    ensures disk { result.daemon.flusher.disk ≡ disk.entry }
-    ensures sink { result.daemon.sink ≡ out.entry }
+    ensures disk { result.daemon.flusher.disk ≡ outside.entry.disk }
+    ensures sink { result.daemon.sink ≡ outside.entry.out }
 {
+    let Outside { disk, out } = outside;
     let flusher = Flusher::make(table, disk, seat, batch, tail);
     FlushingRelief {
         daemon: Daemon::make(flusher, out, voice),
@@ -152,16 +156,78 @@ fn relief_of<'a, D: LogDisk, K: Sink>(
 }
 
 /// Makes the transfers, by workers in threads, while this thread is the daemon. Then the flusher's seat takes in all workers' seats,
-/// and the queue's first pass all passes. From `relief_of` to `into_parts` the disk and the sink are the daemon's. What is left besides is
-/// put into a place, and not answered beside these two, so that contracts follow them to the caller.
-fn serve_crew<'a, R: Threads + Wait + Clock + Sync, D: LogDisk, K: Sink, G: Gate + Sync>(
-    rt: &'a R,
-    table: &'a LogTable,
-    jobs: &'a mut Jobs,
-    refused: &'a [AtomicBool],
+/// and the queue's first pass all passes. What the work of each worker came to is put into a place.
+fn serve_crew<'a, 'c, R: Threads + Wait + Clock + Sync, D: LogDisk, K: Sink, G: Gate + Sync>(
+    rt: &R,
+    table: &LogTable,
+    jobs: &mut Jobs,
+    refused: &[AtomicBool],
     wait: bool,
-    gate: &'a G,
+    gate: &G,
+    hands: Hands,
+    relief: &'c mut FlushingRelief<'a, D, K>,
+    ends: &mut Option<Vec<Worked>>,
+) -> &'c mut FlushingRelief<'a, D, K>
+    requires allowed { All (IsAllowedJob table.now.accounts) jobs.old.queue.script }
+    requires enlisted { AreEnlisted jobs.old }
+    requires flags { length refused.now ≡ workers_of jobs.old }
+    requires hands { AreReady table.now jobs.old.queue (length refused.now) hands }
+    requires boss { HasHired table.now (length refused.now) relief.old.daemon.flusher.seat }
+    requires ready { MayTurn D.LogDisk relief.old.daemon }
+    ensures turned { IsSomeAnd ends.new (λ ends. HasServedAll D.LogDisk K.Sink table.now jobs.old.queue (length refused.now) wait
+        relief.old.daemon result.now.daemon ends.items) }
+    ensures relief { result.ghost_name ≡ relief.entry.ghost_name }
+    ensures disk { result.now.daemon.flusher.disk.ghost_name ≡ relief.old.daemon.flusher.disk.ghost_name }
+    ensures out { result.now.daemon.sink.ghost_name ≡ relief.old.daemon.sink.ghost_name }
+{
+    let queue = jobs.queue();
+    let run = Run::make(rt, table, queue, refused, wait, gate);
+    let Hands { workers, room } = hands;
+    let (relief, workers) = serve_all(run, workers, room.started, room.back, relief);
+    let daemon = &mut relief.daemon;
+    let flusher = &mut daemon.flusher;
+    let worked = gather(table, &mut flusher.seat, jobs, workers, room.ends);
+    jobs.count_taken();
+    *ends = Some(worked);
+    relief
+}
+
+/// Takes the daemon apart, once all workers' seats were taken in. What is left besides disk and sink is put into a place, and not
+/// answered beside these two, so that contracts follow them to the caller.
+fn take_apart<'a, D: LogDisk, K: Sink>(
+    relief: FlushingRelief<'a, D, K>,
+    ends: Vec<Worked>,
+    served: &mut Option<Served>,
+) -> Outside<'a, D, K>
+    requires over { MayBeTakenApart relief }
+    ensures served { IsSomeAnd served.new (IsLeftOf D.LogDisk K.Sink relief.entry.daemon ends.items) }
+    ensures disk { result.disk ≡ relief.entry.daemon.flusher.disk }
+    ensures out { result.out ≡ relief.entry.daemon.sink }
+{
+    let fault = relief.daemon.fault();
+    let done = relief.daemon.done();
+    let refused = relief.daemon.refused();
+    let DaemonParts { flusher, sink } = relief.daemon.into_parts();
+    let FlusherParts { seat, disk } = flusher.into_parts();
+    *served = Some(Served {
+        fault,
+        done,
+        refused,
+        ends,
+        boss: seat,
+    });
+    Outside { disk, out: sink }
+}
+
+/// Makes the transfers by a daemon, which has the disk and the sink from `relief_of` to `take_apart`.
+fn run_crew<'a, R: Threads + Wait + Clock + Sync, D: LogDisk, K: Sink, G: Gate + Sync>(
+    rt: &R,
+    table: &'a LogTable,
+    jobs: &mut Jobs,
     crew: Crew,
+    refused: &[AtomicBool],
+    wait: bool,
+    gate: &G,
     tail: Tail,
     voice: Voice,
     outside: Outside<'a, D, K>,
@@ -180,37 +246,39 @@ fn serve_crew<'a, R: Threads + Wait + Clock + Sync, D: LogDisk, K: Sink, G: Gate
     ensures disk { result.disk.ghost_name ≡ outside.entry.disk.ghost_name }
     ensures out { result.out.ghost_name ≡ outside.entry.out.ghost_name }
 {
-    let Crew {
-        boss,
-        batch,
-        workers,
-        room,
-    } = crew;
-    let Outside { disk, out } = outside;
-    let relief = relief_of(table, boss, batch, disk, tail, out, voice);
-    let queue = jobs.queue();
-    let run = Run::make(rt, table, queue, refused, wait, gate);
-    let (mut relief, workers) = serve_all(run, workers, room.started, room.back, relief);
-    let daemon = &mut relief.daemon;
-    let flusher = &mut daemon.flusher;
-    let ends = gather(table, &mut flusher.seat, jobs, workers, room.ends);
-    jobs.count_taken();
-    let fault = relief.daemon.fault();
-    let done = relief.daemon.done();
-    let refused = relief.daemon.refused();
-    let DaemonParts { flusher, sink } = relief.daemon.into_parts();
-    let FlusherParts { seat, disk } = flusher.into_parts();
-    *served = Some(Served {
-        fault,
-        done,
+    let mut relief = relief_of(table, crew.boss, crew.batch, outside, tail, voice);
+    let mut ends = None;
+    let _relief = serve_crew(
+        rt,
+        table,
+        jobs,
         refused,
-        ends,
-        boss: seat,
-    });
-    Outside { disk, out: sink }
+        wait,
+        gate,
+        crew.hands,
+        &mut relief,
+        &mut ends,
+    );
+    let Some(ends) = ends else { unreachable!() };
+    take_apart(relief, ends, served)
 }
 
-/// Makes the transfers, and closes the table once all seats were taken in, so that it is known which transfers were taken.
+/// Closes the table, once all seats were taken in, so that it is known which transfers were taken.
+fn close(table: LogTable, served: Option<Served>) -> Ended
+    requires served { IsSomeAnd served (IsOver table) }
+    ensures { IsSomeAnd served (IsEndOf table result) }
+{
+    let Some(served) = served else { unreachable!() };
+    Ended {
+        fault: served.fault,
+        done: served.done,
+        refused: served.refused,
+        ends: served.ends,
+        closed: table.close(served.boss),
+    }
+}
+
+/// Makes the transfers, and closes the table.
 pub fn run_transfers<R: Threads + Wait + Clock + Sync, D: LogDisk, K: Sink, G: Gate + Sync>(
     rt: &R,
     prepared: Prepared,
@@ -226,34 +294,21 @@ pub fn run_transfers<R: Threads + Wait + Clock + Sync, D: LogDisk, K: Sink, G: G
     ensures ended { (opened : OpenedList) → IsOpened D.LogDisk disk.old tail opened prepared.jobs.queue.first (key_of prepared.table)
         → HasEnded D.LogDisk K.Sink prepared opened tail voice wait disk.old disk.new out.old out.new result }
 {
-    let Prepared {
-        table,
-        mut jobs,
-        refused,
-        crew,
-    } = prepared;
+    let table = prepared.table;
+    let mut jobs = prepared.jobs;
     let mut served = None;
-    let outside = Outside { disk, out };
-    let flags = refused.as_slice();
-    let _outside = serve_crew(
+    let _outside = run_crew(
         rt,
         &table,
         &mut jobs,
-        flags,
+        prepared.crew,
+        prepared.refused.as_slice(),
         wait,
         gate,
-        crew,
         tail,
         voice,
-        outside,
+        Outside { disk, out },
         &mut served,
     );
-    let Some(served) = served else { unreachable!() };
-    Ended {
-        fault: served.fault,
-        done: served.done,
-        refused: served.refused,
-        ends: served.ends,
-        closed: table.close(served.boss),
-    }
+    close(table, served)
 }

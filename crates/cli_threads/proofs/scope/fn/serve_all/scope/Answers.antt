@@ -1,4 +1,4 @@
-use Rattle.std.proofs.Common.{◌∙◌}
+use Rattle.std.proofs.Common.{rules, ◌∙◌}
 use Rattle.commit_pipeline.proofs.RanLemmas.{Later-same, Later-trans}
 use Rattle.cli_threads.proofs.scope.fn.serve_all.scope.Goals as goal
 
@@ -12,5 +12,6 @@ returns g c =
       count = c.join_all-workers.ensures.count ∙ c.start_all-started.ensures.count;
       drained = c.drain-2.ensures.drained;
       later = all;
+      relief = search rules;
       same = Later-same g.D.LogDisk g.K.Sink _ _ all;
     }
