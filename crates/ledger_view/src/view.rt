@@ -87,7 +87,7 @@ impl View {
     {
         match rec {
             Rec::Genesis { account, balance } => self.add_genesis(lsn, rec, *account, *balance),
-            Rec::Commit { txn, legs } => self.add_commit(lsn, rec, *txn, *legs),
+            Rec::Commit { txn, legs } => self.add_commit(lsn, *txn, *legs),
             _ => self.judge.take(lsn, rec),
         }
     }
@@ -110,14 +110,12 @@ impl View {
         }
     }
 
-    fn add_commit(&mut self, lsn: Lsn, rec: &Rec, txn: u32, legs: u32) -> Result<(), JudgeFault>
-        requires can { CanAdd self.old lsn rec.now }
-        requires is { rec.now ≡ Rec.Commit txn legs }
-        ensures { AddsEntry self.old self.new (entry_at lsn rec.now) result }
+    fn add_commit(&mut self, lsn: Lsn, txn: u32, legs: u32) -> Result<(), JudgeFault>
+        requires { CanAdd self.old lsn (Rec.Commit txn legs) }
+        ensures { AddsEntry self.old self.new (entry_at lsn (Rec.Commit txn legs)) result }
     {
         let mut changes = ArrayVec::new();
-        self.judge.changes_of(txn, &mut changes);
-        self.judge.take(lsn, rec)?;
+        self.judge.take_commit(lsn, txn, legs, &mut changes)?;
         let end = Lsn::new(lsn.units() + COMMIT_UNITS);
         match enter_commit(
             &mut self.accounts,

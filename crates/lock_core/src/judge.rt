@@ -1,6 +1,7 @@
 ghost use Rattle.std.specs.Prelude.{◌≡◌, ◌<◌, ◌≤◌, ◌+◌, ◌∷◌, ◌⊎◌, [], List, length, IfOk, IfErr, OnOk};
 ghost use Rattle.log_record.specs.declared.rec.Placed.{Placed};
-ghost use Rattle.log_record.specs.Spelling.{spelling, IsSpellable};
+ghost use Rattle.log_record.specs.Spelling.{spelling, IsLeg, IsSpellable};
+ghost use Rattle.log_record.specs.declared.rec.Rec.{Rec};
 ghost use Rattle.lsn_space.specs.declared.lsn.TheConstants.{LAST};
 ghost use Rattle.lock_core.specs.History.{end_from, entry_at};
 ghost use Rattle.lsn_space.specs.Opening.{IsSnapshot};
@@ -65,6 +66,31 @@ impl Judge {
         Ok(())
     }
 
+    /// Takes the Commit that starts at `lsn`, as `take` does. What the Updates of its transaction say, newest first, is put into the list that
+    /// is lent: what it held is lost.
+    pub fn take_commit(
+        &mut self,
+        lsn: Lsn,
+        txn: u32,
+        legs: u32,
+        changes: &mut ArrayVec<Change, MOST_UPDATES>,
+    ) -> Result<(), JudgeFault>
+        requires taken { (opening : Opening) × (h : List Placed) × HasJudged opening self.old h × (lsn ≡ end_from opening.state.end h) }
+        requires legs { IsLeg legs }
+        requires fits { lsn < LAST }
+        ensures taken { OnOk result ((opening : Opening) (h : List Placed) → HasJudged opening self.old h
+            → HasJudged opening self.new (entry_at lsn (Rec.Commit txn legs) ∷ h)) }
+        ensures fault { IfErr result (λ fault. (opening : Opening) (h : List Placed) → HasJudged opening self.old h
+            → IsTakeFault opening h (entry_at lsn (Rec.Commit txn legs)) fault) }
+        ensures changes { OnOk result ((opening : Opening) (h : List Placed) → HasJudged opening self.old h
+            → changes.new.items ≡ open_changes_of txn h) }
+    {
+        let end = Lsn::new(lsn.units() + 1);
+        self.ledger.take_commit(txn, legs, end, changes)?;
+        self.greatest = txn.max(self.greatest);
+        Ok(())
+    }
+
     /// The number of accounts.
     pub fn accounts(&self) -> u32
         ensures count { result ≡ count_of self.now }
@@ -96,15 +122,6 @@ impl Judge {
         ensures { (opening : Opening) (h : List Placed) → HasJudged opening self.now h → result ≡ (opening_after opening h).txn }
     {
         self.greatest
-    }
-
-    /// What the Updates of a transaction say, newest first, as long as it has no end record; then there are none. The list is lent: what it
-    /// held is lost.
-    pub fn changes_of(&self, txn: u32, changes: &mut ArrayVec<Change, MOST_UPDATES>)
-        requires taken { (opening : Opening) × (h : List Placed) × HasJudged opening self.now h }
-        ensures changes { (opening : Opening) (h : List Placed) → HasJudged opening self.now h → changes.new.items ≡ open_changes_of txn h }
-    {
-        self.ledger.changes_of(txn, changes);
     }
 
     /// The accounts of the list taken: their balances and last Commits.

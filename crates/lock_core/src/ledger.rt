@@ -100,14 +100,6 @@ impl Ledger {
         self.txns.place(txn)
     }
 
-    /// What the Updates of a transaction say, newest first, as long as it has no end record; then there are none. The list is lent.
-    pub fn changes_of(&self, txn: u32, changes: &mut ArrayVec<Change, MOST_UPDATES>)
-        requires kept { (opening : Opening) × (h : List Placed) × KeepsLedger opening self.now h }
-        ensures { (opening : Opening) (h : List Placed) → KeepsLedger opening self.now h → changes.new.items ≡ open_changes_of txn h }
-    {
-        self.txns.open_changes(txn, changes);
-    }
-
     /// Takes the record that starts at `lsn`.
     pub fn take(&mut self, lsn: Lsn, rec: &Rec) -> Result<(), JudgeFault>
         requires kept { (opening : Opening) × (h : List Placed) × KeepsLedger opening self.old h }
@@ -131,7 +123,9 @@ impl Ledger {
                 self.take_update(*txn, change)
             }
             Rec::Commit { txn, legs } => {
-                self.take_commit(*txn, *legs, Lsn::new(lsn.units() + 1))
+                let mut changes = ArrayVec::new();
+                let end = Lsn::new(lsn.units() + 1);
+                self.take_commit(*txn, *legs, end, &mut changes)
             }
             Rec::Short { txn, leg } => self.take_refusal(*txn, *leg),
             Rec::Over { txn, leg } => self.take_refusal(*txn, *leg),
@@ -184,10 +178,20 @@ impl Ledger {
         }
     }
 
-    fn take_commit(&mut self, txn: u32, legs: u32, end: Lsn) -> Result<(), JudgeFault>
+    /// Takes a Commit that ends here. What the Updates of its transaction say, newest first, is put into the list that is lent: what it held
+    /// is lost.
+    pub fn take_commit(
+        &mut self,
+        txn: u32,
+        legs: u32,
+        end: Lsn,
+        changes: &mut ArrayVec<Change, MOST_UPDATES>,
+    ) -> Result<(), JudgeFault>
         requires kept { (opening : Opening) × (h : List Placed) × KeepsLedger opening self.old h }
         requires legs { IsLeg legs }
-        ensures { TakesEntry self.old self.new end (Rec.Commit txn legs) result }
+        ensures taken { TakesEntry self.old self.new end (Rec.Commit txn legs) result }
+        ensures changes { OnOk result ((opening : Opening) (h : List Placed) → KeepsLedger opening self.old h
+            → changes.new.items ≡ open_changes_of txn h) }
     {
         if self.accounts.count() == 0 {
             return Err(JudgeFault::Why(Why::Genesis));
@@ -196,8 +200,7 @@ impl Ledger {
         if self.txns.update(place).count != 2 * legs {
             return Err(JudgeFault::Why(Why::Legs));
         }
-        let mut changes = ArrayVec::new();
-        self.txns.changes(place, &mut changes);
+        self.txns.changes(place, changes);
         let changes = changes.as_slice();
         if !are_current(&self.accounts, changes) {
             return Err(JudgeFault::Why(Why::Stale));

@@ -3,7 +3,7 @@ ghost use Rattle.log_record.specs.declared.rec.Placed.{Placed};
 ghost use Rattle.log_record.specs.Spelling.{IsAccount};
 ghost use Rattle.lock_core.specs.declared.update.TheConstants.{MOST_UPDATES};
 ghost use Rattle.lock_core.specs.Records.{txn_of, ends};
-ghost use Rattle.lock_core.specs.Transactions.{own_records_of, updates_of, has_end, open_changes_of};
+ghost use Rattle.lock_core.specs.Transactions.{own_records_of, updates_of, has_end};
 ghost use Rattle.lock_core.specs.Keeping.{update_at, link_at, IsOpenAt, IsEndFault, KeepsTransactions};
 
 use crate::reason::{JudgeFault, Why};
@@ -62,17 +62,6 @@ impl Transactions {
             → changes.new.items ≡ updates_of txn h }
     {
         self.updates.chain(place, changes);
-    }
-
-    /// What the Updates of a transaction say, newest first, as long as it has no end record; then there are none. The list is lent.
-    pub fn open_changes(&self, txn: u32, changes: &mut ArrayVec<Change, MOST_UPDATES>)
-        requires { (h : List Placed) × KeepsTransactions self.now h × (length (updates_of txn h) ≤ MOST_UPDATES) }
-        ensures { (h : List Placed) → KeepsTransactions self.now h → changes.new.items ≡ open_changes_of txn h }
-    {
-        match self.place(txn) {
-            Some(place) => self.changes(place, changes),
-            None => changes.clear(),
-        }
     }
 
     /// Takes an Update of a transaction, which has so many with it, and the one before it at this place.

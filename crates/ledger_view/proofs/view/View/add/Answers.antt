@@ -1,9 +1,10 @@
-use Rattle.std.proofs.Common.{List}
+use Rattle.std.proofs.Common.{List, subst, sym}
 use Rattle.std.proofs.lemmas.Result.{on_ok_weaker, IfErr-weaker}
 use Rattle.log_record.specs.declared.rec.Placed.{Placed}
 use Rattle.lock_core.specs.History.{entry_at}
 use Rattle.lock_core.specs.Sums.{Opening}
 use Rattle.lock_core.specs.Taking.{HasJudged, IsTakeFault}
+use Rattle.ledger_view.specs.Entering.{AddsEntry, CanAdd}
 use Rattle.ledger_view.specs.Viewing.{HasViewed}
 use Rattle.ledger_view.proofs.ViewLemmas.{adds-fault, adds-taken, other-kinds, views-plain}
 use Rattle.ledger_view.proofs.view.View.add.Goals as goal
@@ -29,8 +30,14 @@ returns-in-Genesis-clause-taken c = adds-taken c.args.self.now c.add_genesis.new
 pub returns-in-Genesis-clause-fault : goal.returns-in-Genesis-clause-fault
 returns-in-Genesis-clause-fault c = adds-fault c.args.self.now c.add_genesis.new.self _ c.add_genesis.result c.add_genesis.ensures
 
+pub add_commit-requires : goal.add_commit-requires
+add_commit-requires c = subst (CanAdd c.args.self.now c.args.lsn) c.in-Commit.is
+    (record { given = c.requires.taken; spellable = c.requires.spellable; fits = c.requires.fits })
+
 pub returns-in-Commit-clause-taken : goal.returns-in-Commit-clause-taken
-returns-in-Commit-clause-taken c = adds-taken c.args.self.now c.add_commit.new.self _ c.add_commit.result c.add_commit.ensures
+returns-in-Commit-clause-taken c = adds-taken c.args.self.now c.add_commit.new.self _ c.add_commit.result
+    (subst (λ rec. AddsEntry c.args.self.now c.add_commit.new.self (entry_at c.args.lsn rec) c.add_commit.result) (sym c.in-Commit.is) c.add_commit.ensures)
 
 pub returns-in-Commit-clause-fault : goal.returns-in-Commit-clause-fault
-returns-in-Commit-clause-fault c = adds-fault c.args.self.now c.add_commit.new.self _ c.add_commit.result c.add_commit.ensures
+returns-in-Commit-clause-fault c = adds-fault c.args.self.now c.add_commit.new.self _ c.add_commit.result
+    (subst (λ rec. AddsEntry c.args.self.now c.add_commit.new.self (entry_at c.args.lsn rec) c.add_commit.result) (sym c.in-Commit.is) c.add_commit.ensures)

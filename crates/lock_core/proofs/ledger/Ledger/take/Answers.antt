@@ -17,5 +17,5 @@ returns-in-Update c =
 pub returns-in-Commit : goal.returns-in-Commit
 returns-in-Commit c =
     let taken = subst (λ end. TakesEntry c.args.self.now c.take_commit.new.self end (Commit c.in-Commit.txn c.in-Commit.legs) c.take_commit.result)
-    (c.new.ensures ∙ ap (λ units. units + 1) c.units.ensures) c.take_commit.ensures in
+    (c.new-end.ensures ∙ ap (λ units. units + 1) c.units.ensures) c.take_commit.ensures.taken in
     subst (λ (rec : Rec). TakesEntry c.args.self.now c.take_commit.new.self (c.args.lsn + length (spelling rec)) rec c.take_commit.result) (sym c.in-Commit.is) taken

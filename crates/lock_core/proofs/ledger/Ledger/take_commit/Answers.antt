@@ -1,5 +1,5 @@
-use Rattle.std.proofs.Common.{◌∙◌, ap, arith, refl, true≢false, sym, length, rules, ◌≡◌}
-use Rattle.std.specs.Prelude.{◌∷◌}
+use Rattle.std.proofs.Common.{◌∙◌, ap, cond, arith, refl, true≢false, sym, length, rules, ◌≡◌}
+use Rattle.std.specs.Prelude.{◌∷◌, []}
 use Rattle.std.proofs.lemmas.Result.{err_from_is_err_and}
 use Rattle.log_record.specs.declared.rec.Placed.{Placed}
 use Rattle.log_record.specs.declared.rec.Rec.TheVariants.{Commit}
@@ -14,20 +14,20 @@ use Rattle.lock_core.proofs.KindLemmas.{few_updates, updates-known}
 use Rattle.lock_core.proofs.TakingLemmas.{fresh, some-taken, fails-first, fails-commit-stale, fails-commit-balance, takes-commit, end-fault, keeps-accounts, keeps-parts}
 use Rattle.lock_core.proofs.ledger.Ledger.take_commit.Goals as goal
 
-pub returns-then-count-eq0 : goal.returns-then-count-eq0
-returns-then-count-eq0 c = λ opening h kept. let counted = c.count.ensures in
+pub returns-then-count-eq0-clause-taken : goal.returns-then-count-eq0-clause-taken
+returns-then-count-eq0-clause-taken c = λ opening h kept. let counted = c.count.ensures in
     fails-first opening c.args.self.now h kept (record { end = c.args.end; rec = Commit c.args.txn c.args.legs }) (λ never. never) (omega arith)
 
-pub returns-in_err-place : goal.returns-in_err-place
-returns-in_err-place c = λ opening h kept. let counted = c.count.ensures in
+pub returns-in_err-place-clause-taken : goal.returns-in_err-place-clause-taken
+returns-in_err-place-clause-taken c = λ opening h kept. let counted = c.count.ensures in
     let entry : Placed = record { end = c.args.end; rec = Commit c.args.txn c.args.legs } in
     let failed = err_from_is_err_and c.from_residual.result c.from_residual.ensures.1 in
     let same : failed.0 ≡ c.in_err-place.field-0.0 = search rules in
     rw (failed.1, same) (end-fault (IsTakeFault opening h entry) c.in_err-place.field-0.0 c.in_err-place.ensures.fault tt
     (λ ended. record { passes = (some-taken opening c.args.self.now h kept (λ none. omega arith), (tt, tt)); fails = λ fresh. ended opening h kept (fresh.0 (λ never. never)) fresh.1 }))
 
-pub returns-then-update-legs : goal.returns-then-update-legs
-returns-then-update-legs c = λ opening h kept. let counted = c.count.ensures in let place = c.in_ok-place.ensures.unended h kept.transactions in
+pub returns-then-update-legs-clause-taken : goal.returns-then-update-legs-clause-taken
+returns-then-update-legs-clause-taken c = λ opening h kept. let counted = c.count.ensures in let place = c.in_ok-place.ensures.unended h kept.transactions in
     let links = c.end.new.self.txns.updates in let first = ap (λ links. link_at links 0) c.end.ensures.updates ∙ kept.transactions.first in
     let same = ap (λ (l : UpdateLink). l.count) c.update.ensures ∙ chain-count links first c.in_ok-place.place (updates_of c.args.txn h) place.chain in
     let some = some-taken opening c.args.self.now h kept (λ none. omega arith) in
@@ -52,8 +52,8 @@ settle-requires-clause-known c =
     updates-known opening c.end.new.self.accounts.rows h c.args.txn c.as_slice-changes.result.now judged.lawful judged.rows
     (c.as_slice-changes.ensures.value ∙ c.changes.ensures c.args.txn h (c.in_ok-place.ensures.unended h kept.transactions))
 
-pub returns-then-not-are_current : goal.returns-then-not-are_current
-returns-then-not-are_current c = λ opening h kept. let counted = c.count.ensures in let place = c.in_ok-place.ensures.unended h kept.transactions in
+pub returns-then-not-are_current-clause-taken : goal.returns-then-not-are_current-clause-taken
+returns-then-not-are_current-clause-taken c = λ opening h kept. let counted = c.count.ensures in let place = c.in_ok-place.ensures.unended h kept.transactions in
     let links = c.end.new.self.txns.updates in let first = ap (λ links. link_at links 0) c.end.ensures.updates ∙ kept.transactions.first in
     let same = ap (λ (l : UpdateLink). l.count) c.update.ensures ∙ chain-count links first c.in_ok-place.place (updates_of c.args.txn h) place.chain in
     let some = some-taken opening c.args.self.now h kept (λ none. omega arith) in
@@ -65,8 +65,8 @@ returns-then-not-are_current c = λ opening h kept. let counted = c.count.ensure
     record { some = some; above = let least = kept.least in let low = c.in_ok-place.ensures.above in omega arith; unended = place.unended; are = are; legs_are = omega arith } in
     fails-commit-stale opening ledger h keeps c.args.end c.args.txn c.args.legs changes on (λ all. true≢false (sym (c.if-not-are_current.ensures.1 all)))
 
-pub returns-then-not-settle : goal.returns-then-not-settle
-returns-then-not-settle c = λ opening h kept. let counted = c.count.ensures in let place = c.in_ok-place.ensures.unended h kept.transactions in
+pub returns-then-not-settle-clause-taken : goal.returns-then-not-settle-clause-taken
+returns-then-not-settle-clause-taken c = λ opening h kept. let counted = c.count.ensures in let place = c.in_ok-place.ensures.unended h kept.transactions in
     let links = c.end.new.self.txns.updates in let first = ap (λ links. link_at links 0) c.end.ensures.updates ∙ kept.transactions.first in
     let same = ap (λ (l : UpdateLink). l.count) c.update.ensures ∙ chain-count links first c.in_ok-place.place (updates_of c.args.txn h) place.chain in
     let some = some-taken opening c.args.self.now h kept (λ none. omega arith) in
@@ -78,8 +78,8 @@ returns-then-not-settle c = λ opening h kept. let counted = c.count.ensures in 
     record { some = some; above = let least = kept.least in let low = c.in_ok-place.ensures.above in omega arith; unended = place.unended; are = are; legs_are = omega arith } in
     fails-commit-balance opening ledger h keeps c.args.end c.args.txn c.args.legs changes on (c.if-not-are_current.ensures.0 refl) c.if-not-settle.ensures.leaves
 
-pub returns : goal.returns
-returns c = λ opening h kept. let counted = c.count.ensures in let place = c.in_ok-place.ensures.unended h kept.transactions in
+pub returns-clause-taken : goal.returns-clause-taken
+returns-clause-taken c = λ opening h kept. let counted = c.count.ensures in let place = c.in_ok-place.ensures.unended h kept.transactions in
     let links = c.end.new.self.txns.updates in let first = ap (λ links. link_at links 0) c.end.ensures.updates ∙ kept.transactions.first in
     let same = ap (λ (l : UpdateLink). l.count) c.update.ensures ∙ chain-count links first c.in_ok-place.place (updates_of c.args.txn h) place.chain in
     let some = some-taken opening c.args.self.now h kept (λ none. omega arith) in
@@ -94,3 +94,7 @@ returns c = λ opening h kept. let counted = c.count.ensures in let place = c.in
     keeps-parts opening new ledger c.settle.new.accounts (entry ∷ h) refl c.end.ensures.opening c.end.ensures.least
     (takes-commit opening ledger h keeps c.args.end c.args.txn c.args.legs changes on c.settle.new.accounts c.end.new.self.txns (c.if-not-are_current.ensures.0 refl)
     c.if-not-settle.ensures.room c.if-not-settle.ensures.settled (c.in_ok-place.ensures.taken entry h kept.transactions refl refl))
+
+pub returns-clause-changes : goal.returns-clause-changes
+returns-clause-changes c = λ opening h kept. let place = c.in_ok-place.ensures.unended h kept.transactions in
+    c.changes.ensures c.args.txn h place ∙ sym (ap (λ b. cond b [] (updates_of c.args.txn h)) place.unended)
