@@ -11,7 +11,7 @@ use Rattle.cli_shared.specs.Answers.{StaysSilent}
 use Rattle.cli_shared.specs.declared.report.Detail.{Detail}
 use Rattle.cli_shared.specs.declared.report.Detail.TheVariants.{Fine, NoMemory, Usage, Script, Read, Write, Disk, NotALog, BadSnapshot, BadBatch, BadRec, Unlawful, LogEnd, TxnEnd, Exists, NoSuchLsn, BadStream, Gap, StreamUnlawful, NoAccount}
 use Rattle.cli_shared.proofs.ToldLemmas.{TellsWrite, kept-text, nothing-said}
-use Rattle.cli_cut.specs.Answers.{AnswersCut, IsMakingFault, IsOfCut}
+use Rattle.cli_cut.specs.Answers.{AnswersCut, IsMakingFault, IsAnswerToCut}
 use Rattle.cli_shared.proofs.SourceLemmas.{source-told}
 use Rattle.cli_cut.specs.Cutting.{FollowsCut, ReadsCut}
 
@@ -38,7 +38,7 @@ answers_cut-write (Some bytes) left_new old new opening reads written = (
 -- what the answer says where no log was made: it is one of `cut`, nothing was written, and it doesn't follow a log
 pub record IsUnmade (left left_new text : Option (List ℕ)) (detail : Detail) : Type 0 where
   pub answer : IfSome left (λ bytes. AnswersCut bytes left_new text text detail)
-  pub range : IsOfCut detail
+  pub range : IsAnswerToCut detail
   pub silent : StaysSilent text text detail
   pub write : TellsWrite detail → ⊥
   pub follows : FollowsCut detail → ⊥

@@ -11,19 +11,19 @@ use Rattle.cli_shared.specs.declared.report.Detail.{Detail}
 use Rattle.cli_shared.specs.declared.report.Detail.TheVariants.{Fine, NoMemory, Read, Write, Disk, NotALog, BadSnapshot, BadBatch, BadRec, Unlawful, Exists}
 
 -- the answers that there are to `cut`, and to `upgrade`
-abbrev pub IsOfCut : Detail → Type 0
-IsOfCut Fine = Unit {0}
-IsOfCut NoMemory = Unit {0}
-IsOfCut Read = Unit {0}
-IsOfCut Write = Unit {0}
-IsOfCut Disk = Unit {0}
-IsOfCut NotALog = Unit {0}
-IsOfCut BadSnapshot = Unit {0}
-IsOfCut (BadBatch offset) = Unit {0}
-IsOfCut (BadRec lsn) = Unit {0}
-IsOfCut (Unlawful lsn why) = Unit {0}
-IsOfCut Exists = Unit {0}
-IsOfCut detail = ⊥
+abbrev pub IsAnswerToCut : Detail → Type 0
+IsAnswerToCut Fine = Unit {0}
+IsAnswerToCut NoMemory = Unit {0}
+IsAnswerToCut Read = Unit {0}
+IsAnswerToCut Write = Unit {0}
+IsAnswerToCut Disk = Unit {0}
+IsAnswerToCut NotALog = Unit {0}
+IsAnswerToCut BadSnapshot = Unit {0}
+IsAnswerToCut (BadBatch offset) = Unit {0}
+IsAnswerToCut (BadRec lsn) = Unit {0}
+IsAnswerToCut (Unlawful lsn why) = Unit {0}
+IsAnswerToCut Exists = Unit {0}
+IsAnswerToCut detail = ⊥
 
 -- why no log is made
 abbrev pub IsMakingFault : Option (List ℕ) → Option (List ℕ) → Detail → Type 0

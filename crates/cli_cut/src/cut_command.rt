@@ -8,7 +8,7 @@ ghost use Rattle.segment_file.specs.File.{BeginsOpen};
 ghost use Rattle.cli_shared.specs.Answers.{IsSourceFault, StaysSilent};
 ghost use Rattle.cli_shared.specs.Attached.{EndsAttached, LeavesAttached};
 ghost use Rattle.cli_shared.specs.Creation.{TellsWhether};
-ghost use Rattle.cli_cut.specs.Answers.{AnswersCut, IsMakingFault, IsOfCut};
+ghost use Rattle.cli_cut.specs.Answers.{AnswersCut, IsMakingFault, IsAnswerToCut};
 ghost use Rattle.cli_cut.specs.Cutting.{AllHoldCut, FollowsCut, GrowsByCut, MayBeCut, PrecedesCut, ReadsCut};
 
 use cli_shared::{Detail, ReadFault, detail_of, finds_none, read_all};
@@ -31,7 +31,7 @@ pub fn cut_command<D: LogDisk, S: Source, K: Sink>(
     ensures answer { IfSome (S.left source.old) (λ bytes.
         AnswersCut bytes (S.left source.new) (K.held_bytes out.old) (K.held_bytes out.new) result) }
     ensures silent { StaysSilent (K.held_bytes out.old) (K.held_bytes out.new) result }
-    ensures range { IsOfCut result }
+    ensures range { IsAnswerToCut result }
     ensures images { D.honest disk.old
         → Leaves D.moment D.images_since (MayBeCut (S.left source.old) (D.images disk.old)) disk.old disk.new }
     ensures made { D.honest disk.old → FollowsCut result → AllHoldCut (S.left source.old) (D.images disk.new) }

@@ -6,7 +6,7 @@ ghost use Rattle.segment_file.specs.File.{BeginsOpen};
 ghost use Rattle.cli_shared.specs.Answers.{StaysSilent};
 ghost use Rattle.cli_shared.specs.Attached.{EndsAttached, LeavesAttached};
 ghost use Rattle.cli_shared.specs.Creation.{TellsWhether};
-ghost use Rattle.cli_cut.specs.Answers.{AnswersCut, IsMakingFault, IsOfCut};
+ghost use Rattle.cli_cut.specs.Answers.{AnswersCut, IsMakingFault, IsAnswerToCut};
 ghost use Rattle.cli_cut.specs.Cutting.{FollowsCut, PrecedesCut};
 ghost use Rattle.cli_cut.specs.Parts.{ReadsLog};
 ghost use Rattle.cli_cut.specs.Upgrading.{AllHoldUpgrade, CostsUpgrade, GrowsByUpgrade, MayBeUpgraded};
@@ -30,7 +30,7 @@ pub fn upgrade_command<D: LogDisk, S: Source, K: Sink>(
     ensures answer { IfSome (S.left source.old) (λ bytes.
         AnswersCut bytes (S.left source.new) (K.held_bytes out.old) (K.held_bytes out.new) result) }
     ensures silent { StaysSilent (K.held_bytes out.old) (K.held_bytes out.new) result }
-    ensures range { IsOfCut result }
+    ensures range { IsAnswerToCut result }
     ensures images { D.honest disk.old
         → Leaves D.moment D.images_since (MayBeUpgraded (S.left source.old) (D.images disk.old)) disk.old disk.new }
     ensures made { D.honest disk.old → FollowsCut result → AllHoldUpgrade (S.left source.old) (D.images disk.new) }

@@ -47,7 +47,7 @@ use Rattle.cli_threads.specs.declared.transfers.Prepared.{Prepared}
 use Rattle.cli_shared.specs.Creation.{IsFindingFault, TellsWhether, genesis_list}
 use Rattle.command_line.specs.Ranges.{AreInRange}
 use Rattle.command_line.specs.declared.options.RunOptions.{RunOptions}
-use Rattle.cli_demo.specs.Demo.{AnswersDemo, IsOfDemo, IsPreparedDemo, IsReadyDemo, MayPrecede, OnlyMakes, RanAllGenerated, RanGenerated, TellsSummary, generated_end}
+use Rattle.cli_demo.specs.Demo.{AnswersDemo, IsAnswerToDemo, IsPreparedDemo, IsReadyDemo, MayPrecede, OnlyMakes, RanAllGenerated, RanGenerated, TellsSummary, generated_end}
 use Rattle.cli_ending.specs.Ending.{AreWhole, Concludes, IsFirstLogEnd, NothingStopped, counted_text}
 use Rattle.cli_threads.specs.Ending.{HasEnded}
 use Rattle.cli_demo.specs.Summary.{generated_opening, generated_rows, summary_text}
@@ -309,8 +309,8 @@ module _ {D : Type 0} {K : Type 0} (g : Ghosts D) (h : SinkGhosts K) (n seed : �
       (Appends-trans (h.held_bytes sink) (h.held_bytes sink_mid) (h.held_bytes sink_new) [] (counted_text n ended) silent said.1))
       (λ tail total said. absurd (no-log_end tail total said.0.0 said.0.1))
 
-  pub range-concluded : (detail : Detail) → Concludes h ended (counted_text n ended) sink_mid sink_new detail → IsOfDemo detail
-  range-concluded = by-conclusion h ended (counted_text n ended) sink_mid sink_new IsOfDemo (λ _. tt) (λ _. tt) (λ _. tt) (λ _. tt)
+  pub range-concluded : (detail : Detail) → Concludes h ended (counted_text n ended) sink_mid sink_new detail → IsAnswerToDemo detail
+  range-concluded = by-conclusion h ended (counted_text n ended) sink_mid sink_new IsAnswerToDemo (λ _. tt) (λ _. tt) (λ _. tt) (λ _. tt)
       (λ tail total said. absurd (no-log_end tail total said.0.0 said.0.1))
 
   -- it was found that no log is there

@@ -96,13 +96,13 @@ TellsSummary n seed old new Write = AppendsPart old new (summary_text n seed)
 TellsSummary n seed old new detail = Keeps old new
 
 -- the answers that there are to `demo`
-abbrev pub IsOfDemo : Detail → Type 0
-IsOfDemo Fine = Unit {0}
-IsOfDemo NoMemory = Unit {0}
-IsOfDemo Write = Unit {0}
-IsOfDemo Disk = Unit {0}
-IsOfDemo Exists = Unit {0}
-IsOfDemo detail = ⊥
+abbrev pub IsAnswerToDemo : Detail → Type 0
+IsAnswerToDemo Fine = Unit {0}
+IsAnswerToDemo NoMemory = Unit {0}
+IsAnswerToDemo Write = Unit {0}
+IsAnswerToDemo Disk = Unit {0}
+IsAnswerToDemo Exists = Unit {0}
+IsAnswerToDemo detail = ⊥
 
 -- the table starts where the new log ends, with its accounts, a ring and slots as was asked, and the transfers are the generated ones
 pub record IsPreparedDemo (n seed : ℕ) (options : RunOptions) (prepared : Prepared) : Type 0 where

@@ -9,7 +9,7 @@ ghost use Rattle.segment_file.specs.File.{BeginsOpen};
 ghost use Rattle.lsn_space.specs.declared.numerals.TheConstants.{MOST_GENERATED};
 ghost use Rattle.cli_shared.specs.Attached.{LeavesAttached};
 ghost use Rattle.cli_shared.specs.Creation.{TellsWhether};
-ghost use Rattle.cli_demo.specs.Demo.{AnswersDemo, IsOfDemo, IsPreparedDemo, TellsSummary};
+ghost use Rattle.cli_demo.specs.Demo.{AnswersDemo, IsAnswerToDemo, IsPreparedDemo, TellsSummary};
 ghost use Rattle.cli_demo.specs.Finished.{HasFinished};
 ghost use Rattle.cli_demo.specs.Summary.{generated_opening};
 ghost use Rattle.cli_threads.specs.Prepared.{IsPrepared};
@@ -48,7 +48,7 @@ pub fn demo_command<R: Threads + Wait + Clock + Sync, D: LogDisk, K: Sink, G: Ga
     requires few { transfers ≤ MOST_GENERATED }
     ensures answer { D.honest disk.old → AnswersDemo D.LogDisk transfers seed options.now disk.old disk.new result }
     ensures text { TellsSummary transfers seed (K.held_bytes out.old) (K.held_bytes out.new) result }
-    ensures range { IsOfDemo result }
+    ensures range { IsAnswerToDemo result }
     ensures honest { D.honest disk.old ↔ D.honest disk.new }
     ensures attached { D.honest disk.old
         → LeavesAttached (existing_or_made log.now) (D.attached disk.old) (D.attached disk.new) result }

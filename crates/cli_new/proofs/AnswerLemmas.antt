@@ -8,7 +8,7 @@ use Rattle.lsn_space.specs.Accounts.{Accounts}
 use Rattle.txn_script.specs.Balances.{IsBalancesText, IsFirstBadBalance}
 use Rattle.cli_shared.specs.declared.report.Detail.{Detail}
 use Rattle.cli_shared.specs.declared.report.Detail.TheVariants.{Fine, NoMemory, Usage, Script, Read, Write, Disk, NotALog, BadSnapshot, BadBatch, BadRec, Unlawful, LogEnd, TxnEnd, Exists, NoSuchLsn, BadStream, Gap, StreamUnlawful, NoAccount}
-use Rattle.cli_new.specs.Answers.{AnswersNew, AreOpening, IsMakingFault, IsOfNew}
+use Rattle.cli_new.specs.Answers.{AnswersNew, AreOpening, IsMakingFault, IsAnswerToNew}
 use Rattle.cli_new.specs.Creation.{FollowsLog}
 use Rattle.cli_shared.specs.Answers.{StaysSilent}
 use Rattle.cli_shared.specs.Creation.{new_list}
@@ -49,7 +49,7 @@ answers_new-write (Some bytes) left_new old new accounts lsn opening is written 
 -- what the answer says where no log was made: it is one of `new`, nothing was written, and it doesn't follow a log
 pub record IsUnmade (left left_new text : Option (List ℕ)) (detail : Detail) : Type 0 where
   pub answer : IfSome left (λ bytes. AnswersNew bytes left_new text text detail)
-  pub range : IsOfNew detail
+  pub range : IsAnswerToNew detail
   pub silent : StaysSilent text text detail
   pub write : TellsWrite detail → ⊥
   pub follows : FollowsLog detail → ⊥

@@ -11,15 +11,15 @@ use Rattle.cli_shared.specs.Creation.{new_list}
 use Rattle.cli_shared.specs.Answers.{ReadsAll}
 
 -- the answers that there are to `new`
-abbrev pub IsOfNew : Detail → Type 0
-IsOfNew Fine = Unit {0}
-IsOfNew NoMemory = Unit {0}
-IsOfNew (Script line) = Unit {0}
-IsOfNew Read = Unit {0}
-IsOfNew Write = Unit {0}
-IsOfNew Disk = Unit {0}
-IsOfNew Exists = Unit {0}
-IsOfNew detail = ⊥
+abbrev pub IsAnswerToNew : Detail → Type 0
+IsAnswerToNew Fine = Unit {0}
+IsAnswerToNew NoMemory = Unit {0}
+IsAnswerToNew (Script line) = Unit {0}
+IsAnswerToNew Read = Unit {0}
+IsAnswerToNew Write = Unit {0}
+IsAnswerToNew Disk = Unit {0}
+IsAnswerToNew Exists = Unit {0}
+IsAnswerToNew detail = ⊥
 
 -- why the input of `new` gives no balances
 abbrev pub IsInputFault : Option (List ℕ) → Option (List ℕ) → Detail → Type 0

@@ -4,7 +4,7 @@ ghost use Rattle.log_disk.specs.Costs.{Costs};
 ghost use Rattle.log_disk.specs.Disk.{Leaves};
 ghost use Rattle.log_disk.specs.Faults.{CountsWhere};
 ghost use Rattle.segment_file.specs.File.{BeginsOpen};
-ghost use Rattle.cli_new.specs.Answers.{AnswersNew, AreOpening, IsInputFault, IsMakingFault, IsOfNew};
+ghost use Rattle.cli_new.specs.Answers.{AnswersNew, AreOpening, IsInputFault, IsMakingFault, IsAnswerToNew};
 ghost use Rattle.cli_shared.specs.Answers.{StaysSilent};
 ghost use Rattle.cli_shared.specs.Attached.{EndsAttached, LeavesAttached};
 ghost use Rattle.cli_new.specs.Creation.{AllHoldNew, FollowsLog, GrowsByNew, MayBeLeft, PrecedesLog};
@@ -30,7 +30,7 @@ pub fn new_command<D: LogDisk, S: Source, K: Sink>(
     ensures answer { IfSome (S.left script.old) (λ bytes.
         AnswersNew bytes (S.left script.new) (K.held_bytes out.old) (K.held_bytes out.new) result) }
     ensures silent { StaysSilent (K.held_bytes out.old) (K.held_bytes out.new) result }
-    ensures range { IsOfNew result }
+    ensures range { IsAnswerToNew result }
     ensures images { D.honest disk.old
         → Leaves D.moment D.images_since (MayBeLeft (S.left script.old) (D.images disk.old)) disk.old disk.new }
     ensures made { D.honest disk.old → FollowsLog result → AllHoldNew (S.left script.old) (D.images disk.new) }

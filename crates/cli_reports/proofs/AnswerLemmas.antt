@@ -11,7 +11,7 @@ use Rattle.log_recovery.specs.Recovery.{HoldsList, IsFaultOf, IsListedFaultOf, L
 use Rattle.log_recovery.specs.Text.{rows_text}
 use Rattle.log_recovery.proofs.TextLemmas.{rows_text-shown}
 use Rattle.cli_shared.specs.declared.report.Detail.TheVariants.{Fine, Write}
-use Rattle.cli_reports.specs.Answers.{AnswersRecover, AnswersDump, IsOfDump, IsOfRecover}
+use Rattle.cli_reports.specs.Answers.{AnswersRecover, AnswersDump, IsAnswerToDump, IsAnswerToRecover}
 use Rattle.cli_shared.specs.Answers.{ReadsAll, StaysSilent, recover_detail}
 use Rattle.cli_shared.proofs.ToldLemmas.{TellsRead, TellsWrite, kept-text}
 
@@ -50,7 +50,7 @@ answers-fault (Some all) left_new old new bytes (fault.BadRec lsn) read is = (re
 answers-fault (Some all) left_new old new bytes (fault.Unlawful lsn why) read is = (read.1, subst (λ b. IsFaultOf b (fault.Unlawful lsn why)) read.0 is)
 answers-fault (Some all) left_new old new bytes fault.NoMemory read is = tt
 
-pub range-fault : (f : RecoverFault) → IsOfRecover (recover_detail f)
+pub range-fault : (f : RecoverFault) → IsAnswerToRecover (recover_detail f)
 range-fault fault.NotALog = tt
 range-fault fault.BadSnapshot = tt
 range-fault (fault.BadBatch offset) = tt
@@ -94,7 +94,7 @@ answers_dump-fault (Some all) left_new old new bytes (fault.BadRec lsn) read is 
 answers_dump-fault (Some all) left_new old new bytes (fault.Unlawful lsn why) read is = is
 answers_dump-fault (Some all) left_new old new bytes fault.NoMemory read is = tt
 
-pub range_dump-fault : (bytes : List ℕ) (f : RecoverFault) → IsListedFaultOf bytes f → IsOfDump (recover_detail f)
+pub range_dump-fault : (bytes : List ℕ) (f : RecoverFault) → IsListedFaultOf bytes f → IsAnswerToDump (recover_detail f)
 range_dump-fault bytes fault.NotALog is = tt
 range_dump-fault bytes fault.BadSnapshot is = tt
 range_dump-fault bytes (fault.BadBatch offset) is = tt

@@ -8,7 +8,7 @@ use Rattle.cli_shared.specs.declared.report.Detail.{Detail}
 use Rattle.cli_shared.specs.declared.report.Detail.TheVariants.{Fine, NoMemory, Usage, Script, Read, Write, Disk, NotALog, BadSnapshot, BadBatch, BadRec, Unlawful, LogEnd, TxnEnd, Exists, NoSuchLsn, BadStream, Gap, StreamUnlawful, NoAccount}
 use Rattle.cli_shared.proofs.SourceLemmas.{source-told}
 use Rattle.cli_shared.proofs.ToldLemmas.{TellsWrite, kept-text, nothing-said}
-use Rattle.cli_reports.specs.Reports.{AnswersReport, IsOfAccountReport, IsOfReportAt, OfList}
+use Rattle.cli_reports.specs.Reports.{AnswersReport, IsAnswerOnAccount, IsAnswerAtLsn, OfList}
 
 -- what is said of the list that was read is said of the list of the input
 pub of-list : (left left_new : Option (List ℕ)) (bytes : List ℕ) (list : OpenedList) (Said : OpenedList → Type 0) → ReadsAll left left_new bytes
@@ -20,8 +20,8 @@ of-list (Some all) left_new bytes list Said read held said = (read.1, list, subs
 pub record IsUnsaid (Says : OpenedList → List ℕ → Type 0) (Refuses : OpenedList → Detail → Type 0) (left left_new text : Option (List ℕ))
     (detail : Detail) : Type 0 where
   pub answer : IfSome left (λ bytes. AnswersReport Says Refuses bytes left_new text text detail)
-  pub at : IsOfReportAt detail
-  pub account : IsOfAccountReport detail
+  pub at : IsAnswerAtLsn detail
+  pub account : IsAnswerOnAccount detail
   pub silent : StaysSilent text text detail
   pub write : TellsWrite detail → ⊥
 

@@ -12,29 +12,29 @@ use Rattle.cli_shared.specs.declared.report.Detail.{Detail}
 use Rattle.cli_shared.specs.declared.report.Detail.TheVariants.{Fine, NoMemory, Read, Write, NotALog, BadSnapshot, BadBatch, BadRec, Unlawful}
 
 -- the answers that there are to `recover`
-abbrev pub IsOfRecover : Detail → Type 0
-IsOfRecover Fine = Unit {0}
-IsOfRecover NoMemory = Unit {0}
-IsOfRecover Read = Unit {0}
-IsOfRecover Write = Unit {0}
-IsOfRecover NotALog = Unit {0}
-IsOfRecover BadSnapshot = Unit {0}
-IsOfRecover (BadBatch offset) = Unit {0}
-IsOfRecover (BadRec lsn) = Unit {0}
-IsOfRecover (Unlawful lsn why) = Unit {0}
-IsOfRecover detail = ⊥
+abbrev pub IsAnswerToRecover : Detail → Type 0
+IsAnswerToRecover Fine = Unit {0}
+IsAnswerToRecover NoMemory = Unit {0}
+IsAnswerToRecover Read = Unit {0}
+IsAnswerToRecover Write = Unit {0}
+IsAnswerToRecover NotALog = Unit {0}
+IsAnswerToRecover BadSnapshot = Unit {0}
+IsAnswerToRecover (BadBatch offset) = Unit {0}
+IsAnswerToRecover (BadRec lsn) = Unit {0}
+IsAnswerToRecover (Unlawful lsn why) = Unit {0}
+IsAnswerToRecover detail = ⊥
 
 -- the answers that there are to `dump`
-abbrev pub IsOfDump : Detail → Type 0
-IsOfDump Fine = Unit {0}
-IsOfDump NoMemory = Unit {0}
-IsOfDump Read = Unit {0}
-IsOfDump Write = Unit {0}
-IsOfDump NotALog = Unit {0}
-IsOfDump BadSnapshot = Unit {0}
-IsOfDump (BadBatch offset) = Unit {0}
-IsOfDump (BadRec lsn) = Unit {0}
-IsOfDump detail = ⊥
+abbrev pub IsAnswerToDump : Detail → Type 0
+IsAnswerToDump Fine = Unit {0}
+IsAnswerToDump NoMemory = Unit {0}
+IsAnswerToDump Read = Unit {0}
+IsAnswerToDump Write = Unit {0}
+IsAnswerToDump NotALog = Unit {0}
+IsAnswerToDump BadSnapshot = Unit {0}
+IsAnswerToDump (BadBatch offset) = Unit {0}
+IsAnswerToDump (BadRec lsn) = Unit {0}
+IsAnswerToDump detail = ⊥
 
 -- the input was read to its end, and has this fault
 abbrev pub HasFault : List ℕ → Option (List ℕ) → RecoverFault → Type 0

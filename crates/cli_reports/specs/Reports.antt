@@ -8,7 +8,7 @@ use Rattle.log_recovery.specs.Opened.{OpenedList, IsListBoundary}
 use Rattle.log_recovery.specs.Recovery.{HoldsLawful}
 use Rattle.cli_shared.specs.declared.report.Detail.{Detail}
 use Rattle.cli_shared.specs.declared.report.Detail.TheVariants.{Fine, NoMemory, Read, Write, NotALog, BadSnapshot, BadBatch, BadRec, Unlawful, NoSuchLsn, NoAccount}
-use Rattle.cli_reports.specs.Answers.{HasFault, IsOfRecover}
+use Rattle.cli_reports.specs.Answers.{HasFault, IsAnswerToRecover}
 
 -- the input was read to its end, it is a log with a lawful list, and of this one that is said
 abbrev pub OfList : List ℕ → Option (List ℕ) → (OpenedList → Type 0) → Type 0
@@ -35,11 +35,11 @@ abbrev pub RefusesLsn : ℕ → OpenedList → Detail → Type 0
 RefusesLsn lsn list detail = (detail ≡ NoSuchLsn lsn) × (IsListBoundary list lsn → ⊥)
 
 -- the answers that there are to a report at an LSN: those of `recover`, and that the LSN is no boundary
-abbrev pub IsOfReportAt : Detail → Type 0
-IsOfReportAt (NoSuchLsn lsn) = Unit {0}
-IsOfReportAt detail = IsOfRecover detail
+abbrev pub IsAnswerAtLsn : Detail → Type 0
+IsAnswerAtLsn (NoSuchLsn lsn) = Unit {0}
+IsAnswerAtLsn detail = IsAnswerToRecover detail
 
 -- the answers that there are to a report of an account: those of `recover`, and that there is no such account
-abbrev pub IsOfAccountReport : Detail → Type 0
-IsOfAccountReport (NoAccount account) = Unit {0}
-IsOfAccountReport detail = IsOfRecover detail
+abbrev pub IsAnswerOnAccount : Detail → Type 0
+IsAnswerOnAccount (NoAccount account) = Unit {0}
+IsAnswerOnAccount detail = IsAnswerToRecover detail

@@ -1,6 +1,6 @@
 ghost use Rattle.std.specs.Prelude.{◌≡◌, ◌≤◌, IfSome};
 ghost use Rattle.log_disk.specs.Faults.{CountsWhere};
-ghost use Rattle.cli_reports.specs.Answers.{AnswersRecover, IsOfRecover};
+ghost use Rattle.cli_reports.specs.Answers.{AnswersRecover, IsAnswerToRecover};
 ghost use Rattle.cli_shared.specs.Answers.{StaysSilent};
 
 use cli_shared::{Detail, ReadFault, detail_of, read_all};
@@ -13,7 +13,7 @@ pub fn recover_command<S: Source, K: Sink>(alloc: Global, script: &mut S, out: &
     ensures answer { IfSome (S.left script.old) (λ bytes.
         AnswersRecover bytes (S.left script.new) (K.held_bytes out.old) (K.held_bytes out.new) result) }
     ensures silent { StaysSilent (K.held_bytes out.old) (K.held_bytes out.new) result }
-    ensures range { IsOfRecover result }
+    ensures range { IsAnswerToRecover result }
     ensures read { CountsWhere (result ≡ Detail.Read) (S.faults script.old) (S.faults script.new) }
     ensures write { CountsWhere (result ≡ Detail.Write) (K.faults out.old) (K.faults out.new) }
 {

@@ -34,7 +34,7 @@ use Rattle.cli_threads.specs.Ending.{HasEnded}
 use Rattle.cli_threads.specs.Run.{GoesOn, HoldsRun, RunIsDrained}
 use Rattle.cli_threads.specs.RunStops.{StopsAtLogEnd}
 use Rattle.cli_threads.specs.Sharing.{IsSharedOut, Sharing}
-use Rattle.cli_run.specs.RunAnswers.{AnswersRun, HoldsTold, IsOfRun, Ran, RanOut, RanShort, RunStaysSilent, run_text}
+use Rattle.cli_run.specs.RunAnswers.{AnswersRun, HoldsTold, IsAnswerToRun, Ran, RanOut, RanShort, RunStaysSilent, run_text}
 use Rattle.cli_shared.specs.Outside.{Outside, outside}
 use Rattle.cli_run.specs.RunReady.{IsBeforeRun, IsReadyFor}
 use Rattle.cli_run.proofs.ReadyLemmas.{keeps-refl}
@@ -214,7 +214,7 @@ module _ {D : Type 0} {K : Type 0} (g : Ghosts D) (h : SinkGhosts K) (options : 
 -- ---- what is promised of each answer besides
 
 -- the answers that come before any transfer are answers of `run`, and nothing is written then
-pub range-before : (detail : Detail) → IsBeforeRun detail → IsOfRun detail
+pub range-before : (detail : Detail) → IsBeforeRun detail → IsAnswerToRun detail
 range-before NoMemory before = tt
 range-before (Script line) before = tt
 range-before Read before = tt
@@ -264,8 +264,8 @@ write-before detail before is = subst IsBeforeRun is before
 
 -- what is concluded is an answer of `run` at which something may be written, and no fault of the input
 module _ {K : Type 0} (h : SinkGhosts K) (ended : Ended) (text : List ℕ) (sink sink_new : K) where
-  pub range-concluded : (detail : Detail) → Concludes h ended text sink sink_new detail → IsOfRun detail
-  range-concluded = by-conclusion h ended text sink sink_new IsOfRun (λ _. tt) (λ _. tt) (λ _. tt) (λ _. tt) (λ _ _ _. tt)
+  pub range-concluded : (detail : Detail) → Concludes h ended text sink sink_new detail → IsAnswerToRun detail
+  range-concluded = by-conclusion h ended text sink sink_new IsAnswerToRun (λ _. tt) (λ _. tt) (λ _. tt) (λ _. tt) (λ _ _ _. tt)
 
   pub silent-concluded : (old new : Option (List ℕ)) (detail : Detail) → Concludes h ended text sink sink_new detail → RunStaysSilent old new detail
   silent-concluded old new = by-conclusion h ended text sink sink_new (RunStaysSilent old new) (λ _. tt) (λ _. tt) (λ _. tt) (λ _. tt) (λ _ _ _. tt)

@@ -140,21 +140,21 @@ RunStaysSilent old new Disk = Unit {0}
 RunStaysSilent old new detail = Keeps old new
 
 -- the answers that there are to `run`
-abbrev pub IsOfRun : Detail → Type 0
-IsOfRun Fine = Unit {0}
-IsOfRun NoMemory = Unit {0}
-IsOfRun (Script line) = Unit {0}
-IsOfRun Read = Unit {0}
-IsOfRun Write = Unit {0}
-IsOfRun Disk = Unit {0}
-IsOfRun NotALog = Unit {0}
-IsOfRun BadSnapshot = Unit {0}
-IsOfRun (BadBatch offset) = Unit {0}
-IsOfRun (BadRec lsn) = Unit {0}
-IsOfRun (Unlawful lsn why) = Unit {0}
-IsOfRun (LogEnd tail total) = Unit {0}
-IsOfRun (TxnEnd first count) = Unit {0}
-IsOfRun detail = ⊥
+abbrev pub IsAnswerToRun : Detail → Type 0
+IsAnswerToRun Fine = Unit {0}
+IsAnswerToRun NoMemory = Unit {0}
+IsAnswerToRun (Script line) = Unit {0}
+IsAnswerToRun Read = Unit {0}
+IsAnswerToRun Write = Unit {0}
+IsAnswerToRun Disk = Unit {0}
+IsAnswerToRun NotALog = Unit {0}
+IsAnswerToRun BadSnapshot = Unit {0}
+IsAnswerToRun (BadBatch offset) = Unit {0}
+IsAnswerToRun (BadRec lsn) = Unit {0}
+IsAnswerToRun (Unlawful lsn why) = Unit {0}
+IsAnswerToRun (LogEnd tail total) = Unit {0}
+IsAnswerToRun (TxnEnd first count) = Unit {0}
+IsAnswerToRun detail = ⊥
 
 -- the answers that there are to `run` where nothing stands in its way
 abbrev pub IsRunDone : Detail → Type 0

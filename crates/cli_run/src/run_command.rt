@@ -8,7 +8,7 @@ ghost use Rattle.log_recovery.specs.Recovery.{Recovers};
 ghost use Rattle.log_table.specs.Seats.{key_of};
 ghost use Rattle.lock_core.specs.Transfers.{IsAllowedJob};
 ghost use Rattle.cli_shared.specs.Attached.{EndsAttached, LeavesAttached};
-ghost use Rattle.cli_run.specs.RunAnswers.{AnswersRun, IsOfRun, RunStaysSilent};
+ghost use Rattle.cli_run.specs.RunAnswers.{AnswersRun, IsAnswerToRun, RunStaysSilent};
 ghost use Rattle.cli_shared.specs.Outside.{outside};
 ghost use Rattle.cli_run.specs.RunReady.{HasRead, IsPreparedFor, HasNoRun, IsBeforeRun};
 ghost use Rattle.cli_run.specs.RunFinished.{HasFinished};
@@ -54,7 +54,7 @@ pub fn run_command<
         → AnswersRun D.LogDisk options.now (outside disk.old (S.left script.old) (K.held_bytes out.old))
         (outside disk.new (S.left script.new) (K.held_bytes out.new)) result }
     ensures silent { RunStaysSilent (K.held_bytes out.old) (K.held_bytes out.new) result }
-    ensures range { IsOfRun result }
+    ensures range { IsAnswerToRun result }
     ensures honest { D.honest disk.old ↔ D.honest disk.new }
     ensures attached { D.honest disk.old → LeavesAttached (existing log.now) (D.attached disk.old) (D.attached disk.new) result }
     ensures read { CountsWhere (result ≡ Detail.Read) (S.faults script.old) (S.faults script.new) }

@@ -32,7 +32,7 @@ use Rattle.cli_shared.specs.Answers.{StaysSilent}
 use Rattle.cli_shared.proofs.AttachedLemmas.{leaves-attached}
 use Rattle.cli_shared.proofs.ToldLemmas.{kept-text}
 use Rattle.cli_standby.specs.Feeding.{AnswersUnsaid, begun, FollowEnds, HasFedEnd, HasFedWhole, HasFollowedInput, IsFeedingFault, IsOpened, IsUnopened, IsUnsaid, StopsFeeding}
-use Rattle.cli_standby.specs.Following.{AnswersFollow, Followed, FollowedWhole, IsOfFollow, Stopped}
+use Rattle.cli_standby.specs.Following.{AnswersFollow, Followed, FollowedWhole, IsAnswerToFollow, Stopped}
 use Rattle.cli_standby.proofs.FedLemmas.{of-all}
 
 whole-input : (left left_new : Option (List ℕ)) → IfSome left (λ bytes. left_new ≡ Some []) → (P : List ℕ → Type 0) → IfSome left P
@@ -194,7 +194,7 @@ module _ {D : Type 0} (g : Ghosts D) (old new : D) (left left_new : Option (List
 
 -- nothing is written, and the output is not what failed
 abbrev IsSilent : Detail → Type 0
-IsSilent detail = ((text : Option (List ℕ)) → StaysSilent text text detail) × IsOfFollow detail
+IsSilent detail = ((text : Option (List ℕ)) → StaysSilent text text detail) × IsAnswerToFollow detail
 
 silent-unopened : (detail : Detail) → IsUnopened detail → IsSilent detail
 silent-unopened Fine is = absurd is
@@ -247,7 +247,7 @@ silent-detail detail (inr is) = silent-feeding detail is
 pub silent-unsaid : (text : Option (List ℕ)) (detail : Detail) → IsUnsaid detail → StaysSilent text text detail
 silent-unsaid text detail is = (silent-detail detail is).0 text
 
-pub range-unsaid : (detail : Detail) → IsUnsaid detail → IsOfFollow detail
+pub range-unsaid : (detail : Detail) → IsUnsaid detail → IsAnswerToFollow detail
 range-unsaid detail is = (silent-detail detail is).1
 
 pub write-unsaid : (detail : Detail) → IsUnsaid detail → detail ≡ Write → ⊥

@@ -87,21 +87,21 @@ AnswersFollow g old new (Unlawful lsn why) = OnlyReads g old new × IsFaultOf (g
 AnswersFollow g old new detail = Stopped g detail old new
 
 -- the answers that there are to `follow`
-abbrev pub IsOfFollow : Detail → Type 0
-IsOfFollow Fine = Unit {0}
-IsOfFollow NoMemory = Unit {0}
-IsOfFollow Read = Unit {0}
-IsOfFollow Write = Unit {0}
-IsOfFollow Disk = Unit {0}
-IsOfFollow NotALog = Unit {0}
-IsOfFollow BadSnapshot = Unit {0}
-IsOfFollow (BadBatch offset) = Unit {0}
-IsOfFollow (BadRec lsn) = Unit {0}
-IsOfFollow (Unlawful lsn why) = Unit {0}
-IsOfFollow (BadStream offset) = Unit {0}
-IsOfFollow (Gap have from) = Unit {0}
-IsOfFollow (StreamUnlawful lsn why) = Unit {0}
-IsOfFollow detail = ⊥
+abbrev pub IsAnswerToFollow : Detail → Type 0
+IsAnswerToFollow Fine = Unit {0}
+IsAnswerToFollow NoMemory = Unit {0}
+IsAnswerToFollow Read = Unit {0}
+IsAnswerToFollow Write = Unit {0}
+IsAnswerToFollow Disk = Unit {0}
+IsAnswerToFollow NotALog = Unit {0}
+IsAnswerToFollow BadSnapshot = Unit {0}
+IsAnswerToFollow (BadBatch offset) = Unit {0}
+IsAnswerToFollow (BadRec lsn) = Unit {0}
+IsAnswerToFollow (Unlawful lsn why) = Unit {0}
+IsAnswerToFollow (BadStream offset) = Unit {0}
+IsAnswerToFollow (Gap have from) = Unit {0}
+IsAnswerToFollow (StreamUnlawful lsn why) = Unit {0}
+IsAnswerToFollow detail = ⊥
 
 -- the answers that there are to `follow` where nothing stands in its way
 abbrev pub IsFollowDone : Detail → Type 0

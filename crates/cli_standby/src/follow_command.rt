@@ -9,7 +9,7 @@ ghost use Rattle.cli_shared.specs.Answers.{StaysSilent};
 ghost use Rattle.cli_shared.specs.Attached.{EndsAttached, LeavesAttached};
 ghost use Rattle.cli_shared.specs.Outside.{outside};
 ghost use Rattle.cli_standby.specs.Feeding.{AnswersUnsaid, begun, HasFedAll, HasFedEnd, HasFedWhole, HasFollowedInput, IsFeedingFault, IsUnsaid, StopsFeeding, stream_detail};
-ghost use Rattle.cli_standby.specs.Following.{AnswersFollow, IsOfFollow};
+ghost use Rattle.cli_standby.specs.Following.{AnswersFollow, IsAnswerToFollow};
 
 use crate::opening::open_standby;
 use cli_shared::Detail;
@@ -43,7 +43,7 @@ pub fn follow_command<D: LogDisk, S: Source, K: Sink>(
         → AnswersFollow D.LogDisk (outside disk.old (S.left script.old) (K.held_bytes out.old))
         (outside disk.new (S.left script.new) (K.held_bytes out.new)) result }
     ensures silent { StaysSilent (K.held_bytes out.old) (K.held_bytes out.new) result }
-    ensures range { IsOfFollow result }
+    ensures range { IsAnswerToFollow result }
     ensures honest { D.honest disk.old ↔ D.honest disk.new }
     ensures attached { D.honest disk.old → LeavesAttached (existing log.now) (D.attached disk.old) (D.attached disk.new) result }
     ensures read { CountsWhere (result ≡ Detail.Read) (S.faults script.old) (S.faults script.new) }

@@ -1,7 +1,7 @@
 ghost use Rattle.std.specs.Prelude.{◌≡◌, ◌≤◌, IfSome};
 ghost use Rattle.log_disk.specs.Faults.{CountsWhere};
 ghost use Rattle.cli_shared.specs.Answers.{StaysSilent};
-ghost use Rattle.cli_reports.specs.Reports.{AnswersReport, IsOfReportAt, RefusesLsn};
+ghost use Rattle.cli_reports.specs.Reports.{AnswersReport, IsAnswerAtLsn, RefusesLsn};
 ghost use Rattle.cli_standby.specs.Shipping.{SaysStream};
 
 use cli_shared::{Detail, read_log};
@@ -22,7 +22,7 @@ pub fn ship_command<S: Source, K: Sink>(
     ensures answer { IfSome (S.left script.old) (λ bytes. AnswersReport (SaysStream from) (RefusesLsn from)
         bytes (S.left script.new) (K.held_bytes out.old) (K.held_bytes out.new) result) }
     ensures silent { StaysSilent (K.held_bytes out.old) (K.held_bytes out.new) result }
-    ensures range { IsOfReportAt result }
+    ensures range { IsAnswerAtLsn result }
     ensures read { CountsWhere (result ≡ Detail.Read) (S.faults script.old) (S.faults script.new) }
     ensures write { CountsWhere (result ≡ Detail.Write) (K.faults out.old) (K.faults out.new) }
 {

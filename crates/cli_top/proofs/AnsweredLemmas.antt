@@ -16,13 +16,13 @@ use Rattle.cli_shared.specs.declared.report.Detail.{Detail}
 use Rattle.cli_shared.specs.declared.report.Detail.TheVariants.{NoMemory, Usage, Read, Write, Disk}
 use Rattle.cli_shared.specs.Answers.{StaysSilent}
 use Rattle.cli_shared.proofs.ToldLemmas.{kept-text, nothing-said}
-use Rattle.cli_reports.specs.Answers.{IsOfDump, IsOfRecover}
-use Rattle.cli_reports.specs.Reports.{IsOfAccountReport, IsOfReportAt}
-use Rattle.cli_standby.specs.Following.{IsOfFollow}
-use Rattle.cli_new.specs.Answers.{IsOfNew}
-use Rattle.cli_cut.specs.Answers.{IsOfCut}
-use Rattle.cli_run.specs.RunAnswers.{IsOfRun}
-use Rattle.cli_demo.specs.Demo.{IsOfDemo}
+use Rattle.cli_reports.specs.Answers.{IsAnswerToDump, IsAnswerToRecover}
+use Rattle.cli_reports.specs.Reports.{IsAnswerOnAccount, IsAnswerAtLsn}
+use Rattle.cli_standby.specs.Following.{IsAnswerToFollow}
+use Rattle.cli_new.specs.Answers.{IsAnswerToNew}
+use Rattle.cli_cut.specs.Answers.{IsAnswerToCut}
+use Rattle.cli_run.specs.RunAnswers.{IsAnswerToRun}
+use Rattle.cli_demo.specs.Demo.{IsAnswerToDemo}
 use Rattle.cli_world.specs.World.{TellsFaults, World}
 use Rattle.cli_world.specs.Alone.{AnsweredAlone, DoesAlone}
 use Rattle.cli_world.specs.declared.answer.Answer.TheVariants.{Done}
@@ -124,17 +124,17 @@ module _ {D S K : Type 0} (g : Ghosts D) (h : SourceGhosts S) (i : SinkGhosts K)
   }
 
   not-usage : (old new : World D S K) (detail : Detail) (command : Command) → Does g h i command old new detail → detail ≡ Usage → ⊥
-  not-usage old new detail (New log) done usage = subst IsOfNew usage done.range
-  not-usage old new detail (Run log options) done usage = subst IsOfRun usage done.range
-  not-usage old new detail Recover done usage = subst IsOfRecover usage done.range
-  not-usage old new detail Dump done usage = subst IsOfDump usage done.range
-  not-usage old new detail (Demo log n seed options) done usage = subst IsOfDemo usage done.range
-  not-usage old new detail (Cut log) done usage = subst IsOfCut usage done.range
-  not-usage old new detail (Upgrade log) done usage = subst IsOfCut usage done.range
-  not-usage old new detail (Ship from) done usage = subst IsOfReportAt usage done.range
-  not-usage old new detail (Follow log) done usage = subst IsOfFollow usage done.range
-  not-usage old new detail (AsOf lsn) done usage = subst IsOfReportAt usage done.range
-  not-usage old new detail (Statement account) done usage = subst IsOfAccountReport usage done.range
+  not-usage old new detail (New log) done usage = subst IsAnswerToNew usage done.range
+  not-usage old new detail (Run log options) done usage = subst IsAnswerToRun usage done.range
+  not-usage old new detail Recover done usage = subst IsAnswerToRecover usage done.range
+  not-usage old new detail Dump done usage = subst IsAnswerToDump usage done.range
+  not-usage old new detail (Demo log n seed options) done usage = subst IsAnswerToDemo usage done.range
+  not-usage old new detail (Cut log) done usage = subst IsAnswerToCut usage done.range
+  not-usage old new detail (Upgrade log) done usage = subst IsAnswerToCut usage done.range
+  not-usage old new detail (Ship from) done usage = subst IsAnswerAtLsn usage done.range
+  not-usage old new detail (Follow log) done usage = subst IsAnswerToFollow usage done.range
+  not-usage old new detail (AsOf lsn) done usage = subst IsAnswerAtLsn usage done.range
+  not-usage old new detail (Statement account) done usage = subst IsAnswerOnAccount usage done.range
 
   done-untouched : (words : List (List ℕ)) (old new : World D S K) (detail : Detail) (command : Command) → IsCommandLine words command
       → Does g h i command old new detail → (AsksNew words → ⊥) → (AsksRun words → ⊥) → (AsksDemo words → ⊥) → (AsksCut words → ⊥)
@@ -209,7 +209,7 @@ module _ {D S K : Type 0} (g : Ghosts D) (h : SourceGhosts S) (i : SinkGhosts K)
     pub usage-of : Answered g h i words old new detail → detail ≡ Usage → AreTaken words → ⊥
     usage-of (inl has) usage taken = not-usage old new detail has.command has.obeys.done usage
     usage-of (inr (inl (_, none, same))) usage taken = none taken
-    usage-of (inr (inr (memory, same))) usage taken = subst IsOfRecover (sym memory ∙ usage) tt
+    usage-of (inr (inr (memory, same))) usage taken = subst IsAnswerToRecover (sym memory ∙ usage) tt
 
     pub refused-of : Answered g h i words old new detail → (AreTaken words → ⊥) → (detail ≡ Usage) ⊎ (detail ≡ NoMemory)
     refused-of (inl has) none = absurd (none (has.command, has.asked))

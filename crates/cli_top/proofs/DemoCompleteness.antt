@@ -3,9 +3,9 @@ use Rattle.std.proofs.Common.{◌≡◌, ◌⊎◌, inl, inr, refl}
 use Rattle.cli_shared.specs.declared.report.Detail.{Detail}
 use Rattle.cli_shared.specs.declared.report.Detail.TheVariants.{Fine, NoMemory, Usage, Script, Read, Write, Disk, NotALog, BadSnapshot, BadBatch, BadRec, Unlawful, LogEnd, TxnEnd, Exists, NoSuchLsn, BadStream, Gap, StreamUnlawful, NoAccount}
 use Rattle.cli_shared.specs.Creation.{TellsWhether}
-use Rattle.cli_demo.specs.Demo.{IsOfDemo}
+use Rattle.cli_demo.specs.Demo.{IsAnswerToDemo}
 
-pub demo-complete : (opened WriteFails DiskFails : Type 0) (detail : Detail) → IsOfDemo detail → TellsWhether opened detail
+pub demo-complete : (opened WriteFails DiskFails : Type 0) (detail : Detail) → IsAnswerToDemo detail → TellsWhether opened detail
     → (detail ≡ Write → WriteFails) → (detail ≡ Disk → DiskFails) → (opened → ⊥) → (WriteFails → ⊥) → (DiskFails → ⊥)
     → (detail ≡ Fine) ⊎ (detail ≡ NoMemory)
 demo-complete opened W F Fine is tells writes disks closed no_write no_disk = inl refl

@@ -14,9 +14,9 @@ use Rattle.cli_shared.specs.declared.report.Detail.{Detail}
 use Rattle.cli_shared.specs.declared.report.Detail.TheVariants.{NoMemory, Usage}
 use Rattle.cli_shared.specs.Attached.{LeavesAttached}
 use Rattle.cli_shared.specs.Creation.{TellsWhether}
-use Rattle.cli_run.specs.RunAnswers.{AnswersRun, IsOfRun, RunStaysSilent}
+use Rattle.cli_run.specs.RunAnswers.{AnswersRun, IsAnswerToRun, RunStaysSilent}
 use Rattle.cli_shared.specs.Outside.{outside}
-use Rattle.cli_demo.specs.Demo.{AnswersDemo, IsOfDemo, TellsSummary}
+use Rattle.cli_demo.specs.Demo.{AnswersDemo, IsAnswerToDemo, TellsSummary}
 use Rattle.cli_world.specs.World.{World, TellsFaults, DoesAsOf, DoesCut, DoesDump, DoesFollow, DoesNew, DoesRecover, DoesShip, DoesStatement, DoesUpgrade}
 
 pub record DoesRun {D S K : Type 0} (g : Ghosts D) (h : SourceGhosts S) (i : SinkGhosts K) (log : List ℕ) (options : RunOptions)
@@ -25,14 +25,14 @@ pub record DoesRun {D S K : Type 0} (g : Ghosts D) (h : SourceGhosts S) (i : Sin
       → AnswersRun g options (outside old.disk (h.left old.script) (i.held_bytes old.out))
       (outside new.disk (h.left new.script) (i.held_bytes new.out)) detail
   pub silent : RunStaysSilent (i.held_bytes old.out) (i.held_bytes new.out) detail
-  pub range : IsOfRun detail
+  pub range : IsAnswerToRun detail
   pub attached : g.honest old.disk → LeavesAttached (existing log) (g.attached old.disk) (g.attached new.disk) detail
 
 pub record DoesDemo {D S K : Type 0} (g : Ghosts D) (i : SinkGhosts K) (log : List ℕ) (n seed : ℕ) (options : RunOptions)
     (old new : World D S K) (detail : Detail) : Type 0 where
   pub answer : g.honest old.disk → AnswersDemo g n seed options old.disk new.disk detail
   pub text : TellsSummary n seed (i.held_bytes old.out) (i.held_bytes new.out) detail
-  pub range : IsOfDemo detail
+  pub range : IsAnswerToDemo detail
   pub exists : g.honest old.disk → TellsWhether (BeginsOpen (g.reads old.disk)) detail
   pub unread : new.script ≡ old.script
   pub attached : g.honest old.disk → LeavesAttached (existing_or_made log) (g.attached old.disk) (g.attached new.disk) detail

@@ -14,16 +14,16 @@ ghost use Rattle.txn_script.specs.Balances.{IsBalancesText};
 ghost use Rattle.cli_shared.specs.Answers.{status_of, StaysSilent};
 ghost use Rattle.cli_shared.specs.Attached.{LeavesAttached};
 ghost use Rattle.cli_standby.specs.Following.{IsFollowDone, IsLawfulStream};
-ghost use Rattle.cli_reports.specs.Answers.{AnswersRecover, AnswersDump, IsOfDump, IsOfRecover};
-ghost use Rattle.cli_new.specs.Answers.{AnswersNew, IsOfNew};
+ghost use Rattle.cli_reports.specs.Answers.{AnswersRecover, AnswersDump, IsAnswerToDump, IsAnswerToRecover};
+ghost use Rattle.cli_new.specs.Answers.{AnswersNew, IsAnswerToNew};
 ghost use Rattle.cli_top.specs.Answered.{Answered, Obeys};
 ghost use Rattle.cli_world.specs.Alone.{command_of};
 ghost use Rattle.cli_world.specs.World.{world, DoesAsOf, DoesCut, DoesFollow, DoesShip, DoesStatement, DoesUpgrade};
 ghost use Rattle.cli_top.specs.Asks.{AsksNew, AsksRun, AsksDemo, AsksCut, AsksUpgrade, AsksFollow};
-ghost use Rattle.cli_demo.specs.Demo.{AnswersDemo, IsOfDemo, TellsSummary};
+ghost use Rattle.cli_demo.specs.Demo.{AnswersDemo, IsAnswerToDemo, TellsSummary};
 ghost use Rattle.cli_new.specs.Creation.{AllHoldNew, FollowsLog, GrowsByNew, MayBeLeft, PrecedesLog};
 ghost use Rattle.cli_shared.specs.Creation.{TellsWhether};
-ghost use Rattle.cli_run.specs.RunAnswers.{AnswersRun, IsOfRun, IsRunDone, RunStaysSilent, accounts_of, next_txn};
+ghost use Rattle.cli_run.specs.RunAnswers.{AnswersRun, IsAnswerToRun, IsRunDone, RunStaysSilent, accounts_of, next_txn};
 ghost use Rattle.cli_shared.specs.Outside.{outside};
 ghost use Rattle.lock_core.specs.declared.job.Job.{Job};
 ghost use Rattle.txn_script.specs.Script.{IsScriptText};
@@ -62,7 +62,7 @@ pub fn aether<R: Threads + Wait + Clock + Sync, D: LogDisk, S: Source, K: Sink, 
     // `recover`: for the bytes of the input, the text that is written, and what is left of both; and a lawful list is recovered.
     ensures recover { IsCommandLine words.now Recover → IfSome (S.left script.old) (λ bytes.
         AnswersRecover bytes (S.left script.new) (K.held_bytes out.old) (K.held_bytes out.new) result.detail) }
-    ensures of_recover { IsCommandLine words.now Recover → IsOfRecover result.detail }
+    ensures of_recover { IsCommandLine words.now Recover → IsAnswerToRecover result.detail }
     ensures complete_recover { IsCommandLine words.now Recover
         → IfSome (S.left script.old) (λ bytes. (list : OpenedList) → HoldsLawful bytes list
         → (Rose (S.faults script.old) (S.faults script.new) → ⊥) → (Rose (K.faults out.old) (K.faults out.new) → ⊥)
@@ -71,7 +71,7 @@ pub fn aether<R: Threads + Wait + Clock + Sync, D: LogDisk, S: Source, K: Sink, 
     // `dump`: the same, and where the bytes hold a list it is shown.
     ensures dump { IsCommandLine words.now Dump → IfSome (S.left script.old) (λ bytes.
         AnswersDump bytes (S.left script.new) (K.held_bytes out.old) (K.held_bytes out.new) result.detail) }
-    ensures of_dump { IsCommandLine words.now Dump → IsOfDump result.detail }
+    ensures of_dump { IsCommandLine words.now Dump → IsAnswerToDump result.detail }
     ensures complete_dump { IsCommandLine words.now Dump
         → IfSome (S.left script.old) (λ bytes. (list : OpenedList) → HoldsList bytes list
         → (Rose (S.faults script.old) (S.faults script.new) → ⊥) → (Rose (K.faults out.old) (K.faults out.new) → ⊥)
@@ -80,7 +80,7 @@ pub fn aether<R: Threads + Wait + Clock + Sync, D: LogDisk, S: Source, K: Sink, 
     // `new`: the same, what a crash may leave of the disk, and how long its file gets.
     ensures new { AsksNew words.now → IfSome (S.left script.old) (λ bytes.
         AnswersNew bytes (S.left script.new) (K.held_bytes out.old) (K.held_bytes out.new) result.detail) }
-    ensures of_new { AsksNew words.now → IsOfNew result.detail }
+    ensures of_new { AsksNew words.now → IsAnswerToNew result.detail }
     ensures images { AsksNew words.now → D.honest disk.old
         → Leaves D.moment D.images_since (MayBeLeft (S.left script.old) (D.images disk.old)) disk.old disk.new }
     ensures made { AsksNew words.now → D.honest disk.old → FollowsLog result.detail
@@ -104,7 +104,7 @@ pub fn aether<R: Threads + Wait + Clock + Sync, D: LogDisk, S: Source, K: Sink, 
     ensures run { (log : List ℕ) (options : RunOptions) → IsCommandLine words.now (Run log options) → D.honest disk.old
         → AnswersRun D.LogDisk options (outside disk.old (S.left script.old) (K.held_bytes out.old))
         (outside disk.new (S.left script.new) (K.held_bytes out.new)) result.detail }
-    ensures of_run { AsksRun words.now → IsOfRun result.detail }
+    ensures of_run { AsksRun words.now → IsAnswerToRun result.detail }
     ensures attached_run { (log : List ℕ) (options : RunOptions) → IsCommandLine words.now (Run log options) → D.honest disk.old
         → LeavesAttached (existing log) (D.attached disk.old) (D.attached disk.new) result.detail }
     ensures quiet { AsksRun words.now → RunStaysSilent (K.held_bytes out.old) (K.held_bytes out.new) result.detail }
@@ -121,7 +121,7 @@ pub fn aether<R: Threads + Wait + Clock + Sync, D: LogDisk, S: Source, K: Sink, 
         → D.honest disk.old → AnswersDemo D.LogDisk n seed options disk.old disk.new result.detail }
     ensures summary { (log : List ℕ) (n seed : ℕ) (options : RunOptions) → IsCommandLine words.now (Demo log n seed options)
         → TellsSummary n seed (K.held_bytes out.old) (K.held_bytes out.new) result.detail }
-    ensures of_demo { AsksDemo words.now → IsOfDemo result.detail }
+    ensures of_demo { AsksDemo words.now → IsAnswerToDemo result.detail }
     ensures exists_demo { AsksDemo words.now → D.honest disk.old → TellsWhether (BeginsOpen (D.reads disk.old)) result.detail }
     ensures attached_demo { (log : List ℕ) (n seed : ℕ) (options : RunOptions) → IsCommandLine words.now (Demo log n seed options)
         → D.honest disk.old → LeavesAttached (existing_or_made log) (D.attached disk.old) (D.attached disk.new) result.detail }

@@ -4,7 +4,7 @@ ghost use Rattle.log_record.specs.declared.rec.Placed.{Placed};
 ghost use Rattle.lock_core.specs.Sums.{Opening};
 ghost use Rattle.ledger_view.specs.Viewing.{HasViewed};
 ghost use Rattle.cli_shared.specs.Answers.{StaysSilent};
-ghost use Rattle.cli_reports.specs.Reports.{AnswersReport, IsOfReportAt, RefusesLsn};
+ghost use Rattle.cli_reports.specs.Reports.{AnswersReport, IsAnswerAtLsn, RefusesLsn};
 ghost use Rattle.cli_view.specs.Reports.{SaysAccounts};
 ghost use Rattle.cli_view.specs.Balances.{HasBalances};
 
@@ -25,7 +25,7 @@ pub fn asof_command<S: Source, K: Sink>(
     ensures answer { IfSome (S.left script.old) (λ bytes. AnswersReport (SaysAccounts lsn) (RefusesLsn lsn)
         bytes (S.left script.new) (K.held_bytes out.old) (K.held_bytes out.new) result) }
     ensures silent { StaysSilent (K.held_bytes out.old) (K.held_bytes out.new) result }
-    ensures range { IsOfReportAt result }
+    ensures range { IsAnswerAtLsn result }
     ensures read { CountsWhere (result ≡ Detail.Read) (S.faults script.old) (S.faults script.new) }
     ensures write { CountsWhere (result ≡ Detail.Write) (K.faults out.old) (K.faults out.new) }
 {

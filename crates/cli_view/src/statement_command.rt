@@ -1,7 +1,7 @@
 ghost use Rattle.std.specs.Prelude.{◌≡◌, ◌≤◌, IfSome};
 ghost use Rattle.log_disk.specs.Faults.{CountsWhere};
 ghost use Rattle.cli_shared.specs.Answers.{StaysSilent};
-ghost use Rattle.cli_reports.specs.Reports.{AnswersReport, IsOfAccountReport};
+ghost use Rattle.cli_reports.specs.Reports.{AnswersReport, IsAnswerOnAccount};
 ghost use Rattle.cli_view.specs.Reports.{RefusesAccount, SaysStatement};
 
 use crate::statement_text::put_statement;
@@ -20,7 +20,7 @@ pub fn statement_command<S: Source, K: Sink>(
     ensures answer { IfSome (S.left script.old) (λ bytes. AnswersReport (SaysStatement account) (RefusesAccount account)
         bytes (S.left script.new) (K.held_bytes out.old) (K.held_bytes out.new) result) }
     ensures silent { StaysSilent (K.held_bytes out.old) (K.held_bytes out.new) result }
-    ensures range { IsOfAccountReport result }
+    ensures range { IsAnswerOnAccount result }
     ensures read { CountsWhere (result ≡ Detail.Read) (S.faults script.old) (S.faults script.new) }
     ensures write { CountsWhere (result ≡ Detail.Write) (K.faults out.old) (K.faults out.new) }
 {

@@ -15,15 +15,15 @@ use Rattle.cli_shared.specs.Answers.{StaysSilent}
 use Rattle.cli_shared.specs.Attached.{LeavesAttached}
 use Rattle.cli_shared.specs.Creation.{TellsWhether}
 use Rattle.log_recovery.specs.Opened.{OpenedList}
-use Rattle.cli_reports.specs.Answers.{AnswersRecover, AnswersDump, IsOfDump, IsOfRecover}
-use Rattle.cli_reports.specs.Reports.{AnswersReport, IsOfAccountReport, IsOfReportAt, RefusesLsn}
+use Rattle.cli_reports.specs.Answers.{AnswersRecover, AnswersDump, IsAnswerToDump, IsAnswerToRecover}
+use Rattle.cli_reports.specs.Reports.{AnswersReport, IsAnswerOnAccount, IsAnswerAtLsn, RefusesLsn}
 use Rattle.cli_shared.specs.Outside.{outside}
-use Rattle.cli_standby.specs.Following.{AnswersFollow, IsOfFollow}
+use Rattle.cli_standby.specs.Following.{AnswersFollow, IsAnswerToFollow}
 use Rattle.cli_standby.specs.Shipping.{SaysStream}
 use Rattle.cli_view.specs.Reports.{RefusesAccount, SaysAccounts, SaysStatement}
-use Rattle.cli_new.specs.Answers.{AnswersNew, IsOfNew}
+use Rattle.cli_new.specs.Answers.{AnswersNew, IsAnswerToNew}
 use Rattle.cli_new.specs.Creation.{AllHoldNew, FollowsLog, GrowsByNew, MayBeLeft, PrecedesLog}
-use Rattle.cli_cut.specs.Answers.{AnswersCut, IsOfCut}
+use Rattle.cli_cut.specs.Answers.{AnswersCut, IsAnswerToCut}
 use Rattle.cli_cut.specs.Cutting.{AllHoldCut, FollowsCut, GrowsByCut, MayBeCut, PrecedesCut}
 use Rattle.cli_cut.specs.Upgrading.{AllHoldUpgrade, CostsUpgrade, GrowsByUpgrade, MayBeUpgraded}
 
@@ -48,7 +48,7 @@ pub record DoesNew {D S K : Type 0} (g : Ghosts D) (h : SourceGhosts S) (i : Sin
   pub answer : IfSome (h.left old.script) (λ bytes.
       AnswersNew bytes (h.left new.script) (i.held_bytes old.out) (i.held_bytes new.out) detail)
   pub silent : StaysSilent (i.held_bytes old.out) (i.held_bytes new.out) detail
-  pub range : IsOfNew detail
+  pub range : IsAnswerToNew detail
   pub images : g.honest old.disk
       → Leaves g.moment g.images_since (MayBeLeft (h.left old.script) (g.images old.disk)) old.disk new.disk
   pub made : g.honest old.disk → FollowsLog detail → AllHoldNew (h.left old.script) (g.images new.disk)
@@ -64,7 +64,7 @@ pub record DoesCut {D S K : Type 0} (g : Ghosts D) (h : SourceGhosts S) (i : Sin
   pub answer : IfSome (h.left old.script) (λ bytes.
       AnswersCut bytes (h.left new.script) (i.held_bytes old.out) (i.held_bytes new.out) detail)
   pub silent : StaysSilent (i.held_bytes old.out) (i.held_bytes new.out) detail
-  pub range : IsOfCut detail
+  pub range : IsAnswerToCut detail
   pub images : g.honest old.disk
       → Leaves g.moment g.images_since (MayBeCut (h.left old.script) (g.images old.disk)) old.disk new.disk
   pub made : g.honest old.disk → FollowsCut detail → AllHoldCut (h.left old.script) (g.images new.disk)
@@ -80,7 +80,7 @@ pub record DoesUpgrade {D S K : Type 0} (g : Ghosts D) (h : SourceGhosts S) (i :
   pub answer : IfSome (h.left old.script) (λ bytes.
       AnswersCut bytes (h.left new.script) (i.held_bytes old.out) (i.held_bytes new.out) detail)
   pub silent : StaysSilent (i.held_bytes old.out) (i.held_bytes new.out) detail
-  pub range : IsOfCut detail
+  pub range : IsAnswerToCut detail
   pub images : g.honest old.disk
       → Leaves g.moment g.images_since (MayBeUpgraded (h.left old.script) (g.images old.disk)) old.disk new.disk
   pub made : g.honest old.disk → FollowsCut detail → AllHoldUpgrade (h.left old.script) (g.images new.disk)
@@ -95,14 +95,14 @@ pub record DoesRecover {D S K : Type 0} (h : SourceGhosts S) (i : SinkGhosts K) 
   pub answer : IfSome (h.left old.script) (λ bytes.
       AnswersRecover bytes (h.left new.script) (i.held_bytes old.out) (i.held_bytes new.out) detail)
   pub silent : StaysSilent (i.held_bytes old.out) (i.held_bytes new.out) detail
-  pub range : IsOfRecover detail
+  pub range : IsAnswerToRecover detail
   pub untouched : new.disk ≡ old.disk
 
 pub record DoesDump {D S K : Type 0} (h : SourceGhosts S) (i : SinkGhosts K) (old new : World D S K) (detail : Detail) : Type 0 where
   pub answer : IfSome (h.left old.script) (λ bytes.
       AnswersDump bytes (h.left new.script) (i.held_bytes old.out) (i.held_bytes new.out) detail)
   pub silent : StaysSilent (i.held_bytes old.out) (i.held_bytes new.out) detail
-  pub range : IsOfDump detail
+  pub range : IsAnswerToDump detail
   pub untouched : new.disk ≡ old.disk
 
 -- a report of the log that is read, with what it says and refuses, and its answers
@@ -115,18 +115,18 @@ pub record DoesReport {D S K : Type 0} (h : SourceGhosts S) (i : SinkGhosts K) (
   pub untouched : new.disk ≡ old.disk
 
 abbrev pub DoesShip : {D S K : Type 0} → SourceGhosts S → SinkGhosts K → ℕ → World D S K → World D S K → Detail → Type 0
-DoesShip h i from old new detail = DoesReport h i (SaysStream from) (RefusesLsn from) IsOfReportAt old new detail
+DoesShip h i from old new detail = DoesReport h i (SaysStream from) (RefusesLsn from) IsAnswerAtLsn old new detail
 
 abbrev pub DoesAsOf : {D S K : Type 0} → SourceGhosts S → SinkGhosts K → ℕ → World D S K → World D S K → Detail → Type 0
-DoesAsOf h i lsn old new detail = DoesReport h i (SaysAccounts lsn) (RefusesLsn lsn) IsOfReportAt old new detail
+DoesAsOf h i lsn old new detail = DoesReport h i (SaysAccounts lsn) (RefusesLsn lsn) IsAnswerAtLsn old new detail
 
 abbrev pub DoesStatement : {D S K : Type 0} → SourceGhosts S → SinkGhosts K → ℕ → World D S K → World D S K → Detail → Type 0
-DoesStatement h i account old new detail = DoesReport h i (SaysStatement account) (RefusesAccount account) IsOfAccountReport old new detail
+DoesStatement h i account old new detail = DoesReport h i (SaysStatement account) (RefusesAccount account) IsAnswerOnAccount old new detail
 
 pub record DoesFollow {D S K : Type 0} (g : Ghosts D) (h : SourceGhosts S) (i : SinkGhosts K) (log : List ℕ) (old new : World D S K)
     (detail : Detail) : Type 0 where
   pub answer : g.honest old.disk → AnswersFollow g (outside old.disk (h.left old.script) (i.held_bytes old.out))
       (outside new.disk (h.left new.script) (i.held_bytes new.out)) detail
   pub silent : StaysSilent (i.held_bytes old.out) (i.held_bytes new.out) detail
-  pub range : IsOfFollow detail
+  pub range : IsAnswerToFollow detail
   pub attached : g.honest old.disk → LeavesAttached (existing log) (g.attached old.disk) (g.attached new.disk) detail

@@ -1,5 +1,5 @@
 use Rattle.std.proofs.Common.{refl, subst, sym}
-use Rattle.cli_demo.specs.Demo.{IsOfDemo}
+use Rattle.cli_demo.specs.Demo.{IsAnswerToDemo}
 use Rattle.command_line.specs.CommandLine.{IsCommandLine}
 use Rattle.cli_world.specs.Alone.{command_of}
 use Rattle.cli_world.specs.World.{world}
@@ -37,7 +37,7 @@ returns-in-Demo g c =
     (world c.demo_command.new.disk c.args.script.now c.demo_command.new.out) c.demo_command.result) (sym c.in-Demo.is)
     (record {
       faults = record {
-        read = record { counted = λ read. absurd (subst IsOfDemo read called.range); fine = λ other. refl };
+        read = record { counted = λ read. absurd (subst IsAnswerToDemo read called.range); fine = λ other. refl };
         write = called.write;
         disk = called.disk;
         honest = called.honest;

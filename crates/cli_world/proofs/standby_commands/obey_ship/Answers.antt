@@ -1,5 +1,5 @@
 use Rattle.std.proofs.Common.{IfSome, refl, subst}
-use Rattle.cli_reports.specs.Reports.{AnswersReport, IsOfReportAt, RefusesLsn}
+use Rattle.cli_reports.specs.Reports.{AnswersReport, IsAnswerAtLsn, RefusesLsn}
 use Rattle.cli_standby.specs.Shipping.{SaysStream}
 use Rattle.cli_world.proofs.Untouched.{untouched-faults}
 use Rattle.cli_world.proofs.standby_commands.obey_ship.Goals as goal
@@ -17,5 +17,5 @@ returns g c =
         untouched = refl {a = c.args.disk.now};
       };
       faults = untouched-faults g.D.LogDisk g.S.Source g.K.Sink c.args.disk.now c.args.script.now c.ship_command.new.script c.args.out.now
-          c.ship_command.new.out c.ship_command.result (λ disk. subst IsOfReportAt disk called.range) called.read called.write;
+          c.ship_command.new.out c.ship_command.result (λ disk. subst IsAnswerAtLsn disk called.range) called.read called.write;
     }

@@ -1,5 +1,5 @@
 use Rattle.std.proofs.Common.{IfSome, refl, subst}
-use Rattle.cli_reports.specs.Reports.{AnswersReport, IsOfReportAt, RefusesLsn}
+use Rattle.cli_reports.specs.Reports.{AnswersReport, IsAnswerAtLsn, RefusesLsn}
 use Rattle.cli_view.specs.Reports.{SaysAccounts}
 use Rattle.cli_world.proofs.Untouched.{untouched-faults}
 use Rattle.cli_world.proofs.view_commands.obey_asof.Goals as goal
@@ -17,5 +17,5 @@ returns g c =
         untouched = refl {a = c.args.disk.now};
       };
       faults = untouched-faults g.D.LogDisk g.S.Source g.K.Sink c.args.disk.now c.args.script.now c.asof_command.new.script c.args.out.now
-          c.asof_command.new.out c.asof_command.result (λ disk. subst IsOfReportAt disk called.range) called.read called.write;
+          c.asof_command.new.out c.asof_command.result (λ disk. subst IsAnswerAtLsn disk called.range) called.read called.write;
     }

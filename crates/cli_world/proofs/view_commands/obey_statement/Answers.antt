@@ -1,5 +1,5 @@
 use Rattle.std.proofs.Common.{◌∙◌, refl, subst}
-use Rattle.cli_reports.specs.Reports.{IsOfAccountReport}
+use Rattle.cli_reports.specs.Reports.{IsAnswerOnAccount}
 use Rattle.cli_world.proofs.Untouched.{untouched-faults}
 use Rattle.cli_world.proofs.view_commands.obey_statement.Goals as goal
 
@@ -9,5 +9,5 @@ returns g c =
     record {
       done = record { answer = called.answer; silent = called.silent; range = called.range; untouched = refl {a = c.args.disk.now} };
       faults = untouched-faults g.D.LogDisk g.S.Source g.K.Sink c.args.disk.now c.args.script.now c.statement_command.new.script c.args.out.now
-          c.statement_command.new.out c.statement_command.result (λ disk. subst IsOfAccountReport disk called.range) called.read called.write;
+          c.statement_command.new.out c.statement_command.result (λ disk. subst IsAnswerOnAccount disk called.range) called.read called.write;
     }
