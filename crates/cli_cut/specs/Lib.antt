@@ -1,5 +1,6 @@
 pub mod Answers
 pub mod Batches
+pub mod Command
 pub mod Cutting
 pub mod Parts
 pub mod Upgrading

@@ -5,11 +5,13 @@ ghost use Rattle.log_disk.specs.Disk.{Leaves};
 ghost use Rattle.log_disk.specs.Faults.{CountsWhere};
 ghost use Rattle.lsn_space.specs.Opening.{IsSnapshot};
 ghost use Rattle.segment_file.specs.File.{BeginsOpen};
-ghost use Rattle.cli_shared.specs.Answers.{IsSourceFault, StaysSilent};
-ghost use Rattle.cli_shared.specs.Attached.{EndsAttached, LeavesAttached};
+ghost use Rattle.cli_shared.specs.Answers.{IsSourceFault};
+ghost use Rattle.cli_shared.specs.Attached.{EndsAttached};
 ghost use Rattle.cli_shared.specs.Creation.{TellsWhether};
-ghost use Rattle.cli_cut.specs.Answers.{AnswersCut, IsMakingFault, IsAnswerToCut};
-ghost use Rattle.cli_cut.specs.Cutting.{AllHoldCut, FollowsCut, GrowsByCut, MayBeCut, PrecedesCut, ReadsCut};
+ghost use Rattle.cli_cut.specs.Answers.{IsMakingFault};
+ghost use Rattle.cli_cut.specs.Cutting.{AllHoldCut, GrowsByCut, MayBeCut, PrecedesCut, ReadsCut};
+ghost use Rattle.cli_shared.specs.World.{TellsFaults, world};
+ghost use Rattle.cli_cut.specs.Command.{DoesCut};
 
 use cli_shared::{Detail, ReadFault, detail_of, finds_none, read_all};
 use log_disk::{LogDisk, Sink, Source};
@@ -28,24 +30,9 @@ pub fn cut_command<D: LogDisk, S: Source, K: Sink>(
     source: &mut S,
     out: &mut K,
 ) -> Detail
-    ensures answer { IfSome (S.left source.old) (λ bytes.
-        AnswersCut bytes (S.left source.new) (K.held_bytes out.old) (K.held_bytes out.new) result) }
-    ensures silent { StaysSilent (K.held_bytes out.old) (K.held_bytes out.new) result }
-    ensures range { IsAnswerToCut result }
-    ensures images { D.honest disk.old
-        → Leaves D.moment D.images_since (MayBeCut (S.left source.old) (D.images disk.old)) disk.old disk.new }
-    ensures made { D.honest disk.old → FollowsCut result → AllHoldCut (S.left source.old) (D.images disk.new) }
-    ensures kept { PrecedesCut result → Leaves D.moment D.images_since (D.images disk.old) disk.old disk.new }
-    ensures unchanged { D.honest disk.old → PrecedesCut result → D.reads disk.new ≡ D.reads disk.old }
-    ensures exists { D.honest disk.old → TellsWhether (BeginsOpen (D.reads disk.old)) result }
-    ensures count { D.honest disk.old → Costs D.LogDisk 7 11 disk.old disk.new }
-    ensures grows { D.honest disk.old → GrowsByCut D.LogDisk (S.left source.old) disk.old disk.new }
-    ensures honest { D.honest disk.old ↔ D.honest disk.new }
-    ensures attached { D.honest disk.old
-        → LeavesAttached (existing_or_made log.now) (D.attached disk.old) (D.attached disk.new) result }
-    ensures read { CountsWhere (result ≡ Detail.Read) (S.faults source.old) (S.faults source.new) }
-    ensures write { CountsWhere (result ≡ Detail.Write) (K.faults out.old) (K.faults out.new) }
-    ensures disk { CountsWhere (result ≡ Detail.Disk) (D.faults disk.old) (D.faults disk.new) }
+    ensures done { DoesCut D.LogDisk S.Source K.Sink log.now
+        (world disk.old source.old out.old) (world disk.new source.new out.new) result }
+    ensures faults { TellsFaults D.LogDisk S.Source K.Sink (world disk.old source.old out.old) (world disk.new source.new out.new) result }
 {
     let opening = match make_cut(alloc, log, disk, source) {
         Ok(opening) => opening,

@@ -3,13 +3,14 @@ ghost use Rattle.log_disk.specs.Attaching.{existing_or_made};
 ghost use Rattle.log_disk.specs.Disk.{Leaves};
 ghost use Rattle.log_disk.specs.Faults.{CountsWhere};
 ghost use Rattle.segment_file.specs.File.{BeginsOpen};
-ghost use Rattle.cli_shared.specs.Answers.{StaysSilent};
-ghost use Rattle.cli_shared.specs.Attached.{EndsAttached, LeavesAttached};
+ghost use Rattle.cli_shared.specs.Attached.{EndsAttached};
 ghost use Rattle.cli_shared.specs.Creation.{TellsWhether};
-ghost use Rattle.cli_cut.specs.Answers.{AnswersCut, IsMakingFault, IsAnswerToCut};
-ghost use Rattle.cli_cut.specs.Cutting.{FollowsCut, PrecedesCut};
+ghost use Rattle.cli_cut.specs.Answers.{IsMakingFault};
+ghost use Rattle.cli_cut.specs.Cutting.{PrecedesCut};
 ghost use Rattle.cli_cut.specs.Parts.{ReadsLog};
 ghost use Rattle.cli_cut.specs.Upgrading.{AllHoldUpgrade, CostsUpgrade, GrowsByUpgrade, MayBeUpgraded};
+ghost use Rattle.cli_shared.specs.World.{TellsFaults, world};
+ghost use Rattle.cli_cut.specs.Command.{DoesUpgrade};
 
 use crate::reading::read_parts;
 use crate::writing::write_log;
@@ -27,24 +28,9 @@ pub fn upgrade_command<D: LogDisk, S: Source, K: Sink>(
     source: &mut S,
     out: &mut K,
 ) -> Detail
-    ensures answer { IfSome (S.left source.old) (λ bytes.
-        AnswersCut bytes (S.left source.new) (K.held_bytes out.old) (K.held_bytes out.new) result) }
-    ensures silent { StaysSilent (K.held_bytes out.old) (K.held_bytes out.new) result }
-    ensures range { IsAnswerToCut result }
-    ensures images { D.honest disk.old
-        → Leaves D.moment D.images_since (MayBeUpgraded (S.left source.old) (D.images disk.old)) disk.old disk.new }
-    ensures made { D.honest disk.old → FollowsCut result → AllHoldUpgrade (S.left source.old) (D.images disk.new) }
-    ensures kept { PrecedesCut result → Leaves D.moment D.images_since (D.images disk.old) disk.old disk.new }
-    ensures unchanged { D.honest disk.old → PrecedesCut result → D.reads disk.new ≡ D.reads disk.old }
-    ensures exists { D.honest disk.old → TellsWhether (BeginsOpen (D.reads disk.old)) result }
-    ensures count { D.honest disk.old → CostsUpgrade D.LogDisk (S.left source.old) disk.old disk.new }
-    ensures grows { D.honest disk.old → GrowsByUpgrade D.LogDisk (S.left source.old) disk.old disk.new }
-    ensures honest { D.honest disk.old ↔ D.honest disk.new }
-    ensures attached { D.honest disk.old
-        → LeavesAttached (existing_or_made log.now) (D.attached disk.old) (D.attached disk.new) result }
-    ensures read { CountsWhere (result ≡ Detail.Read) (S.faults source.old) (S.faults source.new) }
-    ensures write { CountsWhere (result ≡ Detail.Write) (K.faults out.old) (K.faults out.new) }
-    ensures disk { CountsWhere (result ≡ Detail.Disk) (D.faults disk.old) (D.faults disk.new) }
+    ensures done { DoesUpgrade D.LogDisk S.Source K.Sink log.now
+        (world disk.old source.old out.old) (world disk.new source.new out.new) result }
+    ensures faults { TellsFaults D.LogDisk S.Source K.Sink (world disk.old source.old out.old) (world disk.new source.new out.new) result }
 {
     let recovered = match make_upgrade(alloc, log, disk, source) {
         Ok(recovered) => recovered,

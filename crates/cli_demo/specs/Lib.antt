@@ -1,3 +1,4 @@
+pub mod Command
 pub mod Demo
 pub mod Finished
 pub mod Summary

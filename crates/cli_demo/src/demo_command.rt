@@ -1,19 +1,16 @@
 //! A log of generated accounts, and generated transfers over it.
 ghost use Rattle.std.specs.Prelude.{◌≡◌, ◌≤◌, ◌+◌, ◌↔◌, IfOk};
 ghost use Rattle.command_line.specs.Ranges.{AreInRange};
-ghost use Rattle.log_disk.specs.Attaching.{existing_or_made};
 ghost use Rattle.log_disk.specs.Faults.{CountsWhere};
 ghost use Rattle.log_record.specs.LogList.{units_of};
 ghost use Rattle.log_table.specs.Seats.{key_of};
-ghost use Rattle.segment_file.specs.File.{BeginsOpen};
 ghost use Rattle.lsn_space.specs.declared.numerals.TheConstants.{MOST_GENERATED};
-ghost use Rattle.cli_shared.specs.Attached.{LeavesAttached};
-ghost use Rattle.cli_shared.specs.Creation.{TellsWhether};
-ghost use Rattle.cli_demo.specs.Demo.{AnswersDemo, IsAnswerToDemo, IsPreparedDemo, TellsSummary};
+ghost use Rattle.cli_demo.specs.Demo.{IsPreparedDemo};
 ghost use Rattle.cli_demo.specs.Finished.{HasFinished};
 ghost use Rattle.cli_demo.specs.Summary.{generated_opening};
 ghost use Rattle.cli_threads.specs.Prepared.{IsPrepared};
 ghost use Rattle.cli_threads.specs.Transferred.{IsOpened};
+ghost use Rattle.cli_demo.specs.Command.{HasDemonstrated};
 
 use cli_ending::conclude_counted;
 use cli_shared::genesis::genesis;
@@ -46,13 +43,8 @@ pub fn demo_command<R: Threads + Wait + Clock + Sync, D: LogDisk, K: Sink, G: Ga
 ) -> Detail
     requires options { AreInRange options.now }
     requires few { transfers ≤ MOST_GENERATED }
-    ensures answer { D.honest disk.old → AnswersDemo D.LogDisk transfers seed options.now disk.old disk.new result }
-    ensures text { TellsSummary transfers seed (K.held_bytes out.old) (K.held_bytes out.new) result }
-    ensures range { IsAnswerToDemo result }
+    ensures done { HasDemonstrated D.LogDisk K.Sink log.now transfers seed options.now disk.old disk.new out.old out.new result }
     ensures honest { D.honest disk.old ↔ D.honest disk.new }
-    ensures attached { D.honest disk.old
-        → LeavesAttached (existing_or_made log.now) (D.attached disk.old) (D.attached disk.new) result }
-    ensures exists { D.honest disk.old → TellsWhether (BeginsOpen (D.reads disk.old)) result }
     ensures write { CountsWhere (result ≡ Detail.Write) (K.faults out.old) (K.faults out.new) }
     ensures disk { CountsWhere (result ≡ Detail.Disk) (D.faults disk.old) (D.faults disk.new) }
 {

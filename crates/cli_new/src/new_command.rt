@@ -4,11 +4,12 @@ ghost use Rattle.log_disk.specs.Costs.{Costs};
 ghost use Rattle.log_disk.specs.Disk.{Leaves};
 ghost use Rattle.log_disk.specs.Faults.{CountsWhere};
 ghost use Rattle.segment_file.specs.File.{BeginsOpen};
-ghost use Rattle.cli_new.specs.Answers.{AnswersNew, AreOpening, IsInputFault, IsMakingFault, IsAnswerToNew};
-ghost use Rattle.cli_shared.specs.Answers.{StaysSilent};
-ghost use Rattle.cli_shared.specs.Attached.{EndsAttached, LeavesAttached};
-ghost use Rattle.cli_new.specs.Creation.{AllHoldNew, FollowsLog, GrowsByNew, MayBeLeft, PrecedesLog};
+ghost use Rattle.cli_new.specs.Answers.{AreOpening, IsInputFault, IsMakingFault};
+ghost use Rattle.cli_shared.specs.Attached.{EndsAttached};
+ghost use Rattle.cli_new.specs.Creation.{AllHoldNew, GrowsByNew, MayBeLeft, PrecedesLog};
 ghost use Rattle.cli_shared.specs.Creation.{TellsWhether};
+ghost use Rattle.cli_shared.specs.World.{TellsFaults, world};
+ghost use Rattle.cli_new.specs.Command.{DoesNew};
 
 use cli_shared::genesis::genesis;
 use cli_shared::{Detail, ReadFault, finds_none, read_all};
@@ -27,24 +28,9 @@ pub fn new_command<D: LogDisk, S: Source, K: Sink>(
     script: &mut S,
     out: &mut K,
 ) -> Detail
-    ensures answer { IfSome (S.left script.old) (λ bytes.
-        AnswersNew bytes (S.left script.new) (K.held_bytes out.old) (K.held_bytes out.new) result) }
-    ensures silent { StaysSilent (K.held_bytes out.old) (K.held_bytes out.new) result }
-    ensures range { IsAnswerToNew result }
-    ensures images { D.honest disk.old
-        → Leaves D.moment D.images_since (MayBeLeft (S.left script.old) (D.images disk.old)) disk.old disk.new }
-    ensures made { D.honest disk.old → FollowsLog result → AllHoldNew (S.left script.old) (D.images disk.new) }
-    ensures kept { PrecedesLog result → Leaves D.moment D.images_since (D.images disk.old) disk.old disk.new }
-    ensures unchanged { D.honest disk.old → PrecedesLog result → D.reads disk.new ≡ D.reads disk.old }
-    ensures exists { D.honest disk.old → TellsWhether (BeginsOpen (D.reads disk.old)) result }
-    ensures count { D.honest disk.old → Costs D.LogDisk 7 11 disk.old disk.new }
-    ensures grows { D.honest disk.old → GrowsByNew D.LogDisk (S.left script.old) disk.old disk.new }
-    ensures honest { D.honest disk.old ↔ D.honest disk.new }
-    ensures attached { D.honest disk.old
-        → LeavesAttached (existing_or_made log.now) (D.attached disk.old) (D.attached disk.new) result }
-    ensures read { CountsWhere (result ≡ Detail.Read) (S.faults script.old) (S.faults script.new) }
-    ensures write { CountsWhere (result ≡ Detail.Write) (K.faults out.old) (K.faults out.new) }
-    ensures disk { CountsWhere (result ≡ Detail.Disk) (D.faults disk.old) (D.faults disk.new) }
+    ensures done { DoesNew D.LogDisk S.Source K.Sink log.now
+        (world disk.old script.old out.old) (world disk.new script.new out.new) result }
+    ensures faults { TellsFaults D.LogDisk S.Source K.Sink (world disk.old script.old out.old) (world disk.new script.new out.new) result }
 {
     let accounts = match make_log(alloc, log, disk, script) {
         Ok(accounts) => accounts,

@@ -1,7 +1,6 @@
 ghost use Rattle.std.specs.Prelude.{◌≡◌, ◌≤◌, IfSome};
-ghost use Rattle.log_disk.specs.Faults.{CountsWhere};
 ghost use Rattle.cli_reports.specs.Answers.{AnswersDump, IsAnswerToDump};
-ghost use Rattle.cli_shared.specs.Answers.{StaysSilent};
+ghost use Rattle.cli_reports.specs.Command.{HasReported};
 
 use cli_shared::{Detail, ReadFault, detail_of, read_all};
 use log_disk::{Sink, Source};
@@ -10,12 +9,7 @@ use std::alloc::Global;
 
 /// Answers the bytes of a log by its records, lawful or not.
 pub fn dump_command<S: Source, K: Sink>(alloc: Global, script: &mut S, out: &mut K) -> Detail
-    ensures answer { IfSome (S.left script.old) (λ bytes.
-        AnswersDump bytes (S.left script.new) (K.held_bytes out.old) (K.held_bytes out.new) result) }
-    ensures silent { StaysSilent (K.held_bytes out.old) (K.held_bytes out.new) result }
-    ensures range { IsAnswerToDump result }
-    ensures read { CountsWhere (result ≡ Detail.Read) (S.faults script.old) (S.faults script.new) }
-    ensures write { CountsWhere (result ≡ Detail.Write) (K.faults out.old) (K.faults out.new) }
+    ensures { HasReported S.Source K.Sink AnswersDump IsAnswerToDump script.old script.new out.old out.new result }
 {
     let bytes = match read_all(alloc, script) {
         Ok(bytes) => bytes,

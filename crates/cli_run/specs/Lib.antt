@@ -1,3 +1,4 @@
+pub mod Command
 pub mod RunAnswers
 pub mod RunFinished
 pub mod RunReady

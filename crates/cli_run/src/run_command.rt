@@ -7,13 +7,13 @@ ghost use Rattle.log_recovery.specs.Opened.{OpenedList};
 ghost use Rattle.log_recovery.specs.Recovery.{Recovers};
 ghost use Rattle.log_table.specs.Seats.{key_of};
 ghost use Rattle.lock_core.specs.Transfers.{IsAllowedJob};
-ghost use Rattle.cli_shared.specs.Attached.{EndsAttached, LeavesAttached};
-ghost use Rattle.cli_run.specs.RunAnswers.{AnswersRun, IsAnswerToRun, RunStaysSilent};
-ghost use Rattle.cli_shared.specs.Outside.{outside};
+ghost use Rattle.cli_shared.specs.Attached.{EndsAttached};
 ghost use Rattle.cli_run.specs.RunReady.{HasRead, IsPreparedFor, HasNoRun, IsBeforeRun};
 ghost use Rattle.cli_run.specs.RunFinished.{HasFinished};
 ghost use Rattle.cli_threads.specs.Prepared.{IsPrepared};
 ghost use Rattle.cli_threads.specs.Transferred.{IsOpened};
+ghost use Rattle.cli_shared.specs.World.{TellsFaults, world};
+ghost use Rattle.cli_run.specs.Command.{DoesRun};
 
 use cli_ending::conclude;
 use cli_shared::{Detail, open_log, read_transfers};
@@ -50,16 +50,9 @@ pub fn run_command<
     gate: &G,
 ) -> Detail
     requires { AreInRange options.now }
-    ensures answer { D.honest disk.old
-        → AnswersRun D.LogDisk options.now (outside disk.old (S.left script.old) (K.held_bytes out.old))
-        (outside disk.new (S.left script.new) (K.held_bytes out.new)) result }
-    ensures silent { RunStaysSilent (K.held_bytes out.old) (K.held_bytes out.new) result }
-    ensures range { IsAnswerToRun result }
-    ensures honest { D.honest disk.old ↔ D.honest disk.new }
-    ensures attached { D.honest disk.old → LeavesAttached (existing log.now) (D.attached disk.old) (D.attached disk.new) result }
-    ensures read { CountsWhere (result ≡ Detail.Read) (S.faults script.old) (S.faults script.new) }
-    ensures write { CountsWhere (result ≡ Detail.Write) (K.faults out.old) (K.faults out.new) }
-    ensures disk { CountsWhere (result ≡ Detail.Disk) (D.faults disk.old) (D.faults disk.new) }
+    ensures done { DoesRun D.LogDisk S.Source K.Sink log.now options.now
+        (world disk.old script.old out.old) (world disk.new script.new out.new) result }
+    ensures faults { TellsFaults D.LogDisk S.Source K.Sink (world disk.old script.old out.old) (world disk.new script.new out.new) result }
 {
     let (opened, transfers) = match open_and_read(alloc, log, disk, script) {
         Ok(read) => read,

@@ -1,4 +1,5 @@
 pub mod AttachedLemmas
+pub mod FaultsTold
 pub mod FindingLemmas
 pub mod GenesisLemmas
 pub mod OpeningLemmas

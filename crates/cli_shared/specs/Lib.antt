@@ -6,3 +6,4 @@ pub mod LogInput
 pub mod Opening
 pub mod Outside
 pub mod Scripts
+pub mod World

@@ -265,3 +265,16 @@ pub none-read : {T : Type 0} (result : Result T Detail) (detail : Detail) → re
     → CountsWhere (IsErrOf result Read) before before
 none-read result detail same is before =
     record { counted = λ read. absurd (subst IsErrUnopened (sym same ∙ read) is); fine = λ other. refl }
+
+-- what is said of the accounts that were followed is said of those of the whole list
+pub followed-whole : {D : Type 0} (g : Ghosts D) (Says : Option (List ℕ) → Option (List ℕ) → List ℕ → Type 0) (old new : D)
+    (left left_new text text_new : Option (List ℕ)) (lsn : ℕ) (rows : List (ℕ × ℕ)) → HasFollowedInput g old new left left_new lsn rows
+    → Says text text_new (rows_text lsn rows) → FollowedWhole g Says (outside old left text) (outside new left_new text_new)
+followed-whole g Says old new left left_new text text_new lsn rows has says = record {
+  opened = has.opened;
+  frames = has.frames;
+  followed = has.followed text text_new;
+  images = has.images;
+  whole = has.whole;
+  text = subst (Says text text_new) has.text says;
+}

@@ -1,3 +1,4 @@
+pub mod Command
 pub mod Feeding
 pub mod Following
 pub mod Leaving

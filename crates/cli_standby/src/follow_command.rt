@@ -5,11 +5,10 @@ ghost use Rattle.standby.specs.Applying.{Base};
 ghost use Rattle.standby.specs.Following.{Follows};
 ghost use Rattle.standby.specs.Keeping.{KeepsList};
 ghost use Rattle.log_recovery.specs.Opened.{OpenedList};
-ghost use Rattle.cli_shared.specs.Answers.{StaysSilent};
-ghost use Rattle.cli_shared.specs.Attached.{EndsAttached, LeavesAttached};
-ghost use Rattle.cli_shared.specs.Outside.{outside};
+ghost use Rattle.cli_shared.specs.Attached.{EndsAttached};
 ghost use Rattle.cli_standby.specs.Feeding.{AnswersUnsaid, begun, HasFedAll, HasFedEnd, HasFedWhole, HasFollowedInput, IsFeedingFault, IsUnsaid, StopsFeeding, stream_detail};
-ghost use Rattle.cli_standby.specs.Following.{AnswersFollow, IsAnswerToFollow};
+ghost use Rattle.cli_shared.specs.World.{TellsFaults, world};
+ghost use Rattle.cli_standby.specs.Command.{DoesFollow};
 
 use crate::opening::open_standby;
 use cli_shared::Detail;
@@ -39,16 +38,9 @@ pub fn follow_command<D: LogDisk, S: Source, K: Sink>(
     script: &mut S,
     out: &mut K,
 ) -> Detail
-    ensures answer { D.honest disk.old
-        → AnswersFollow D.LogDisk (outside disk.old (S.left script.old) (K.held_bytes out.old))
-        (outside disk.new (S.left script.new) (K.held_bytes out.new)) result }
-    ensures silent { StaysSilent (K.held_bytes out.old) (K.held_bytes out.new) result }
-    ensures range { IsAnswerToFollow result }
-    ensures honest { D.honest disk.old ↔ D.honest disk.new }
-    ensures attached { D.honest disk.old → LeavesAttached (existing log.now) (D.attached disk.old) (D.attached disk.new) result }
-    ensures read { CountsWhere (result ≡ Detail.Read) (S.faults script.old) (S.faults script.new) }
-    ensures write { CountsWhere (result ≡ Detail.Write) (K.faults out.old) (K.faults out.new) }
-    ensures disk { CountsWhere (result ≡ Detail.Disk) (D.faults disk.old) (D.faults disk.new) }
+    ensures done { DoesFollow D.LogDisk S.Source K.Sink log.now
+        (world disk.old script.old out.old) (world disk.new script.new out.new) result }
+    ensures faults { TellsFaults D.LogDisk S.Source K.Sink (world disk.old script.old out.old) (world disk.new script.new out.new) result }
 {
     let (lsn, accounts) = match follow(alloc, log, disk, script) {
         Ok(both) => both,

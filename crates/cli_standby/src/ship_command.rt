@@ -1,8 +1,7 @@
 ghost use Rattle.std.specs.Prelude.{◌≡◌, ◌≤◌, IfSome};
-ghost use Rattle.log_disk.specs.Faults.{CountsWhere};
-ghost use Rattle.cli_shared.specs.Answers.{StaysSilent};
 ghost use Rattle.cli_reports.specs.Reports.{AnswersReport, IsAnswerAtLsn, RefusesLsn};
 ghost use Rattle.cli_standby.specs.Shipping.{SaysStream};
+ghost use Rattle.cli_reports.specs.Command.{HasReported};
 
 use cli_shared::{Detail, read_log};
 use lock_core::Judge;
@@ -19,12 +18,8 @@ pub fn ship_command<S: Source, K: Sink>(
     script: &mut S,
     out: &mut K,
 ) -> Detail
-    ensures answer { IfSome (S.left script.old) (λ bytes. AnswersReport (SaysStream from) (RefusesLsn from)
-        bytes (S.left script.new) (K.held_bytes out.old) (K.held_bytes out.new) result) }
-    ensures silent { StaysSilent (K.held_bytes out.old) (K.held_bytes out.new) result }
-    ensures range { IsAnswerAtLsn result }
-    ensures read { CountsWhere (result ≡ Detail.Read) (S.faults script.old) (S.faults script.new) }
-    ensures write { CountsWhere (result ≡ Detail.Write) (K.faults out.old) (K.faults out.new) }
+    ensures { HasReported S.Source K.Sink (AnswersReport (SaysStream from) (RefusesLsn from)) IsAnswerAtLsn
+        script.old script.new out.old out.new result }
 {
     let (_, listed) = match read_log::<Judge, S>(alloc, script) {
         Ok(both) => both,

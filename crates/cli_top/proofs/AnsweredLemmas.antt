@@ -1,5 +1,5 @@
 -- What a call came to says, of each command, what it promises where the words ask it; and what is so whatever they ask.
-use Rattle.std.proofs.Common.{◌≡◌, ◌⊎◌, inl, inr, ◌∙◌, refl, ap, sym, subst, ℕ, List, arith}
+use Rattle.std.proofs.Common.{◌≡◌, ◌⊎◌, inl, inr, ◌∙◌, refl, ap, sym, subst, ℕ, List, Option, IfSome, arith}
 use Rattle.std.specs.Io.KnownBytes.{Keeps}
 use Rattle.command_line.specs.CommandLine.{AreTaken, IsCommandLine}
 use Rattle.command_line.specs.declared.command.Command.{Command}
@@ -17,13 +17,15 @@ use Rattle.cli_shared.specs.declared.report.Detail.TheVariants.{NoMemory, Usage,
 use Rattle.cli_shared.specs.Answers.{StaysSilent}
 use Rattle.cli_shared.proofs.ToldLemmas.{kept-text, nothing-said}
 use Rattle.cli_reports.specs.Answers.{IsAnswerToDump, IsAnswerToRecover}
+use Rattle.cli_reports.specs.Command.{HasReported}
 use Rattle.cli_reports.specs.Reports.{IsAnswerOnAccount, IsAnswerAtLsn}
+use Rattle.cli_reports.proofs.ReportedLemmas.{read-whole, reported-none}
 use Rattle.cli_standby.specs.Following.{IsAnswerToFollow}
 use Rattle.cli_new.specs.Answers.{IsAnswerToNew}
 use Rattle.cli_cut.specs.Answers.{IsAnswerToCut}
 use Rattle.cli_run.specs.RunAnswers.{IsAnswerToRun}
 use Rattle.cli_demo.specs.Demo.{IsAnswerToDemo}
-use Rattle.cli_world.specs.World.{TellsFaults, World}
+use Rattle.cli_shared.specs.World.{TellsFaults, World}
 use Rattle.cli_world.specs.Alone.{AnsweredAlone, DoesAlone}
 use Rattle.cli_world.specs.declared.answer.Answer.TheVariants.{Done}
 use Rattle.cli_top.specs.Answered.{Answered, Does, Obeys}
@@ -48,6 +50,13 @@ module _ {D S K : Type 0} (g : Ghosts D) (h : SourceGhosts S) (i : SinkGhosts K)
   costs-looks : (disk : D) → Costs g 1 (most_calls g disk) disk disk
   costs-looks disk = Costs-more g 0 1 0 (most_calls g disk) disk disk (omega arith) (omega arith) (Costs-none g disk)
 
+  nothing-reported : (Answers : List ℕ → Option (List ℕ) → Option (List ℕ) → Option (List ℕ) → Detail → Type 0) (IsAnswer : Detail → Type 0)
+      (script : S) (out : K) → IsAnswer NoMemory
+      → IfSome (h.left script) (λ bytes. Answers bytes (h.left script) (i.held_bytes out) (i.held_bytes out) NoMemory)
+      → HasReported h i Answers IsAnswer script script out out NoMemory
+  nothing-reported Answers IsAnswer script out range answer =
+      reported-none h i Answers IsAnswer script script out NoMemory range (read-whole _ _ NoMemory refl (λ tells. tells)) (kept-text _) (λ tells. tells) answer
+
   -- a call that did nothing has done what a command without memory does
   nothing-done : (old : World D S K) (command : Command) → Does g h i command old old NoMemory
   nothing-done old (New log) = record {
@@ -69,15 +78,17 @@ module _ {D S K : Type 0} (g : Ghosts D) (h : SourceGhosts S) (i : SinkGhosts K)
     range = tt;
     attached = λ honest. inl refl;
   }
-  nothing-done old Recover = record { answer = nothing-said _; silent = kept-text _; range = tt; untouched = refl }
-  nothing-done old Dump = record { answer = nothing-said _; silent = kept-text _; range = tt; untouched = refl }
+  nothing-done old Recover = record { report = nothing-reported _ _ _ _ tt (nothing-said _); untouched = refl }
+  nothing-done old Dump = record { report = nothing-reported _ _ _ _ tt (nothing-said _); untouched = refl }
   nothing-done old (Demo log n seed options) = record {
-    answer = λ honest. record { images = Leaves-refl _ _ _ _; reads = refl; count = costs-looks old.disk };
-    text = kept-text _;
-    range = tt;
-    exists = λ honest. tt;
+    demonstrated = record {
+      answer = λ honest. record { images = Leaves-refl _ _ _ _; reads = refl; count = costs-looks old.disk };
+      text = kept-text _;
+      range = tt;
+      exists = λ honest. tt;
+      attached = λ honest. inl refl;
+    };
     unread = refl;
-    attached = λ honest. inl refl;
   }
   nothing-done old (Cut log) = record {
     answer = nothing-said _;
@@ -105,9 +116,9 @@ module _ {D S K : Type 0} (g : Ghosts D) (h : SourceGhosts S) (i : SinkGhosts K)
     attached = λ honest. inl refl;
     grows = λ honest. inl refl;
   }
-  nothing-done old (Ship from) = record { answer = nothing-said _; silent = kept-text _; range = tt; untouched = refl }
-  nothing-done old (AsOf lsn) = record { answer = nothing-said _; silent = kept-text _; range = tt; untouched = refl }
-  nothing-done old (Statement account) = record { answer = nothing-said _; silent = kept-text _; range = tt; untouched = refl }
+  nothing-done old (Ship from) = record { report = nothing-reported _ _ _ _ tt (nothing-said _); untouched = refl }
+  nothing-done old (AsOf lsn) = record { report = nothing-reported _ _ _ _ tt (nothing-said _); untouched = refl }
+  nothing-done old (Statement account) = record { report = nothing-reported _ _ _ _ tt (nothing-said _); untouched = refl }
   nothing-done old (Follow log) = record {
     answer = λ honest. inl (record { silent = kept-text _; disk = record { images = Leaves-refl _ _ _ _; reads = refl; count = costs-looks old.disk } });
     silent = kept-text _;
@@ -126,15 +137,15 @@ module _ {D S K : Type 0} (g : Ghosts D) (h : SourceGhosts S) (i : SinkGhosts K)
   not-usage : (old new : World D S K) (detail : Detail) (command : Command) → Does g h i command old new detail → detail ≡ Usage → ⊥
   not-usage old new detail (New log) done usage = subst IsAnswerToNew usage done.range
   not-usage old new detail (Run log options) done usage = subst IsAnswerToRun usage done.range
-  not-usage old new detail Recover done usage = subst IsAnswerToRecover usage done.range
-  not-usage old new detail Dump done usage = subst IsAnswerToDump usage done.range
-  not-usage old new detail (Demo log n seed options) done usage = subst IsAnswerToDemo usage done.range
+  not-usage old new detail Recover done usage = subst IsAnswerToRecover usage done.report.range
+  not-usage old new detail Dump done usage = subst IsAnswerToDump usage done.report.range
+  not-usage old new detail (Demo log n seed options) done usage = subst IsAnswerToDemo usage done.demonstrated.range
   not-usage old new detail (Cut log) done usage = subst IsAnswerToCut usage done.range
   not-usage old new detail (Upgrade log) done usage = subst IsAnswerToCut usage done.range
-  not-usage old new detail (Ship from) done usage = subst IsAnswerAtLsn usage done.range
+  not-usage old new detail (Ship from) done usage = subst IsAnswerAtLsn usage done.report.range
   not-usage old new detail (Follow log) done usage = subst IsAnswerToFollow usage done.range
-  not-usage old new detail (AsOf lsn) done usage = subst IsAnswerAtLsn usage done.range
-  not-usage old new detail (Statement account) done usage = subst IsAnswerOnAccount usage done.range
+  not-usage old new detail (AsOf lsn) done usage = subst IsAnswerAtLsn usage done.report.range
+  not-usage old new detail (Statement account) done usage = subst IsAnswerOnAccount usage done.report.range
 
   done-untouched : (words : List (List ℕ)) (old new : World D S K) (detail : Detail) (command : Command) → IsCommandLine words command
       → Does g h i command old new detail → (AsksNew words → ⊥) → (AsksRun words → ⊥) → (AsksDemo words → ⊥) → (AsksCut words → ⊥)
@@ -178,15 +189,15 @@ module _ {D S K : Type 0} (g : Ghosts D) (h : SourceGhosts S) (i : SinkGhosts K)
       → Does g h i command old new detail → (AsksRun words → ⊥) → StaysSilent (i.held_bytes old.out) (i.held_bytes new.out) detail
   done-silent words old new detail (New log) asked done not_run = done.silent
   done-silent words old new detail (Run log options) asked done not_run = absurd (not_run (log, options, asked))
-  done-silent words old new detail Recover asked done not_run = done.silent
-  done-silent words old new detail Dump asked done not_run = done.silent
-  done-silent words old new detail (Demo log n seed options) asked done not_run = silent-told n seed _ _ detail done.text
+  done-silent words old new detail Recover asked done not_run = done.report.silent
+  done-silent words old new detail Dump asked done not_run = done.report.silent
+  done-silent words old new detail (Demo log n seed options) asked done not_run = silent-told n seed _ _ detail done.demonstrated.text
   done-silent words old new detail (Cut log) asked done not_run = done.silent
   done-silent words old new detail (Upgrade log) asked done not_run = done.silent
-  done-silent words old new detail (Ship from) asked done not_run = done.silent
+  done-silent words old new detail (Ship from) asked done not_run = done.report.silent
   done-silent words old new detail (Follow log) asked done not_run = done.silent
-  done-silent words old new detail (AsOf lsn) asked done not_run = done.silent
-  done-silent words old new detail (Statement account) asked done not_run = done.silent
+  done-silent words old new detail (AsOf lsn) asked done not_run = done.report.silent
+  done-silent words old new detail (Statement account) asked done not_run = done.report.silent
 
   still-kept : (old new : World D S K) → new ≡ old → Keeps (i.held_bytes old.out) (i.held_bytes new.out)
   still-kept old new same = subst (λ (w : World D S K). Keeps (i.held_bytes old.out) (i.held_bytes w.out)) (sym same) (kept-text _)
@@ -263,7 +274,7 @@ module _ {D S K : Type 0} (g : Ghosts D) (h : SourceGhosts S) (i : SinkGhosts K)
   answered-alone words old new detail (inl has) = inl (record {
     command = has.command;
     asked = has.asked;
-    obeys = record { faults = has.faults; done = does-alone old new detail has.command has.done };
+    obeys = record { faults = has.obeys.faults; done = does-alone old new detail has.command has.obeys.done };
   })
   answered-alone words old new detail (inr none) = inr none
 

@@ -5,37 +5,24 @@ use Rattle.command_line.specs.CommandLine.{IsCommandLine, AreTaken}
 use Rattle.command_line.specs.declared.command.Command.{Command}
 use Rattle.command_line.specs.declared.command.Command.TheVariants.{New, Run, Recover, Dump, Demo, Cut, Upgrade, Ship, Follow, AsOf, Statement}
 use Rattle.command_line.specs.declared.options.RunOptions.{RunOptions}
-use Rattle.log_disk.specs.Attaching.{existing, existing_or_made}
 use Rattle.log_disk.specs.declared.disk.LogDisk.{Ghosts}
 use Rattle.log_disk.specs.declared.source.Source.{Ghosts as SourceGhosts}
 use Rattle.log_disk.specs.declared.sink.Sink.{Ghosts as SinkGhosts}
-use Rattle.segment_file.specs.File.{BeginsOpen}
 use Rattle.cli_shared.specs.declared.report.Detail.{Detail}
 use Rattle.cli_shared.specs.declared.report.Detail.TheVariants.{NoMemory, Usage}
-use Rattle.cli_shared.specs.Attached.{LeavesAttached}
-use Rattle.cli_shared.specs.Creation.{TellsWhether}
-use Rattle.cli_run.specs.RunAnswers.{AnswersRun, IsAnswerToRun, RunStaysSilent}
-use Rattle.cli_shared.specs.Outside.{outside}
-use Rattle.cli_demo.specs.Demo.{AnswersDemo, IsAnswerToDemo, TellsSummary}
-use Rattle.cli_world.specs.World.{World, TellsFaults, DoesAsOf, DoesCut, DoesDump, DoesFollow, DoesNew, DoesRecover, DoesShip, DoesStatement, DoesUpgrade}
+use Rattle.cli_shared.specs.World.{TellsFaults, World}
+use Rattle.cli_new.specs.Command.{DoesNew}
+use Rattle.cli_cut.specs.Command.{DoesCut, DoesUpgrade}
+use Rattle.cli_standby.specs.Command.{DoesFollow}
+use Rattle.cli_run.specs.Command.{DoesRun}
+use Rattle.cli_demo.specs.Command.{HasDemonstrated}
+use Rattle.cli_world.specs.Reports.{DoesAsOf, DoesDump, DoesRecover, DoesShip, DoesStatement}
 
-pub record DoesRun {D S K : Type 0} (g : Ghosts D) (h : SourceGhosts S) (i : SinkGhosts K) (log : List ℕ) (options : RunOptions)
-    (old new : World D S K) (detail : Detail) : Type 0 where
-  pub answer : g.honest old.disk
-      → AnswersRun g options (outside old.disk (h.left old.script) (i.held_bytes old.out))
-      (outside new.disk (h.left new.script) (i.held_bytes new.out)) detail
-  pub silent : RunStaysSilent (i.held_bytes old.out) (i.held_bytes new.out) detail
-  pub range : IsAnswerToRun detail
-  pub attached : g.honest old.disk → LeavesAttached (existing log) (g.attached old.disk) (g.attached new.disk) detail
-
+-- `demo` reads nothing
 pub record DoesDemo {D S K : Type 0} (g : Ghosts D) (i : SinkGhosts K) (log : List ℕ) (n seed : ℕ) (options : RunOptions)
     (old new : World D S K) (detail : Detail) : Type 0 where
-  pub answer : g.honest old.disk → AnswersDemo g n seed options old.disk new.disk detail
-  pub text : TellsSummary n seed (i.held_bytes old.out) (i.held_bytes new.out) detail
-  pub range : IsAnswerToDemo detail
-  pub exists : g.honest old.disk → TellsWhether (BeginsOpen (g.reads old.disk)) detail
+  pub demonstrated : HasDemonstrated g i log n seed options old.disk new.disk old.out new.out detail
   pub unread : new.script ≡ old.script
-  pub attached : g.honest old.disk → LeavesAttached (existing_or_made log) (g.attached old.disk) (g.attached new.disk) detail
 
 -- the command did what it promises
 abbrev pub Does : {D S K : Type 0} → Ghosts D → SourceGhosts S → SinkGhosts K → Command → World D S K → World D S K → Detail → Type 0

@@ -18,7 +18,10 @@ ghost use Rattle.cli_reports.specs.Answers.{AnswersRecover, AnswersDump, IsAnswe
 ghost use Rattle.cli_new.specs.Answers.{AnswersNew, IsAnswerToNew};
 ghost use Rattle.cli_top.specs.Answered.{Answered, Obeys};
 ghost use Rattle.cli_world.specs.Alone.{command_of};
-ghost use Rattle.cli_world.specs.World.{world, DoesAsOf, DoesCut, DoesFollow, DoesShip, DoesStatement, DoesUpgrade};
+ghost use Rattle.cli_shared.specs.World.{world};
+ghost use Rattle.cli_cut.specs.Command.{DoesCut, DoesUpgrade};
+ghost use Rattle.cli_standby.specs.Command.{DoesFollow};
+ghost use Rattle.cli_world.specs.Reports.{DoesAsOf, DoesShip, DoesStatement};
 ghost use Rattle.cli_top.specs.Asks.{AsksNew, AsksRun, AsksDemo, AsksCut, AsksUpgrade, AsksFollow};
 ghost use Rattle.cli_demo.specs.Demo.{AnswersDemo, IsAnswerToDemo, TellsSummary};
 ghost use Rattle.cli_new.specs.Creation.{AllHoldNew, FollowsLog, GrowsByNew, MayBeLeft, PrecedesLog};
@@ -220,7 +223,8 @@ fn obey<R: Threads + Wait + Clock + Sync, D: LogDisk, S: Source, K: Sink, G: Gat
     gate: &G,
 ) -> Detail
     requires { (words : List (List ℕ)) × IsCommandLine words (command_of asked.now) }
-    ensures { Obeys D.LogDisk S.Source K.Sink (command_of asked.now) (world disk.old script.old out.old) (world disk.new script.new out.new) result }
+    ensures { Obeys D.LogDisk S.Source K.Sink (command_of asked.now)
+        (world disk.old script.old out.old) (world disk.new script.new out.new) result }
 {
     match asked {
         WithWorkers::Run { log, options } => {

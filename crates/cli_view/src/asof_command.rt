@@ -1,12 +1,11 @@
 ghost use Rattle.std.specs.Prelude.{◌≡◌, ◌≤◌, ℕ, List, IfOk, IfSome};
-ghost use Rattle.log_disk.specs.Faults.{CountsWhere};
 ghost use Rattle.log_record.specs.declared.rec.Placed.{Placed};
 ghost use Rattle.lock_core.specs.Sums.{Opening};
 ghost use Rattle.ledger_view.specs.Viewing.{HasViewed};
-ghost use Rattle.cli_shared.specs.Answers.{StaysSilent};
 ghost use Rattle.cli_reports.specs.Reports.{AnswersReport, IsAnswerAtLsn, RefusesLsn};
 ghost use Rattle.cli_view.specs.Reports.{SaysAccounts};
 ghost use Rattle.cli_view.specs.Balances.{HasBalances};
+ghost use Rattle.cli_reports.specs.Command.{HasReported};
 
 use cli_shared::{Detail, read_log};
 use ledger_view::View;
@@ -22,12 +21,8 @@ pub fn asof_command<S: Source, K: Sink>(
     script: &mut S,
     out: &mut K,
 ) -> Detail
-    ensures answer { IfSome (S.left script.old) (λ bytes. AnswersReport (SaysAccounts lsn) (RefusesLsn lsn)
-        bytes (S.left script.new) (K.held_bytes out.old) (K.held_bytes out.new) result) }
-    ensures silent { StaysSilent (K.held_bytes out.old) (K.held_bytes out.new) result }
-    ensures range { IsAnswerAtLsn result }
-    ensures read { CountsWhere (result ≡ Detail.Read) (S.faults script.old) (S.faults script.new) }
-    ensures write { CountsWhere (result ≡ Detail.Write) (K.faults out.old) (K.faults out.new) }
+    ensures { HasReported S.Source K.Sink (AnswersReport (SaysAccounts lsn) (RefusesLsn lsn)) IsAnswerAtLsn
+        script.old script.new out.old out.new result }
 {
     let (view, listed) = match read_log::<View, S>(alloc, script) {
         Ok(both) => both,

@@ -1,8 +1,7 @@
 ghost use Rattle.std.specs.Prelude.{◌≡◌, ◌≤◌, IfSome};
-ghost use Rattle.log_disk.specs.Faults.{CountsWhere};
-ghost use Rattle.cli_shared.specs.Answers.{StaysSilent};
 ghost use Rattle.cli_reports.specs.Reports.{AnswersReport, IsAnswerOnAccount};
 ghost use Rattle.cli_view.specs.Reports.{RefusesAccount, SaysStatement};
+ghost use Rattle.cli_reports.specs.Command.{HasReported};
 
 use crate::statement_text::put_statement;
 use cli_shared::{Detail, read_log};
@@ -17,12 +16,8 @@ pub fn statement_command<S: Source, K: Sink>(
     script: &mut S,
     out: &mut K,
 ) -> Detail
-    ensures answer { IfSome (S.left script.old) (λ bytes. AnswersReport (SaysStatement account) (RefusesAccount account)
-        bytes (S.left script.new) (K.held_bytes out.old) (K.held_bytes out.new) result) }
-    ensures silent { StaysSilent (K.held_bytes out.old) (K.held_bytes out.new) result }
-    ensures range { IsAnswerOnAccount result }
-    ensures read { CountsWhere (result ≡ Detail.Read) (S.faults script.old) (S.faults script.new) }
-    ensures write { CountsWhere (result ≡ Detail.Write) (K.faults out.old) (K.faults out.new) }
+    ensures { HasReported S.Source K.Sink (AnswersReport (SaysStatement account) (RefusesAccount account)) IsAnswerOnAccount
+        script.old script.new out.old out.new result }
 {
     let (view, listed) = match read_log::<View, S>(alloc, script) {
         Ok(both) => both,

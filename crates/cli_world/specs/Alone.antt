@@ -12,7 +12,11 @@ use Rattle.cli_world.specs.declared.answer.Answer.{Answer}
 use Rattle.cli_world.specs.declared.answer.Answer.TheVariants.{Done, Asked}
 use Rattle.cli_world.specs.declared.answer.WithWorkers.{WithWorkers}
 use Rattle.cli_world.specs.declared.answer.WithWorkers.TheVariants as with_workers
-use Rattle.cli_world.specs.World.{World, TellsFaults, DoesAsOf, DoesCut, DoesDump, DoesFollow, DoesNew, DoesRecover, DoesShip, DoesStatement, DoesUpgrade}
+use Rattle.cli_shared.specs.World.{TellsFaults, World}
+use Rattle.cli_new.specs.Command.{DoesNew}
+use Rattle.cli_cut.specs.Command.{DoesCut, DoesUpgrade}
+use Rattle.cli_standby.specs.Command.{DoesFollow}
+use Rattle.cli_world.specs.Reports.{DoesAsOf, DoesDump, DoesRecover, DoesShip, DoesStatement}
 
 -- the command is one that needs no workers, and did what it promises
 abbrev pub DoesAlone : {D S K : Type 0} → Ghosts D → SourceGhosts S → SinkGhosts K → Command → World D S K → World D S K → Detail → Type 0
@@ -28,13 +32,18 @@ DoesAlone g h i (Follow log) old new detail = DoesFollow g h i log old new detai
 DoesAlone g h i (AsOf lsn) old new detail = DoesAsOf h i lsn old new detail
 DoesAlone g h i (Statement account) old new detail = DoesStatement h i account old new detail
 
--- the words ask such a command, it did what it promises, and told of faults
+-- it did so, and told of faults
+pub record ObeysAlone {D S K : Type 0} (g : Ghosts D) (h : SourceGhosts S) (i : SinkGhosts K) (command : Command) (old new : World D S K)
+    (detail : Detail) : Type 0 where
+  pub done : DoesAlone g h i command old new detail
+  pub faults : TellsFaults g h i old new detail
+
+-- the words ask such a command, and it was obeyed
 pub record HasObeyedAlone {D S K : Type 0} (g : Ghosts D) (h : SourceGhosts S) (i : SinkGhosts K) (words : List (List ℕ)) (old new : World D S K)
     (detail : Detail) : Type 0 where
   pub command : Command
   pub asked : IsCommandLine words command
-  pub done : DoesAlone g h i command old new detail
-  pub faults : TellsFaults g h i old new detail
+  pub obeys : ObeysAlone g h i command old new detail
 
 -- the command that is asked
 abbrev pub command_of : WithWorkers → Command

@@ -1,11 +1,13 @@
+ghost use Rattle.cli_shared.specs.World.{world};
 ghost use Rattle.cli_world.specs.Alone.{AnsweredAlone};
-ghost use Rattle.cli_world.specs.World.{world};
 
 use crate::answer::{Answer, WithWorkers};
-use crate::commands::{obey_cut, obey_dump, obey_new, obey_recover, obey_upgrade};
-use crate::standby_commands::{obey_follow, obey_ship};
-use crate::view_commands::{obey_asof, obey_statement};
+use crate::reports::{obey_asof, obey_dump, obey_recover, obey_ship, obey_statement};
+use cli_cut::cut_command::cut_command;
+use cli_cut::upgrade_command::upgrade_command;
+use cli_new::new_command::new_command;
 use cli_shared::Detail;
+use cli_standby::follow_command::follow_command;
 use command_line::{Command, Refused, parse};
 use log_disk::{LogDisk, Sink, Source};
 use lsn_space::Word;
@@ -19,15 +21,18 @@ pub fn answer_alone<D: LogDisk, S: Source, K: Sink>(
     script: &mut S,
     out: &mut K,
 ) -> Answer
-    ensures { AnsweredAlone D.LogDisk S.Source K.Sink words.now (world disk.old script.old out.old) (world disk.new script.new out.new) result }
+    ensures { AnsweredAlone D.LogDisk S.Source K.Sink words.now
+        (world disk.old script.old out.old) (world disk.new script.new out.new) result }
 {
     match parse(alloc, words) {
-        Ok(Command::New { log }) => Answer::Done(obey_new(alloc, &log, disk, script, out)),
+        Ok(Command::New { log }) => Answer::Done(new_command(alloc, &log, disk, script, out)),
         Ok(Command::Recover) => Answer::Done(obey_recover(alloc, disk, script, out)),
-        Ok(Command::Cut { log }) => Answer::Done(obey_cut(alloc, &log, disk, script, out)),
-        Ok(Command::Upgrade { log }) => Answer::Done(obey_upgrade(alloc, &log, disk, script, out)),
+        Ok(Command::Cut { log }) => Answer::Done(cut_command(alloc, &log, disk, script, out)),
+        Ok(Command::Upgrade { log }) => Answer::Done(upgrade_command(
+            alloc, &log, disk, script, out,
+        )),
         Ok(Command::Ship { from }) => Answer::Done(obey_ship(alloc, from, disk, script, out)),
-        Ok(Command::Follow { log }) => Answer::Done(obey_follow(alloc, &log, disk, script, out)),
+        Ok(Command::Follow { log }) => Answer::Done(follow_command(alloc, &log, disk, script, out)),
         Ok(Command::AsOf { lsn }) => Answer::Done(obey_asof(alloc, lsn, disk, script, out)),
         Ok(Command::Statement { account }) => {
             Answer::Done(obey_statement(alloc, account, disk, script, out))

@@ -1,5 +1,6 @@
-use Rattle.std.proofs.Common.{ap, Err, refl, sym, subst}
-use Rattle.cli_shared.proofs.ToldLemmas.{TellsRead, TellsWrite, TellsDisk}
+use Rattle.std.proofs.Common.{refl, subst, sym}
+use Rattle.cli_shared.proofs.FaultsTold.{told-before, told-fine, told-part}
+use Rattle.cli_shared.proofs.ToldLemmas.{TellsWrite}
 use Rattle.cli_cut.proofs.AnswerLemmas.{unmade-fault}
 use Rattle.cli_cut.proofs.UpgradingLemmas.{answers_read-fine, answers_read-write}
 use Rattle.cli_cut.proofs.upgrade_command.upgrade_command.Goals as goal
@@ -10,131 +11,58 @@ returns-in-Err g c =
     let made = c.in-Err.ensures in
     let told = unmade-fault _ _ _ c.in-Err.detail made.err in
     record {
-      answer = told.answer;
-      silent = told.silent;
-      range = told.range;
-      images = made.images;
-      made = λ honest follows. absurd (told.follows follows);
-      kept = made.kept;
-      unchanged = made.unchanged;
-      exists = made.exists;
-      count = made.count;
-      grows = made.grows;
-      honest = made.honest;
-      attached = made.attached;
-      read = record { counted = λ is. made.read.counted (ap Err is); fine = λ other. made.read.fine (λ is. other cc) };
-      write = record { counted = λ is. absurd (told.write (subst TellsWrite (sym is) tt)); fine = λ other. refl };
-      disk = record { counted = λ is. made.disk.counted (ap Err is); fine = λ other. made.disk.fine (λ is. other cc) };
+      done = record {
+        answer = told.answer;
+        silent = told.silent;
+        range = told.range;
+        images = made.images;
+        made = λ honest follows. absurd (told.follows follows);
+        kept = made.kept;
+        unchanged = made.unchanged;
+        exists = made.exists;
+        count = made.count;
+        attached = made.attached;
+        grows = made.grows;
+      };
+      faults = told-before g.D.LogDisk g.S.Source g.K.Sink _ _ c.in-Err.detail (λ is. told.write (subst TellsWrite (sym is) tt)) made.read refl made.disk made.honest;
     }
 
 -- the log is made, and its text written
-pub returns-in-Ok-put_accounts-clause-answer : goal.returns-in-Ok-put_accounts-clause-answer
-returns-in-Ok-put_accounts-clause-answer g c =
-    answers_read-fine _ _ _ _ c.in-Ok.recovered c.in-Ok.ensures.ok c.in-Ok-put_accounts.ensures.all
-
-pub returns-in-Ok-put_accounts-clause-silent : goal.returns-in-Ok-put_accounts-clause-silent
-returns-in-Ok-put_accounts-clause-silent g c = tt
-
-pub returns-in-Ok-put_accounts-clause-range : goal.returns-in-Ok-put_accounts-clause-range
-returns-in-Ok-put_accounts-clause-range g c = tt
-
-pub returns-in-Ok-put_accounts-clause-images : goal.returns-in-Ok-put_accounts-clause-images
-returns-in-Ok-put_accounts-clause-images g c = c.in-Ok.ensures.images
-
-pub returns-in-Ok-put_accounts-clause-made : goal.returns-in-Ok-put_accounts-clause-made
-returns-in-Ok-put_accounts-clause-made g c = λ honest follows. c.in-Ok.ensures.made honest
-
-pub returns-in-Ok-put_accounts-clause-kept : goal.returns-in-Ok-put_accounts-clause-kept
-returns-in-Ok-put_accounts-clause-kept g c = λ precedes. absurd precedes
-
-pub returns-in-Ok-put_accounts-clause-unchanged : goal.returns-in-Ok-put_accounts-clause-unchanged
-returns-in-Ok-put_accounts-clause-unchanged g c = λ honest precedes. absurd precedes
-
-pub returns-in-Ok-put_accounts-clause-exists : goal.returns-in-Ok-put_accounts-clause-exists
-returns-in-Ok-put_accounts-clause-exists g c = c.in-Ok.ensures.exists
-
-pub returns-in-Ok-put_accounts-clause-count : goal.returns-in-Ok-put_accounts-clause-count
-returns-in-Ok-put_accounts-clause-count g c = c.in-Ok.ensures.count
-
-pub returns-in-Ok-put_accounts-clause-grows : goal.returns-in-Ok-put_accounts-clause-grows
-returns-in-Ok-put_accounts-clause-grows g c = c.in-Ok.ensures.grows
-
-pub returns-in-Ok-put_accounts-clause-honest : goal.returns-in-Ok-put_accounts-clause-honest
-returns-in-Ok-put_accounts-clause-honest g c = c.in-Ok.ensures.honest
-
-pub returns-in-Ok-put_accounts-clause-attached : goal.returns-in-Ok-put_accounts-clause-attached
-returns-in-Ok-put_accounts-clause-attached g c = c.in-Ok.ensures.attached
-
-pub returns-in-Ok-put_accounts-clause-read : goal.returns-in-Ok-put_accounts-clause-read
-returns-in-Ok-put_accounts-clause-read g c = record {
-  counted = λ is. absurd (subst TellsRead (sym is) tt);
-  fine = λ other. c.in-Ok.ensures.read.fine (λ is. cc);
-}
-
-pub returns-in-Ok-put_accounts-clause-write : goal.returns-in-Ok-put_accounts-clause-write
-returns-in-Ok-put_accounts-clause-write g c = record {
-  counted = λ is. absurd (subst TellsWrite (sym is) tt);
-  fine = λ other. c.in-Ok-put_accounts.ensures.cause.fine;
-}
-
-pub returns-in-Ok-put_accounts-clause-disk : goal.returns-in-Ok-put_accounts-clause-disk
-returns-in-Ok-put_accounts-clause-disk g c = record {
-  counted = λ is. absurd (subst TellsDisk (sym is) tt);
-  fine = λ other. c.in-Ok.ensures.disk.fine (λ is. cc);
+pub returns-in-Ok-put_accounts : goal.returns-in-Ok-put_accounts
+returns-in-Ok-put_accounts g c = record {
+  done = record {
+    answer = answers_read-fine _ _ _ _ c.in-Ok.recovered c.in-Ok.ensures.ok c.in-Ok-put_accounts.ensures.all;
+    silent = tt;
+    range = tt;
+    images = c.in-Ok.ensures.images;
+    made = λ honest follows. c.in-Ok.ensures.made honest;
+    kept = λ precedes. absurd precedes;
+    unchanged = λ honest precedes. absurd precedes;
+    exists = c.in-Ok.ensures.exists;
+    count = c.in-Ok.ensures.count;
+    attached = c.in-Ok.ensures.attached;
+    grows = c.in-Ok.ensures.grows;
+  };
+  faults = told-fine g.D.LogDisk g.S.Source g.K.Sink _ _ (c.in-Ok.ensures.read.fine (λ is. cc)) c.in-Ok-put_accounts.ensures.cause.fine
+      (c.in-Ok.ensures.disk.fine (λ is. cc)) c.in-Ok.ensures.honest;
 }
 
 -- the log is made, and the writing failed
-pub returns-clause-answer : goal.returns-clause-answer
-returns-clause-answer g c =
-    answers_read-write _ _ _ _ c.in-Ok.recovered c.in-Ok.ensures.ok c.in-Err-put_accounts.ensures.prefix
-
-pub returns-clause-silent : goal.returns-clause-silent
-returns-clause-silent g c = tt
-
-pub returns-clause-range : goal.returns-clause-range
-returns-clause-range g c = tt
-
-pub returns-clause-images : goal.returns-clause-images
-returns-clause-images g c = c.in-Ok.ensures.images
-
-pub returns-clause-made : goal.returns-clause-made
-returns-clause-made g c = λ honest follows. c.in-Ok.ensures.made honest
-
-pub returns-clause-kept : goal.returns-clause-kept
-returns-clause-kept g c = λ precedes. absurd precedes
-
-pub returns-clause-unchanged : goal.returns-clause-unchanged
-returns-clause-unchanged g c = λ honest precedes. absurd precedes
-
-pub returns-clause-exists : goal.returns-clause-exists
-returns-clause-exists g c = c.in-Ok.ensures.exists
-
-pub returns-clause-count : goal.returns-clause-count
-returns-clause-count g c = c.in-Ok.ensures.count
-
-pub returns-clause-grows : goal.returns-clause-grows
-returns-clause-grows g c = c.in-Ok.ensures.grows
-
-pub returns-clause-honest : goal.returns-clause-honest
-returns-clause-honest g c = c.in-Ok.ensures.honest
-
-pub returns-clause-attached : goal.returns-clause-attached
-returns-clause-attached g c = c.in-Ok.ensures.attached
-
-pub returns-clause-read : goal.returns-clause-read
-returns-clause-read g c = record {
-  counted = λ is. absurd (subst TellsRead (sym is) tt);
-  fine = λ other. c.in-Ok.ensures.read.fine (λ is. cc);
-}
-
-pub returns-clause-write : goal.returns-clause-write
-returns-clause-write g c = record {
-  counted = λ is. c.in-Err-put_accounts.ensures.cause.failed;
-  fine = λ other. absurd (other refl);
-}
-
-pub returns-clause-disk : goal.returns-clause-disk
-returns-clause-disk g c = record {
-  counted = λ is. absurd (subst TellsDisk (sym is) tt);
-  fine = λ other. c.in-Ok.ensures.disk.fine (λ is. cc);
+pub returns : goal.returns
+returns g c = record {
+  done = record {
+    answer = answers_read-write _ _ _ _ c.in-Ok.recovered c.in-Ok.ensures.ok c.in-Err-put_accounts.ensures.prefix;
+    silent = tt;
+    range = tt;
+    images = c.in-Ok.ensures.images;
+    made = λ honest follows. c.in-Ok.ensures.made honest;
+    kept = λ precedes. absurd precedes;
+    unchanged = λ honest precedes. absurd precedes;
+    exists = c.in-Ok.ensures.exists;
+    count = c.in-Ok.ensures.count;
+    attached = c.in-Ok.ensures.attached;
+    grows = c.in-Ok.ensures.grows;
+  };
+  faults = told-part g.D.LogDisk g.S.Source g.K.Sink _ _ (c.in-Ok.ensures.read.fine (λ is. cc)) c.in-Err-put_accounts.ensures.cause.failed
+      (c.in-Ok.ensures.disk.fine (λ is. cc)) c.in-Ok.ensures.honest;
 }

@@ -7,19 +7,37 @@ use Rattle.cli_demo.proofs.DemoLemmas.{answers-demo, fault-found, looks-finding,
 use Rattle.cli_demo.proofs.demo_command.demo_command.Goals as goal
 use Rattle.cli_demo.proofs.demo_command.demo_command.Goals.{In-Ok-create}
 
-pub returns-in-Err-clause-answer : goal.returns-in-Err-clause-answer
-returns-in-Err-clause-answer g c = λ honest.
+pub returns-in-Err-clause-done : goal.returns-in-Err-clause-done
+returns-in-Err-clause-done g c =
     let said = c.in-Err.ensures in
-    fault-found g.D.LogDisk _ _ _ c.args.disk.now c.finds_none.new.disk c.in-Err.detail said.fault
-    (looks-finding g.D.LogDisk c.args.disk.now c.finds_none.new.disk said.moments (said.reads honest) (said.count honest)) (said.count honest)
+    record {
+      answer = λ honest.
+          fault-found g.D.LogDisk _ _ _ c.args.disk.now c.finds_none.new.disk c.in-Err.detail said.fault
+          (looks-finding g.D.LogDisk c.args.disk.now c.finds_none.new.disk said.moments (said.reads honest) (said.count honest)) (said.count honest);
+      text = search rules;
+      range = search rules;
+      exists = search rules;
+      attached = search rules;
+    }
 
-pub returns-in_default-create-clause-answer : goal.returns-in_default-create-clause-answer
-returns-in_default-create-clause-answer g c = λ honest.
+pub returns-in_default-prepare_demo-clause-done : goal.returns-in_default-prepare_demo-clause-done
+returns-in_default-prepare_demo-clause-done g c =
+    record { answer = search rules; text = search rules; range = tt; exists = search rules; attached = search rules }
+
+pub returns-in_default-create-clause-done : goal.returns-in_default-create-clause-done
+returns-in_default-create-clause-done g c =
     let found = c.finds_none.ensures in
     let failed = c.create.ensures in
-    inl (only-makes g.D.LogDisk c.args.disk.now c.finds_none.new.disk c.create.new.disk c.in-Ok.batch.units c.in-Ok.ensures.batch
-    found.moments (found.count honest) (found.reads honest) (failed.moments (found.honest.0 honest)) (failed.count (found.honest.0 honest))
-    (failed.length (found.honest.0 honest)))
+    record {
+      answer = λ honest.
+          inl (only-makes g.D.LogDisk c.args.disk.now c.finds_none.new.disk c.create.new.disk c.in-Ok.batch.units c.in-Ok.ensures.batch
+          found.moments (found.count honest) (found.reads honest) (failed.moments (found.honest.0 honest)) (failed.count (found.honest.0 honest))
+          (failed.length (found.honest.0 honest)));
+      text = search rules;
+      range = tt;
+      exists = search rules;
+      attached = search rules;
+    }
 
 -- the log is made, and the transfers are ready to be made over it
 ready : (g : _) (c : In-Ok-create g) → IsReadyDemo g.D.LogDisk c.args.transfers c.args.seed c.args.options.now c.args.disk.now c.create.new.disk
@@ -44,16 +62,18 @@ returns g c =
     let is = ready g (goal.at.returns g c).In-Ok-create in
     let done = c.finish.ensures in
     record {
-      answer = λ honest. answers-demo g.D.LogDisk g.K.Sink _ _ _ c.requires.options c.requires.few _ _ _ _ _ _ _ _ is done.has honest
-          (created.honest.0 (found.honest.0 honest)) c.finish.result done.concludes;
-      text = text-concluded g.D.LogDisk g.K.Sink _ _ _ c.requires.options c.requires.few _ _ _ _ _ _ _ _ is done.has c.finish.result done.concludes;
-      range = range-concluded g.D.LogDisk g.K.Sink _ _ _ c.requires.options c.requires.few _ _ _ _ _ _ _ _ is done.has c.finish.result done.concludes;
+      done = record {
+        answer = λ honest. answers-demo g.D.LogDisk g.K.Sink _ _ _ c.requires.options c.requires.few _ _ _ _ _ _ _ _ is done.has honest
+            (created.honest.0 (found.honest.0 honest)) c.finish.result done.concludes;
+        text = text-concluded g.D.LogDisk g.K.Sink _ _ _ c.requires.options c.requires.few _ _ _ _ _ _ _ _ is done.has c.finish.result done.concludes;
+        range = range-concluded g.D.LogDisk g.K.Sink _ _ _ c.requires.options c.requires.few _ _ _ _ _ _ _ _ is done.has c.finish.result done.concludes;
+        exists = λ honest. tells-concluded g.D.LogDisk g.K.Sink _ _ _ c.requires.options c.requires.few _ _ _ _ _ _ _ _ is done.has _
+            (rw c.in_default.is at (found.closed honest)) c.finish.result done.concludes;
+        attached = λ honest. leaves-attached _ _ _ c.finish.result
+            (attached-ended g.D.LogDisk g.K.Sink _ _ _ _ _ _ _ _ done.has ∙ (created.attached ∙ rw c.in_default.is at (found.attached honest)));
+      };
       honest = let same = honest-ended g.D.LogDisk g.K.Sink _ _ _ _ _ _ _ _ done.has in
           (λ honest. same.0 (created.honest.0 (found.honest.0 honest)), λ honest. found.honest.1 (created.honest.1 (same.1 honest)));
-      attached = λ honest. leaves-attached _ _ _ c.finish.result
-          (attached-ended g.D.LogDisk g.K.Sink _ _ _ _ _ _ _ _ done.has ∙ (created.attached ∙ rw c.in_default.is at (found.attached honest)));
-      exists = λ honest. tells-concluded g.D.LogDisk g.K.Sink _ _ _ c.requires.options c.requires.few _ _ _ _ _ _ _ _ is done.has _
-          (rw c.in_default.is at (found.closed honest)) c.finish.result done.concludes;
       write = write-concluded g.D.LogDisk g.K.Sink _ _ _ _ _ _ _ _ done.has _ _ c.finish.result done.concludes done.write;
       disk = CountsWhere-after _ _ _ _ (search rules)
           (disk-concluded g.D.LogDisk g.K.Sink _ _ _ _ _ _ _ _ done.has _ _ c.finish.result done.concludes);

@@ -1,99 +1,48 @@
-use Rattle.std.proofs.Common.{◌∙◌, ap, Err, refl, subst, sym}
-use Rattle.cli_shared.proofs.ToldLemmas.{TellsRead, TellsWrite, kept-text, nothing-said}
+use Rattle.std.proofs.Common.{ap, Err, refl, subst}
+use Rattle.cli_shared.proofs.ToldLemmas.{TellsRead, kept-text, nothing-said}
+use Rattle.cli_reports.specs.Answers.{AnswersDump, IsAnswerToDump}
 use Rattle.cli_reports.proofs.AnswerLemmas.{answers_dump-fault, answers_dump-fine, answers_dump-write, range_dump-fault, read-fault, silent-fault, write-fault}
+use Rattle.cli_reports.proofs.ReportedLemmas.{read-whole, reported-fine, reported-none, reported-part}
 use Rattle.cli_reports.proofs.dump_command.dump_command.Goals as goal
 
 pub put_dump-requires : goal.put_dump-requires
 put_dump-requires g c = let found = c.in-Ok-listed.ensures.found in (found.records, found.has)
 
 -- the dump is written
-pub returns-in-Ok-put_dump-clause-answer : goal.returns-in-Ok-put_dump-clause-answer
-returns-in-Ok-put_dump-clause-answer g c =
+pub returns-in-Ok-put_dump : goal.returns-in-Ok-put_dump
+returns-in-Ok-put_dump g c =
     let found = rw c.as_slice.ensures.value at c.in-Ok-listed.ensures.found in
-    answers_dump-fine _ _ _ _ _ c.in-Ok-listed.list c.in-Ok.ensures.all found (c.in-Ok-put_dump.ensures.all found.records found.has)
-
-pub returns-in-Ok-put_dump-clause-silent : goal.returns-in-Ok-put_dump-clause-silent
-returns-in-Ok-put_dump-clause-silent g c = tt
-
-pub returns-in-Ok-put_dump-clause-range : goal.returns-in-Ok-put_dump-clause-range
-returns-in-Ok-put_dump-clause-range g c = tt
-
-pub returns-in-Ok-put_dump-clause-read : goal.returns-in-Ok-put_dump-clause-read
-returns-in-Ok-put_dump-clause-read g c = record {
-  counted = λ is. absurd (subst TellsRead (sym is) tt);
-  fine = λ other. c.in-Ok.ensures.faults.fine (λ is. cc);
-}
-
-pub returns-in-Ok-put_dump-clause-write : goal.returns-in-Ok-put_dump-clause-write
-returns-in-Ok-put_dump-clause-write g c = record {
-  counted = λ is. absurd (subst TellsWrite (sym is) tt);
-  fine = λ other. c.in-Ok-put_dump.ensures.cause.fine;
-}
+    reported-fine g.S.Source g.K.Sink AnswersDump IsAnswerToDump _ _ _ _ tt (c.in-Ok.ensures.faults.fine (λ is. cc)) c.in-Ok-put_dump.ensures.cause.fine
+    (answers_dump-fine _ _ _ _ _ c.in-Ok-listed.list c.in-Ok.ensures.all found (c.in-Ok-put_dump.ensures.all found.records found.has))
 
 -- the writing failed
-pub returns-clause-answer : goal.returns-clause-answer
-returns-clause-answer g c =
+pub returns : goal.returns
+returns g c =
     let found = rw c.as_slice.ensures.value at c.in-Ok-listed.ensures.found in
-    answers_dump-write _ _ _ _ _ c.in-Ok-listed.list c.in-Ok.ensures.all found (c.in-Err-put_dump.ensures.prefix found.records found.has)
+    reported-part g.S.Source g.K.Sink AnswersDump IsAnswerToDump _ _ _ _ tt (c.in-Ok.ensures.faults.fine (λ is. cc)) c.in-Err-put_dump.ensures.cause.failed
+    (answers_dump-write _ _ _ _ _ c.in-Ok-listed.list c.in-Ok.ensures.all found (c.in-Err-put_dump.ensures.prefix found.records found.has))
 
-pub returns-clause-silent : goal.returns-clause-silent
-returns-clause-silent g c = tt
-
-pub returns-clause-range : goal.returns-clause-range
-returns-clause-range g c = tt
-
-pub returns-clause-read : goal.returns-clause-read
-returns-clause-read g c = record {
-  counted = λ is. absurd (subst TellsRead (sym is) tt);
-  fine = λ other. c.in-Ok.ensures.faults.fine (λ is. cc);
-}
-
-pub returns-clause-write : goal.returns-clause-write
-returns-clause-write g c = record {
-  counted = λ is. c.in-Err-put_dump.ensures.cause.failed;
-  fine = λ other. absurd (other refl);
-}
-
--- the bytes are no log
+-- the bytes hold no list
 pub returns-in-Err : goal.returns-in-Err
 returns-in-Err g c =
     let detail = c.detail_of.ensures in
-    let fault = rw c.as_slice.ensures.value at c.in-Err.ensures.fault in
-    record {
-      answer = rw detail (answers_dump-fault _ _ _ _ _ c.in-Err.fault c.in-Ok.ensures.all fault);
-      silent = rw detail (silent-fault _ c.in-Err.fault);
-      range = rw detail (range_dump-fault _ c.in-Err.fault fault);
-      read = record {
-        counted = λ is. absurd (read-fault c.in-Err.fault (subst TellsRead (sym is ∙ detail) tt));
-        fine = λ other. c.in-Ok.ensures.faults.fine (λ is. cc);
-      };
-      write = record {
-        counted = λ is. absurd (write-fault c.in-Err.fault (subst TellsWrite (sym is ∙ detail) tt));
-        fine = λ other. refl;
-      };
-    }
+    let fault = c.in-Err.fault in
+    let is = rw c.as_slice.ensures.value at c.in-Err.ensures.fault in
+    reported-none g.S.Source g.K.Sink AnswersDump IsAnswerToDump _ _ _ _ (rw detail (range_dump-fault _ fault is))
+    (read-whole _ _ _ (c.in-Ok.ensures.faults.fine (λ is. cc)) (λ tells. read-fault fault (subst TellsRead detail tells)))
+    (rw detail (silent-fault _ fault)) (rw detail (write-fault fault))
+    (rw detail (answers_dump-fault _ _ _ _ _ fault c.in-Ok.ensures.all is))
 
 -- the bytes could not be read, or there was no memory for them
 pub returns-in-Err-Failed : goal.returns-in-Err-Failed
-returns-in-Err-Failed g c = record {
-  answer = nothing-said _;
-  silent = kept-text _;
-  range = tt;
-  read = record {
-    counted = λ is. c.in-Err-Failed.ensures.faults.counted (ap Err c.in-Err-Failed.field-0-is);
-    fine = λ other. absurd (other refl);
-  };
-  write = record { counted = λ is. absurd (subst TellsWrite (sym is) tt); fine = λ other. refl };
-}
+returns-in-Err-Failed g c =
+    reported-none g.S.Source g.K.Sink AnswersDump IsAnswerToDump _ _ _ _ tt (record {
+      counted = λ is. c.in-Err-Failed.ensures.faults.counted (ap Err c.in-Err-Failed.field-0-is);
+      fine = λ other. absurd (other refl);
+    }) (kept-text _) (λ tells. tells) (nothing-said _)
 
 pub returns-in-Err-NoMemory : goal.returns-in-Err-NoMemory
-returns-in-Err-NoMemory g c = record {
-  answer = nothing-said _;
-  silent = kept-text _;
-  range = tt;
-  read = record {
-    counted = λ is. absurd (subst TellsRead (sym is) tt);
-    fine = λ other. c.in-Err-NoMemory.ensures.faults.fine (λ is. let memory = c.in-Err-NoMemory.field-0-is in cc);
-  };
-  write = record { counted = λ is. absurd (subst TellsWrite (sym is) tt); fine = λ other. refl };
-}
+returns-in-Err-NoMemory g c =
+    let memory = c.in-Err-NoMemory.field-0-is in
+    let read = read-whole _ _ _ (c.in-Err-NoMemory.ensures.faults.fine (λ is. cc)) (λ tells. tells) in
+    reported-none g.S.Source g.K.Sink AnswersDump IsAnswerToDump _ _ _ _ tt read (kept-text _) (λ tells. tells) (nothing-said _)

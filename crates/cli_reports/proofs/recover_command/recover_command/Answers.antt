@@ -1,96 +1,44 @@
-use Rattle.std.proofs.Common.{◌∙◌, ap, Err, refl, subst, sym}
-use Rattle.cli_shared.proofs.ToldLemmas.{TellsRead, TellsWrite, kept-text, nothing-said}
+use Rattle.std.proofs.Common.{ap, Err, refl, subst}
+use Rattle.cli_shared.proofs.ToldLemmas.{TellsRead, kept-text, nothing-said}
+use Rattle.cli_reports.specs.Answers.{AnswersRecover, IsAnswerToRecover}
 use Rattle.cli_reports.proofs.AnswerLemmas.{answers-fault, answers-fine, answers-write, range-fault, read-fault, silent-fault, write-fault}
+use Rattle.cli_reports.proofs.ReportedLemmas.{read-whole, reported-fine, reported-none, reported-part}
 use Rattle.cli_reports.proofs.recover_command.recover_command.Goals as goal
 
 -- the text is written
-pub returns-in-Ok-put_accounts-clause-answer : goal.returns-in-Ok-put_accounts-clause-answer
-returns-in-Ok-put_accounts-clause-answer g c =
-    let found = c.in-Ok-recover_owned.ensures.found in
-    answers-fine _ _ _ _ _ c.in-Ok-recover_owned.recovered c.in-Ok.ensures.all found c.in-Ok-put_accounts.ensures.all
-
-pub returns-in-Ok-put_accounts-clause-silent : goal.returns-in-Ok-put_accounts-clause-silent
-returns-in-Ok-put_accounts-clause-silent g c = tt
-
-pub returns-in-Ok-put_accounts-clause-range : goal.returns-in-Ok-put_accounts-clause-range
-returns-in-Ok-put_accounts-clause-range g c = tt
-
-pub returns-in-Ok-put_accounts-clause-read : goal.returns-in-Ok-put_accounts-clause-read
-returns-in-Ok-put_accounts-clause-read g c = record {
-  counted = λ is. absurd (subst TellsRead (sym is) tt);
-  fine = λ other. c.in-Ok.ensures.faults.fine (λ is. cc);
-}
-
-pub returns-in-Ok-put_accounts-clause-write : goal.returns-in-Ok-put_accounts-clause-write
-returns-in-Ok-put_accounts-clause-write g c = record {
-  counted = λ is. absurd (subst TellsWrite (sym is) tt);
-  fine = λ other. c.in-Ok-put_accounts.ensures.cause.fine;
-}
+pub returns-in-Ok-put_accounts : goal.returns-in-Ok-put_accounts
+returns-in-Ok-put_accounts g c =
+    reported-fine g.S.Source g.K.Sink AnswersRecover IsAnswerToRecover _ _ _ _ tt (c.in-Ok.ensures.faults.fine (λ is. cc))
+    c.in-Ok-put_accounts.ensures.cause.fine
+    (answers-fine _ _ _ _ _ c.in-Ok-recover_owned.recovered c.in-Ok.ensures.all c.in-Ok-recover_owned.ensures.found c.in-Ok-put_accounts.ensures.all)
 
 -- the writing failed
-pub returns-clause-answer : goal.returns-clause-answer
-returns-clause-answer g c =
-    let found = c.in-Ok-recover_owned.ensures.found in
-    answers-write _ _ _ _ _ c.in-Ok-recover_owned.recovered c.in-Ok.ensures.all found c.in-Err-put_accounts.ensures.prefix
-
-pub returns-clause-silent : goal.returns-clause-silent
-returns-clause-silent g c = tt
-
-pub returns-clause-range : goal.returns-clause-range
-returns-clause-range g c = tt
-
-pub returns-clause-read : goal.returns-clause-read
-returns-clause-read g c = record {
-  counted = λ is. absurd (subst TellsRead (sym is) tt);
-  fine = λ other. c.in-Ok.ensures.faults.fine (λ is. cc);
-}
-
-pub returns-clause-write : goal.returns-clause-write
-returns-clause-write g c = record {
-  counted = λ is. c.in-Err-put_accounts.ensures.cause.failed;
-  fine = λ other. absurd (other refl);
-}
+pub returns : goal.returns
+returns g c =
+    reported-part g.S.Source g.K.Sink AnswersRecover IsAnswerToRecover _ _ _ _ tt (c.in-Ok.ensures.faults.fine (λ is. cc))
+    c.in-Err-put_accounts.ensures.cause.failed
+    (answers-write _ _ _ _ _ c.in-Ok-recover_owned.recovered c.in-Ok.ensures.all c.in-Ok-recover_owned.ensures.found c.in-Err-put_accounts.ensures.prefix)
 
 -- the bytes are no lawful log
 pub returns-in-Err : goal.returns-in-Err
 returns-in-Err g c =
     let detail = c.detail_of.ensures in
-    let fault = c.in-Err.ensures.fault in
-    record {
-      answer = rw detail (answers-fault _ _ _ _ _ c.in-Err.fault c.in-Ok.ensures.all fault);
-      silent = rw detail (silent-fault _ c.in-Err.fault);
-      range = rw detail (range-fault c.in-Err.fault);
-      read = record {
-        counted = λ is. absurd (read-fault c.in-Err.fault (subst TellsRead (sym is ∙ detail) tt));
-        fine = λ other. c.in-Ok.ensures.faults.fine (λ is. cc);
-      };
-      write = record {
-        counted = λ is. absurd (write-fault c.in-Err.fault (subst TellsWrite (sym is ∙ detail) tt));
-        fine = λ other. refl;
-      };
-    }
+    let fault = c.in-Err.fault in
+    reported-none g.S.Source g.K.Sink AnswersRecover IsAnswerToRecover _ _ _ _ (rw detail (range-fault fault))
+    (read-whole _ _ _ (c.in-Ok.ensures.faults.fine (λ is. cc)) (λ tells. read-fault fault (subst TellsRead detail tells)))
+    (rw detail (silent-fault _ fault)) (rw detail (write-fault fault))
+    (rw detail (answers-fault _ _ _ _ _ fault c.in-Ok.ensures.all c.in-Err.ensures.fault))
 
 -- the bytes could not be read, or there was no memory for them
 pub returns-in-Err-Failed : goal.returns-in-Err-Failed
-returns-in-Err-Failed g c = record {
-  answer = nothing-said _;
-  silent = kept-text _;
-  range = tt;
-  read = record {
-    counted = λ is. c.in-Err-Failed.ensures.faults.counted (ap Err c.in-Err-Failed.field-0-is);
-    fine = λ other. absurd (other refl);
-  };
-  write = record { counted = λ is. absurd (subst TellsWrite (sym is) tt); fine = λ other. refl };
-}
+returns-in-Err-Failed g c =
+    reported-none g.S.Source g.K.Sink AnswersRecover IsAnswerToRecover _ _ _ _ tt (record {
+      counted = λ is. c.in-Err-Failed.ensures.faults.counted (ap Err c.in-Err-Failed.field-0-is);
+      fine = λ other. absurd (other refl);
+    }) (kept-text _) (λ tells. tells) (nothing-said _)
 
 pub returns-in-Err-NoMemory : goal.returns-in-Err-NoMemory
-returns-in-Err-NoMemory g c = record {
-  answer = nothing-said _;
-  silent = kept-text _;
-  range = tt;
-  read = record {
-    counted = λ is. absurd (subst TellsRead (sym is) tt);
-    fine = λ other. c.in-Err-NoMemory.ensures.faults.fine (λ is. let memory = c.in-Err-NoMemory.field-0-is in cc);
-  };
-  write = record { counted = λ is. absurd (subst TellsWrite (sym is) tt); fine = λ other. refl };
-}
+returns-in-Err-NoMemory g c =
+    let memory = c.in-Err-NoMemory.field-0-is in
+    let read = read-whole _ _ _ (c.in-Err-NoMemory.ensures.faults.fine (λ is. cc)) (λ tells. tells) in
+    reported-none g.S.Source g.K.Sink AnswersRecover IsAnswerToRecover _ _ _ _ tt read (kept-text _) (λ tells. tells) (nothing-said _)

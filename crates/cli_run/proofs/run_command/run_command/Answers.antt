@@ -1,7 +1,8 @@
-use Rattle.std.proofs.Common.{inl, inr, rules, Err, ◌∙◌, ap, refl}
+use Rattle.std.proofs.Common.{inl, inr, rules, ◌∙◌, refl}
 use Rattle.log_disk.proofs.Counting.{CountsWhere-after}
 use Rattle.log_recovery.specs.Opened.{log_of}
 use Rattle.cli_shared.proofs.AttachedLemmas.{leaves-attached}
+use Rattle.cli_shared.proofs.FaultsTold.{told-before}
 use Rattle.cli_threads.proofs.EndingLemmas.{attached-ended, disk-concluded, honest-ended, write-concluded}
 use Rattle.cli_run.proofs.ReadyLemmas.{only-reads, ready-settled, settles}
 use Rattle.cli_run.proofs.RunAnswerLemmas.{answers-concluded, range-before, range-concluded, read-concluded, silent-before, silent-concluded, write-before}
@@ -13,28 +14,31 @@ pub returns-in-Err : goal.returns-in-Err
 returns-in-Err g c =
     let said = c.in-Err.ensures in
     record {
-      answer = λ honest. said.none honest c.args.options.now (g.K.Sink.held_bytes c.args.out.now);
-      silent = silent-before _ c.in-Err.detail said.range;
-      range = range-before c.in-Err.detail said.range;
-      honest = said.honest;
-      attached = said.attached;
-      read = record { counted = λ is. said.read.counted (ap Err is); fine = λ other. said.read.fine (λ is. other cc) };
-      write = record { counted = λ is. absurd (write-before c.in-Err.detail said.range is); fine = λ other. refl };
-      disk = record { counted = λ is. said.disk.counted (ap Err is); fine = λ other. said.disk.fine (λ is. other cc) };
+      done = record {
+        answer = λ honest. said.none honest c.args.options.now (g.K.Sink.held_bytes c.args.out.now);
+        silent = silent-before _ c.in-Err.detail said.range;
+        range = range-before c.in-Err.detail said.range;
+        attached = said.attached;
+      };
+      faults = told-before g.D.LogDisk g.S.Source g.K.Sink _ _ c.in-Err.detail (write-before c.in-Err.detail said.range) said.read refl said.disk said.honest;
     }
 
 pub returns-in_default : goal.returns-in_default
 returns-in_default g c =
     let said = c.in-Ok.ensures in
     record {
-      answer = λ honest. only-reads g.D.LogDisk c.args.disk.now c.open_and_read.new.disk (said.opened.looks honest) _ _ _;
-      silent = search rules;
-      range = tt;
-      honest = said.honest;
-      attached = λ honest. inr (said.attached honest);
-      read = record { counted = λ is. cc; fine = λ other. said.read.fine (λ is. cc) };
-      write = record { counted = λ is. cc; fine = λ other. refl };
-      disk = record { counted = λ is. cc; fine = λ other. said.disk.fine (λ is. cc) };
+      done = record {
+        answer = λ honest. only-reads g.D.LogDisk c.args.disk.now c.open_and_read.new.disk (said.opened.looks honest) _ _ _;
+        silent = search rules;
+        range = tt;
+        attached = λ honest. inr (said.attached honest);
+      };
+      faults = record {
+        read = record { counted = λ is. cc; fine = λ other. said.read.fine (λ is. cc) };
+        write = record { counted = λ is. cc; fine = λ other. refl };
+        disk = record { counted = λ is. cc; fine = λ other. said.disk.fine (λ is. cc) };
+        honest = said.honest;
+      };
     }
 
 pub returns-in_default-settle : goal.returns-in_default-settle
@@ -43,17 +47,21 @@ returns-in_default-settle g c =
     let opens = said.opened.opens in
     let settled = c.settle.ensures in
     record {
-      answer = λ honest. let honest_mid = said.honest.0 honest in let log = log_of opens.recovers.list in
-          inl (settles g.D.LogDisk c.args.disk.now c.open_and_read.new.disk c.in-Ok.read.0 opens c.settle.new.disk (said.opened.looks honest)
-          (settled.moments honest_mid log (opens.stand honest)) (settled.count honest_mid) honest (g.met.D.LogDisk.read_is_image _ honest_mid)
-          (settled.length honest_mid) _ _ _);
-      silent = tt;
-      range = tt;
-      honest = (λ honest. settled.honest.0 (said.honest.0 honest), λ honest. said.honest.1 (settled.honest.1 honest));
-      attached = λ honest. inr (settled.attached ∙ said.attached honest);
-      read = record { counted = λ is. cc; fine = λ other. said.read.fine (λ is. cc) };
-      write = record { counted = λ is. cc; fine = λ other. refl };
-      disk = search rules;
+      done = record {
+        answer = λ honest. let honest_mid = said.honest.0 honest in let log = log_of opens.recovers.list in
+            inl (settles g.D.LogDisk c.args.disk.now c.open_and_read.new.disk c.in-Ok.read.0 opens c.settle.new.disk (said.opened.looks honest)
+            (settled.moments honest_mid log (opens.stand honest)) (settled.count honest_mid) honest (g.met.D.LogDisk.read_is_image _ honest_mid)
+            (settled.length honest_mid) _ _ _);
+        silent = tt;
+        range = tt;
+        attached = λ honest. inr (settled.attached ∙ said.attached honest);
+      };
+      faults = record {
+        read = record { counted = λ is. cc; fine = λ other. said.read.fine (λ is. cc) };
+        write = record { counted = λ is. cc; fine = λ other. refl };
+        disk = search rules;
+        honest = (λ honest. settled.honest.0 (said.honest.0 honest), λ honest. said.honest.1 (settled.honest.1 honest));
+      };
     }
 
 -- the transfers are ready to be made
@@ -81,19 +89,23 @@ returns g c =
     let done = c.finish.ensures is.opened is.log in
     let settled = c.in-Ok-settle.ensures in
     record {
-      answer = λ honest. answers-concluded g.D.LogDisk g.K.Sink _ (record { prepared = c.in-Ok-prepare_run.prepared; tail = c.in-Ok-settle.tail }) _ _ _ _ _ _ _ _ _ is
-          done.has honest (settled.honest.0 (said.honest.0 honest)) c.finish.result done.concludes;
-      silent = silent-concluded g.K.Sink done.ended _ _ _ _ _ c.finish.result done.concludes;
-      range = range-concluded g.K.Sink done.ended _ _ _ c.finish.result done.concludes;
-      honest = let same = honest-ended g.D.LogDisk g.K.Sink _ is.opened _ _ _ _ _ _ done.has in
-          (λ honest. same.0 (settled.honest.0 (said.honest.0 honest)), λ honest. said.honest.1 (settled.honest.1 (same.1 honest)));
-      attached = λ honest. leaves-attached _ _ _ c.finish.result
-          (attached-ended g.D.LogDisk g.K.Sink _ is.opened _ _ _ _ _ _ done.has ∙ (settled.attached ∙ said.attached honest));
-      read = record {
-        counted = λ is. absurd (read-concluded g.K.Sink done.ended _ _ _ c.finish.result done.concludes is);
-        fine = λ other. said.read.fine (λ is. cc);
+      done = record {
+        answer = λ honest. answers-concluded g.D.LogDisk g.K.Sink _ (record { prepared = c.in-Ok-prepare_run.prepared; tail = c.in-Ok-settle.tail }) _ _ _ _ _ _ _ _ _ is
+            done.has honest (settled.honest.0 (said.honest.0 honest)) c.finish.result done.concludes;
+        silent = silent-concluded g.K.Sink done.ended _ _ _ _ _ c.finish.result done.concludes;
+        range = range-concluded g.K.Sink done.ended _ _ _ c.finish.result done.concludes;
+        attached = λ honest. leaves-attached _ _ _ c.finish.result
+            (attached-ended g.D.LogDisk g.K.Sink _ is.opened _ _ _ _ _ _ done.has ∙ (settled.attached ∙ said.attached honest));
       };
-      write = write-concluded g.D.LogDisk g.K.Sink _ is.opened _ _ _ _ _ _ done.has _ _ c.finish.result done.concludes done.write;
-      disk = CountsWhere-after _ _ _ _ (settled.cause.fine ∙ said.disk.fine (λ is. cc))
-          (disk-concluded g.D.LogDisk g.K.Sink _ is.opened _ _ _ _ _ _ done.has _ _ c.finish.result done.concludes);
+      faults = record {
+        read = record {
+          counted = λ is. absurd (read-concluded g.K.Sink done.ended _ _ _ c.finish.result done.concludes is);
+          fine = λ other. said.read.fine (λ is. cc);
+        };
+        write = write-concluded g.D.LogDisk g.K.Sink _ is.opened _ _ _ _ _ _ done.has _ _ c.finish.result done.concludes done.write;
+        disk = CountsWhere-after _ _ _ _ (settled.cause.fine ∙ said.disk.fine (λ is. cc))
+            (disk-concluded g.D.LogDisk g.K.Sink _ is.opened _ _ _ _ _ _ done.has _ _ c.finish.result done.concludes);
+        honest = let same = honest-ended g.D.LogDisk g.K.Sink _ is.opened _ _ _ _ _ _ done.has in
+            (λ honest. same.0 (settled.honest.0 (said.honest.0 honest)), λ honest. said.honest.1 (settled.honest.1 (same.1 honest)));
+      };
     }

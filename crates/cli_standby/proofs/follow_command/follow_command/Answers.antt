@@ -1,11 +1,48 @@
-use Rattle.cli_standby.proofs.FollowLemmas.{range-unsaid, silent-unsaid}
+use Rattle.std.proofs.Common.{refl}
+use Rattle.std.specs.Io.KnownBytes.{Appends}
+use Rattle.log_disk.specs.Streams.{AppendsPart}
+use Rattle.cli_shared.proofs.FaultsTold.{told-before, told-fine, told-part}
+use Rattle.cli_standby.proofs.FollowLemmas.{followed-whole, range-unsaid, silent-unsaid, write-unsaid}
 use Rattle.cli_standby.proofs.follow_command.follow_command.Goals as goal
 
-pub returns-in-Err-clause-answer : goal.returns-in-Err-clause-answer
-returns-in-Err-clause-answer g c = λ honest. c.in-Err.ensures.none honest (g.K.Sink.held_bytes c.args.out.now)
+-- the stream wasn't followed to its end
+pub returns-in-Err : goal.returns-in-Err
+returns-in-Err g c =
+    let said = c.in-Err.ensures in
+    record {
+      done = record {
+        answer = λ honest. said.none honest (g.K.Sink.held_bytes c.args.out.now);
+        silent = silent-unsaid (g.K.Sink.held_bytes c.args.out.now) c.in-Err.detail said.range;
+        range = range-unsaid c.in-Err.detail said.range;
+        attached = said.attached;
+      };
+      faults = told-before g.D.LogDisk g.S.Source g.K.Sink _ _ c.in-Err.detail (write-unsaid c.in-Err.detail said.range) said.read refl said.disk said.honest;
+    }
 
-pub returns-in-Err-clause-silent : goal.returns-in-Err-clause-silent
-returns-in-Err-clause-silent g c = silent-unsaid (g.K.Sink.held_bytes c.args.out.now) c.in-Err.detail c.in-Err.ensures.range
+-- it was, and the accounts are written
+pub returns-in-Ok-put_accounts : goal.returns-in-Ok-put_accounts
+returns-in-Ok-put_accounts g c =
+    let said = c.in-Ok.ensures in
+    record {
+      done = record {
+        answer = λ honest. followed-whole g.D.LogDisk Appends _ _ _ _ _ _ _ _ (said.ok honest) c.in-Ok-put_accounts.ensures.all;
+        silent = tt;
+        range = tt;
+        attached = said.attached;
+      };
+      faults = told-fine g.D.LogDisk g.S.Source g.K.Sink _ _ (said.read.fine (λ is. cc)) c.in-Ok-put_accounts.ensures.cause.fine (said.disk.fine (λ is. cc)) said.honest;
+    }
 
-pub returns-in-Err-clause-range : goal.returns-in-Err-clause-range
-returns-in-Err-clause-range g c = range-unsaid c.in-Err.detail c.in-Err.ensures.range
+-- it was, and the writing failed
+pub returns : goal.returns
+returns g c =
+    let said = c.in-Ok.ensures in
+    record {
+      done = record {
+        answer = λ honest. followed-whole g.D.LogDisk AppendsPart _ _ _ _ _ _ _ _ (said.ok honest) c.in-Err-put_accounts.ensures.prefix;
+        silent = tt;
+        range = tt;
+        attached = said.attached;
+      };
+      faults = told-part g.D.LogDisk g.S.Source g.K.Sink _ _ (said.read.fine (λ is. cc)) c.in-Err-put_accounts.ensures.cause.failed (said.disk.fine (λ is. cc)) said.honest;
+    }

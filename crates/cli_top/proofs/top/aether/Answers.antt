@@ -1,7 +1,7 @@
 use Rattle.std.proofs.Common.{◌∙◌, sym, ap, subst}
 use Rattle.command_line.specs.declared.command.Command.TheVariants.{New, Run, Recover, Dump, Demo, Cut, Upgrade, Ship, Follow, AsOf, Statement}
 use Rattle.cli_shared.specs.Answers.{status_of}
-use Rattle.cli_world.specs.World.{World, world}
+use Rattle.cli_shared.specs.World.{World, world}
 use Rattle.cli_top.specs.Answered.{Answered}
 use Rattle.cli_standby.proofs.Completeness.{follow-complete}
 use Rattle.cli_top.proofs.AnsweredLemmas.{count-of, done-of, faults-of, refused-of, same-of, silent-of, untouched-of, usage-of}
@@ -27,12 +27,12 @@ returns g c =
       unread = λ none. ap (λ (w : World _ _ _). w.script) (same-of _ _ _ words old new detail came none);
       unwritten = λ none. ap (λ (w : World _ _ _). w.out) (same-of _ _ _ words old new detail came none);
       untouched = untouched-of _ _ _ words old new detail came;
-      recover = λ asked. (done Recover asked).answer;
-      of_recover = λ asked. (done Recover asked).range;
-      complete_recover = λ asked. recover-complete _ _ _ _ _ _ detail (done Recover asked).answer faults.read.counted faults.write.counted;
-      dump = λ asked. (done Dump asked).answer;
-      of_dump = λ asked. (done Dump asked).range;
-      complete_dump = λ asked. dump-complete _ _ _ _ _ _ detail (done Dump asked).answer faults.read.counted faults.write.counted;
+      recover = λ asked. (done Recover asked).report.answer;
+      of_recover = λ asked. (done Recover asked).report.range;
+      complete_recover = λ asked. recover-complete _ _ _ _ _ _ detail (done Recover asked).report.answer faults.read.counted faults.write.counted;
+      dump = λ asked. (done Dump asked).report.answer;
+      of_dump = λ asked. (done Dump asked).report.range;
+      complete_dump = λ asked. dump-complete _ _ _ _ _ _ detail (done Dump asked).report.answer faults.read.counted faults.write.counted;
       new = λ asked. (done (New asked.0) asked.1).answer;
       of_new = λ asked. (done (New asked.0) asked.1).range;
       images = λ asked. (done (New asked.0) asked.1).images;
@@ -51,14 +51,14 @@ returns g c =
       quiet = λ asked. (done (Run asked.0 asked.1) asked.2).silent;
       complete_run = λ asked honest. run-complete g.D.LogDisk _ _ _ _ _ _ _ _ _ _ detail ((done (Run asked.0 asked.1) asked.2).answer honest)
           faults.read.counted faults.write.counted faults.disk.counted;
-      demo = λ log n seed options asked. (done (Demo log n seed options) asked).answer;
-      summary = λ log n seed options asked. (done (Demo log n seed options) asked).text;
-      of_demo = λ asked. (done (Demo asked.0 asked.1 asked.2 asked.3) asked.4).range;
-      exists_demo = λ asked. (done (Demo asked.0 asked.1 asked.2 asked.3) asked.4).exists;
-      attached_demo = λ log n seed options asked. (done (Demo log n seed options) asked).attached;
+      demo = λ log n seed options asked. (done (Demo log n seed options) asked).demonstrated.answer;
+      summary = λ log n seed options asked. (done (Demo log n seed options) asked).demonstrated.text;
+      of_demo = λ asked. (done (Demo asked.0 asked.1 asked.2 asked.3) asked.4).demonstrated.range;
+      exists_demo = λ asked. (done (Demo asked.0 asked.1 asked.2 asked.3) asked.4).demonstrated.exists;
+      attached_demo = λ log n seed options asked. (done (Demo log n seed options) asked).demonstrated.attached;
       unread_demo = λ asked. (done (Demo asked.0 asked.1 asked.2 asked.3) asked.4).unread;
-      complete_demo = λ asked honest. demo-complete _ _ _ detail (done (Demo asked.0 asked.1 asked.2 asked.3) asked.4).range
-          ((done (Demo asked.0 asked.1 asked.2 asked.3) asked.4).exists honest) faults.write.counted faults.disk.counted;
+      complete_demo = λ asked honest. demo-complete _ _ _ detail (done (Demo asked.0 asked.1 asked.2 asked.3) asked.4).demonstrated.range
+          ((done (Demo asked.0 asked.1 asked.2 asked.3) asked.4).demonstrated.exists honest) faults.write.counted faults.disk.counted;
       cut = λ log asked. done (Cut log) asked;
       complete_cut = λ asked honest closed. cut-complete _ _ _ _ _ _ _ _ detail (done (Cut asked.0) asked.1).answer
           ((done (Cut asked.0) asked.1).exists honest) faults.read.counted faults.write.counted faults.disk.counted closed;
@@ -67,13 +67,13 @@ returns g c =
           ((done (Upgrade asked.0) asked.1).exists honest) faults.read.counted faults.write.counted faults.disk.counted closed;
       ship = λ from asked. done (Ship from) asked;
       complete_ship = λ from asked.
-          boundary-complete _ from _ _ _ _ _ _ detail (done (Ship from) asked).answer faults.read.counted faults.write.counted;
+          boundary-complete _ from _ _ _ _ _ _ detail (done (Ship from) asked).report.answer faults.read.counted faults.write.counted;
       asof = λ lsn asked. done (AsOf lsn) asked;
       complete_asof = λ lsn asked.
-          boundary-complete _ lsn _ _ _ _ _ _ detail (done (AsOf lsn) asked).answer faults.read.counted faults.write.counted;
+          boundary-complete _ lsn _ _ _ _ _ _ detail (done (AsOf lsn) asked).report.answer faults.read.counted faults.write.counted;
       statement = λ account asked. done (Statement account) asked;
       complete_statement = λ account asked.
-          account-complete _ account _ _ _ _ _ _ detail (done (Statement account) asked).answer faults.read.counted faults.write.counted;
+          account-complete _ account _ _ _ _ _ _ detail (done (Statement account) asked).report.answer faults.read.counted faults.write.counted;
       follow = λ log asked. done (Follow log) asked;
       complete_follow = λ asked honest. follow-complete g.D.LogDisk _ _ _ _ _ _ _ _ _ detail ((done (Follow asked.0) asked.1).answer honest)
           faults.read.counted faults.write.counted faults.disk.counted;

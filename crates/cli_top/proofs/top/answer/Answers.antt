@@ -1,5 +1,5 @@
 use Rattle.cli_world.specs.Alone.{command_of}
-use Rattle.cli_world.specs.World.{world}
+use Rattle.cli_shared.specs.World.{world}
 use Rattle.cli_top.proofs.AnsweredLemmas.{answered-alone, answered-then}
 use Rattle.cli_top.proofs.top.answer.Goals as goal
 

@@ -2,7 +2,7 @@ use Rattle.std.proofs.Common.{refl, subst, sym}
 use Rattle.cli_demo.specs.Demo.{IsAnswerToDemo}
 use Rattle.command_line.specs.CommandLine.{IsCommandLine}
 use Rattle.cli_world.specs.Alone.{command_of}
-use Rattle.cli_world.specs.World.{world}
+use Rattle.cli_shared.specs.World.{world}
 use Rattle.cli_top.specs.Answered.{Obeys}
 use Rattle.command_line.proofs.AskedOptions.{demo-options, run-options}
 use Rattle.cli_top.proofs.top.obey.Goals as goal
@@ -20,15 +20,7 @@ returns-in-Run g c =
     let called = c.run_command.ensures in
     subst (λ asked. Obeys g.D.LogDisk g.S.Source g.K.Sink (command_of asked) (world c.args.disk.now c.args.script.now c.args.out.now)
     (world c.run_command.new.disk c.run_command.new.script c.run_command.new.out) c.run_command.result) (sym c.in-Run.is)
-    (record {
-      faults = record {
-        read = called.read;
-        write = called.write;
-        disk = called.disk;
-        honest = called.honest;
-      };
-      done = record { answer = called.answer; silent = called.silent; range = called.range; attached = called.attached };
-    })
+    (record { faults = called.faults; done = called.done })
 
 pub returns-in-Demo : goal.returns-in-Demo
 returns-in-Demo g c =
@@ -37,10 +29,10 @@ returns-in-Demo g c =
     (world c.demo_command.new.disk c.args.script.now c.demo_command.new.out) c.demo_command.result) (sym c.in-Demo.is)
     (record {
       faults = record {
-        read = record { counted = λ read. absurd (subst IsAnswerToDemo read called.range); fine = λ other. refl };
+        read = record { counted = λ read. absurd (subst IsAnswerToDemo read called.done.range); fine = λ other. refl };
         write = called.write;
         disk = called.disk;
         honest = called.honest;
       };
-      done = record { answer = called.answer; text = called.text; range = called.range; exists = called.exists; unread = refl; attached = called.attached };
+      done = record { demonstrated = called.done; unread = refl };
     })

@@ -7,40 +7,35 @@ pub returns-in-Ok-New : goal.returns-in-Ok-New
 returns-in-Ok-New g c = inl (record {
   command = New c.in-Ok-New.log;
   asked = subst (IsCommandLine c.args.words.now) c.in-Ok-New.field-0-is c.in-Ok-New.ensures.exact;
-  done = c.obey_new.ensures.done;
-  faults = c.obey_new.ensures.faults;
+  obeys = record { done = c.new_command.ensures.done; faults = c.new_command.ensures.faults };
 })
 
 pub returns-in-Ok-Recover : goal.returns-in-Ok-Recover
 returns-in-Ok-Recover g c = inl (record {
   command = Recover;
   asked = subst (IsCommandLine c.args.words.now) c.in-Ok-Recover.field-0-is c.in-Ok-Recover.ensures.exact;
-  done = c.obey_recover.ensures.done;
-  faults = c.obey_recover.ensures.faults;
+  obeys = c.obey_recover.ensures;
 })
 
 pub returns-in-Ok-Dump : goal.returns-in-Ok-Dump
 returns-in-Ok-Dump g c = inl (record {
   command = Dump;
   asked = subst (IsCommandLine c.args.words.now) c.in-Ok-Dump.field-0-is c.in-Ok-Dump.ensures.exact;
-  done = c.obey_dump.ensures.done;
-  faults = c.obey_dump.ensures.faults;
+  obeys = c.obey_dump.ensures;
 })
 
 pub returns-in-Ok-Cut : goal.returns-in-Ok-Cut
 returns-in-Ok-Cut g c = inl (record {
   command = Cut c.in-Ok-Cut.log;
   asked = subst (IsCommandLine c.args.words.now) c.in-Ok-Cut.field-0-is c.in-Ok-Cut.ensures.exact;
-  done = c.obey_cut.ensures.done;
-  faults = c.obey_cut.ensures.faults;
+  obeys = record { done = c.cut_command.ensures.done; faults = c.cut_command.ensures.faults };
 })
 
 pub returns-in-Ok-Upgrade : goal.returns-in-Ok-Upgrade
 returns-in-Ok-Upgrade g c = inl (record {
   command = Upgrade c.in-Ok-Upgrade.log;
   asked = subst (IsCommandLine c.args.words.now) c.in-Ok-Upgrade.field-0-is c.in-Ok-Upgrade.ensures.exact;
-  done = c.obey_upgrade.ensures.done;
-  faults = c.obey_upgrade.ensures.faults;
+  obeys = record { done = c.upgrade_command.ensures.done; faults = c.upgrade_command.ensures.faults };
 })
 
 pub returns-in-Ok-Run : goal.returns-in-Ok-Run
@@ -59,30 +54,26 @@ pub returns-in-Ok-Ship : goal.returns-in-Ok-Ship
 returns-in-Ok-Ship g c = inl (record {
   command = Ship c.in-Ok-Ship.from;
   asked = subst (IsCommandLine c.args.words.now) c.in-Ok-Ship.field-0-is c.in-Ok-Ship.ensures.exact;
-  done = c.obey_ship.ensures.done;
-  faults = c.obey_ship.ensures.faults;
+  obeys = c.obey_ship.ensures;
 })
 
 pub returns-in-Ok-Follow : goal.returns-in-Ok-Follow
 returns-in-Ok-Follow g c = inl (record {
   command = Follow c.in-Ok-Follow.log;
   asked = subst (IsCommandLine c.args.words.now) c.in-Ok-Follow.field-0-is c.in-Ok-Follow.ensures.exact;
-  done = c.obey_follow.ensures.done;
-  faults = c.obey_follow.ensures.faults;
+  obeys = record { done = c.follow_command.ensures.done; faults = c.follow_command.ensures.faults };
 })
 
 pub returns-in-Ok-AsOf : goal.returns-in-Ok-AsOf
 returns-in-Ok-AsOf g c = inl (record {
   command = AsOf c.in-Ok-AsOf.lsn;
   asked = subst (IsCommandLine c.args.words.now) c.in-Ok-AsOf.field-0-is c.in-Ok-AsOf.ensures.exact;
-  done = c.obey_asof.ensures.done;
-  faults = c.obey_asof.ensures.faults;
+  obeys = c.obey_asof.ensures;
 })
 
 pub returns-in-Ok-Statement : goal.returns-in-Ok-Statement
 returns-in-Ok-Statement g c = inl (record {
   command = Statement c.in-Ok-Statement.account;
   asked = subst (IsCommandLine c.args.words.now) c.in-Ok-Statement.field-0-is c.in-Ok-Statement.ensures.exact;
-  done = c.obey_statement.ensures.done;
-  faults = c.obey_statement.ensures.faults;
+  obeys = c.obey_statement.ensures;
 })

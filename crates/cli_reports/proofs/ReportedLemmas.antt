@@ -1,0 +1,59 @@
+-- What a command has done that reads a log and writes a report of it, by how that went.
+use Rattle.std.proofs.Common.{◌≡◌, ℕ, List, Option, Err, IfSome, IsErrOf, ap, refl, subst, sym}
+use Rattle.log_disk.specs.Faults.{CountsWhere, Rose}
+use Rattle.log_disk.specs.declared.source.Source.{Ghosts as SourceGhosts}
+use Rattle.log_disk.specs.declared.sink.Sink.{Ghosts as SinkGhosts}
+use Rattle.cli_shared.specs.Answers.{StaysSilent}
+use Rattle.cli_shared.specs.declared.report.Detail.{Detail}
+use Rattle.cli_shared.specs.declared.report.Detail.TheVariants.{Fine, Read, Write}
+use Rattle.cli_shared.proofs.ToldLemmas.{TellsRead, TellsWrite}
+use Rattle.cli_reports.specs.Command.{HasReported}
+
+module _ {S K : Type 0} (h : SourceGhosts S) (i : SinkGhosts K)
+    (Answers : List ℕ → Option (List ℕ) → Option (List ℕ) → Option (List ℕ) → Detail → Type 0) (IsAnswer : Detail → Type 0)
+    (script script_new : S) (out : K) where
+  -- all is written
+  pub reported-fine : (out_new : K) → IsAnswer Fine → h.faults script_new ≡ h.faults script → i.faults out_new ≡ i.faults out
+      → IfSome (h.left script) (λ bytes. Answers bytes (h.left script_new) (i.held_bytes out) (i.held_bytes out_new) Fine)
+      → HasReported h i Answers IsAnswer script script_new out out_new Fine
+  reported-fine out_new range read write answer = record {
+    answer = answer;
+    silent = tt;
+    range = range;
+    read = record { counted = λ is. absurd (subst TellsRead (sym is) tt); fine = λ other. read };
+    write = record { counted = λ is. absurd (subst TellsWrite (sym is) tt); fine = λ other. write };
+  }
+
+  -- the writing failed
+  pub reported-part : (out_new : K) → IsAnswer Write → h.faults script_new ≡ h.faults script → Rose (i.faults out) (i.faults out_new)
+      → IfSome (h.left script) (λ bytes. Answers bytes (h.left script_new) (i.held_bytes out) (i.held_bytes out_new) Write)
+      → HasReported h i Answers IsAnswer script script_new out out_new Write
+  reported-part out_new range read write answer = record {
+    answer = answer;
+    silent = tt;
+    range = range;
+    read = record { counted = λ is. absurd (subst TellsRead (sym is) tt); fine = λ other. read };
+    write = record { counted = λ is. write; fine = λ other. absurd (other refl) };
+  }
+
+  -- nothing was written
+  pub reported-none : (detail : Detail) → IsAnswer detail → CountsWhere (detail ≡ Read) (h.faults script) (h.faults script_new)
+      → StaysSilent (i.held_bytes out) (i.held_bytes out) detail → (TellsWrite detail → ⊥)
+      → IfSome (h.left script) (λ bytes. Answers bytes (h.left script_new) (i.held_bytes out) (i.held_bytes out) detail)
+      → HasReported h i Answers IsAnswer script script_new out out detail
+  reported-none detail range read silent write answer = record {
+    answer = answer;
+    silent = silent;
+    range = range;
+    read = read;
+    write = record { counted = λ is. absurd (write (subst TellsWrite (sym is) tt)); fine = λ other. refl };
+  }
+
+-- the input was read to its end
+pub read-whole : (before now : ℕ) (detail : Detail) → now ≡ before → (TellsRead detail → ⊥) → CountsWhere (detail ≡ Read) before now
+read-whole before now detail same other = record { counted = λ is. absurd (other (subst TellsRead (sym is) tt)); fine = λ _. same }
+
+-- the detail is the one that the reading gave
+pub read-as : {T : Type 0} (before now : ℕ) (detail : Detail) → CountsWhere (IsErrOf {T = T} (Err detail) Read) before now
+    → CountsWhere (detail ≡ Read) before now
+read-as before now detail read = record { counted = λ is. read.counted (ap Err is); fine = λ other. read.fine (λ is. other cc) }

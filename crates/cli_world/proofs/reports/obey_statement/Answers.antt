@@ -1,0 +1,12 @@
+use Rattle.std.proofs.Common.{refl, subst}
+use Rattle.cli_reports.specs.Reports.{IsAnswerOnAccount}
+use Rattle.cli_world.proofs.Untouched.{untouched-faults}
+use Rattle.cli_world.proofs.reports.obey_statement.Goals as goal
+
+pub returns : goal.returns
+returns g c =
+    let report = c.statement_command.ensures in
+    record {
+      done = record { report = report; untouched = refl {a = c.args.disk.now} };
+      faults = untouched-faults g.D.LogDisk g.S.Source g.K.Sink _ _ c.args.disk.now _ _ _ _ c.statement_command.result (λ disk. subst IsAnswerOnAccount disk report.range) report;
+    }
