@@ -1,5 +1,5 @@
 -- What `new` answers: what it leaves of the input and what it writes.
-use Rattle.std.specs.Prelude.{◌≡◌, ℕ, List, [], Option, Some}
+use Rattle.std.specs.Prelude.{◌≡◌, ℕ, List, [], Option, Some, Result, MatchResult}
 use Rattle.std.specs.Io.KnownBytes.{Appends}
 use Rattle.log_disk.specs.Streams.{AppendsPart}
 use Rattle.log_recovery.specs.Text.{accounts_text}
@@ -37,6 +37,10 @@ IsMakingFault left left_new detail = IsInputFault left left_new detail
 -- the accounts are those of the whole input
 abbrev pub AreOpening : Option (List ℕ) → Option (List ℕ) → Accounts → Type 0
 AreOpening left left_new accounts = (text : List ℕ) × ReadsAll left left_new text × ReadsBalances text accounts
+
+-- the accounts are, or why the input gives none
+abbrev pub ReadsOpening : Option (List ℕ) → Option (List ℕ) → Result Accounts Detail → Type 0
+ReadsOpening left left_new result = MatchResult result (AreOpening left left_new) (IsInputFault left left_new)
 
 -- `new` on these bytes: what is left of them and what is written, for each detail. Where all is fine, or the writing
 -- failed, the input was read to its end, and what is written is the text of the new log, or a part of it.

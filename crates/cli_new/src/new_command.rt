@@ -4,7 +4,7 @@ ghost use Rattle.log_disk.specs.Costs.{Costs};
 ghost use Rattle.log_disk.specs.Disk.{Leaves};
 ghost use Rattle.log_disk.specs.Faults.{CountsWhere};
 ghost use Rattle.segment_file.specs.File.{BeginsOpen};
-ghost use Rattle.cli_new.specs.Answers.{AreOpening, IsInputFault, IsMakingFault};
+ghost use Rattle.cli_new.specs.Answers.{AreOpening, IsMakingFault, ReadsOpening};
 ghost use Rattle.cli_shared.specs.Attached.{EndsAttached};
 ghost use Rattle.cli_new.specs.Creation.{AllHoldNew, GrowsByNew, MayBeLeft, PrecedesLog};
 ghost use Rattle.cli_shared.specs.Creation.{TellsWhether};
@@ -80,8 +80,7 @@ fn make_log<D: LogDisk, S: Source>(
 
 /// The balances that the input is the text of.
 fn read_balances<S: Source>(alloc: Global, script: &mut S) -> Result<Balances, Detail>
-    ensures ok { IfOk result (AreOpening (S.left script.old) (S.left script.new)) }
-    ensures err { IfErr result (IsInputFault (S.left script.old) (S.left script.new)) }
+    ensures answer { ReadsOpening (S.left script.old) (S.left script.new) result }
     ensures read { CountsWhere (IsErrOf result Detail.Read) (S.faults script.old) (S.faults script.new) }
 {
     let bytes = match read_all(alloc, script) {
