@@ -3,11 +3,22 @@ use Rattle.std.proofs.Common.{◌≡◌, ℕ, List, Option, Err, IfSome, IsErrOf
 use Rattle.log_disk.specs.Faults.{CountsWhere, Rose}
 use Rattle.log_disk.specs.declared.source.Source.{Ghosts as SourceGhosts}
 use Rattle.log_disk.specs.declared.sink.Sink.{Ghosts as SinkGhosts}
-use Rattle.cli_shared.specs.Answers.{StaysSilent}
+use Rattle.log_recovery.specs.declared.recovery.RecoverFault.{RecoverFault}
+use Rattle.cli_shared.specs.Answers.{StaysSilent, recover_detail}
 use Rattle.cli_shared.specs.declared.report.Detail.{Detail}
-use Rattle.cli_shared.specs.declared.report.Detail.TheVariants.{Fine, Read, Write}
-use Rattle.cli_shared.proofs.ToldLemmas.{TellsRead, TellsWrite}
+use Rattle.cli_shared.specs.declared.report.Detail.TheVariants.{Fine, NoMemory, Read, Write}
+use Rattle.cli_shared.proofs.ToldLemmas.{TellsRead, TellsWrite, kept-text}
 use Rattle.cli_reports.specs.Command.{HasReported}
+use Rattle.cli_reports.proofs.AnswerLemmas.{read-fault, silent-fault, write-fault}
+
+-- the input was read to its end
+pub read-whole : (before now : ℕ) (detail : Detail) → now ≡ before → (TellsRead detail → ⊥) → CountsWhere (detail ≡ Read) before now
+read-whole before now detail same other = record { counted = λ is. absurd (other (subst TellsRead (sym is) tt)); fine = λ _. same }
+
+-- the detail is the one that the reading gave
+pub read-as : {T : Type 0} (before now : ℕ) (detail : Detail) → CountsWhere (IsErrOf {T = T} (Err detail) Read) before now
+    → CountsWhere (detail ≡ Read) before now
+read-as before now detail read = record { counted = λ is. read.counted (ap Err is); fine = λ other. read.fine (λ is. other cc) }
 
 module _ {S K : Type 0} (h : SourceGhosts S) (i : SinkGhosts K)
     (Answers : List ℕ → Option (List ℕ) → Option (List ℕ) → Option (List ℕ) → Detail → Type 0) (IsAnswer : Detail → Type 0)
@@ -49,11 +60,23 @@ module _ {S K : Type 0} (h : SourceGhosts S) (i : SinkGhosts K)
     write = record { counted = λ is. absurd (write (subst TellsWrite (sym is) tt)); fine = λ other. refl };
   }
 
--- the input was read to its end
-pub read-whole : (before now : ℕ) (detail : Detail) → now ≡ before → (TellsRead detail → ⊥) → CountsWhere (detail ≡ Read) before now
-read-whole before now detail same other = record { counted = λ is. absurd (other (subst TellsRead (sym is) tt)); fine = λ _. same }
+  -- the bytes have this fault
+  pub reported-fault : (f : RecoverFault) (detail : Detail) → detail ≡ recover_detail f → IsAnswer (recover_detail f)
+      → h.faults script_new ≡ h.faults script
+      → IfSome (h.left script) (λ bytes. Answers bytes (h.left script_new) (i.held_bytes out) (i.held_bytes out) (recover_detail f))
+      → HasReported h i Answers IsAnswer script script_new out out detail
+  reported-fault f detail is range read answer = subst (HasReported h i Answers IsAnswer script script_new out out) (sym is)
+      (reported-none (recover_detail f) range (read-whole _ _ _ read (read-fault f)) (silent-fault _ f) (write-fault f) answer)
 
--- the detail is the one that the reading gave
-pub read-as : {T : Type 0} (before now : ℕ) (detail : Detail) → CountsWhere (IsErrOf {T = T} (Err detail) Read) before now
-    → CountsWhere (detail ≡ Read) before now
-read-as before now detail read = record { counted = λ is. read.counted (ap Err is); fine = λ other. read.fine (λ is. other cc) }
+  -- the input couldn't be read
+  pub reported-failed : IsAnswer Read → Rose (h.faults script) (h.faults script_new)
+      → IfSome (h.left script) (λ bytes. Answers bytes (h.left script_new) (i.held_bytes out) (i.held_bytes out) Read)
+      → HasReported h i Answers IsAnswer script script_new out out Read
+  reported-failed range read answer =
+      reported-none Read range (record { counted = λ is. read; fine = λ other. absurd (other refl) }) (kept-text _) (λ tells. tells) answer
+
+  -- there was no memory for the input
+  pub reported-wanting : IsAnswer NoMemory → h.faults script_new ≡ h.faults script
+      → IfSome (h.left script) (λ bytes. Answers bytes (h.left script_new) (i.held_bytes out) (i.held_bytes out) NoMemory)
+      → HasReported h i Answers IsAnswer script script_new out out NoMemory
+  reported-wanting range read answer = reported-none NoMemory range (read-whole _ _ _ read (λ tells. tells)) (kept-text _) (λ tells. tells) answer
