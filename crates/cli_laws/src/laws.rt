@@ -62,8 +62,8 @@ pub fn new_is_recovered()
 pub fn run_is_recovered()
     ensures status { (bytes : List ℕ) (list : OpenedList) (left old new : Option (List ℕ)) (detail : Detail)
         → HoldsLawful bytes list → AnswersRecover bytes left old new detail → status_of detail ≢ 7 }
-    ensures text { (bytes : List ℕ) (opened : OpenedList) (list : List Rec) (jobs : NumberedJobs) (sharing : Sharing) (left old new : Option (List ℕ))
-        → (held : HoldsRun opened jobs sharing list bytes) → AnswersRecover bytes left old new Detail.Fine
+    ensures text { (bytes : List ℕ) (opened : OpenedList) (list : List Rec) (jobs : NumberedJobs) (sharing : Sharing)
+        (left old new : Option (List ℕ)) → (held : HoldsRun opened jobs sharing list bytes) → AnswersRecover bytes left old new Detail.Fine
         → Appends old new (accounts_text (with_records opened held.front)) }
 {}
 
@@ -141,8 +141,8 @@ pub fn told_commits_are_held<D: LogDisk>()
     ensures text { (bytes text rest : List ℕ) (opened : OpenedList) (front : List Rec) (txn end : ℕ)
         → HoldsLawful bytes (with_records opened front)
         → run_text opened front ≡ text ++ rest → HasLine text (done_line txn end) → HasCommitAt (list_end opened) front txn end }
-    ensures image { (opened : OpenedList) (list : List Rec) (jobs : NumberedJobs) (sharing : Sharing) (old new : Outside D) (image before text : List ℕ)
-        (txn end : ℕ) → (held : HoldsTold D.LogDisk opened jobs sharing list old new image) → old.text ≡ Some before
+    ensures image { (opened : OpenedList) (list : List Rec) (jobs : NumberedJobs) (sharing : Sharing) (old new : Outside D)
+        (image before text : List ℕ) (txn end : ℕ) → (held : HoldsTold D.LogDisk opened jobs sharing list old new image) → old.text ≡ Some before
         → new.text ≡ Some (before ++ text) → HasLine text (done_line txn end) → HasCommitAt (list_end opened) held.run.front txn end }
     ensures met { HasToldPayment }
 {}
