@@ -1,31 +1,28 @@
 -- Where nothing stands in its way, `follow` succeeds.
-use Rattle.std.proofs.Common.{◌≡◌, ◌∙◌, refl, sym, ap, subst, ℕ, List, [], ◌∷◌, ◌++◌, append_assoc, Option, Some, None, IfSome}
+use Rattle.std.proofs.Common.{◌≡◌, ◌∙◌, ⊎_elim, inl, inr, refl, sym, ap, subst, ℕ, List, [], ◌∷◌, ◌++◌, append_assoc, Option, Some, None, IfSome}
 use Rattle.log_disk.specs.declared.disk.LogDisk.{Ghosts}
 use Rattle.log_record.specs.declared.rec.Rec.{Rec}
 use Rattle.lock_core.proofs.Fronts.{lawful-records}
 use Rattle.lock_core.specs.History.{history_from}
 use Rattle.lock_core.specs.Lawful.{IsLawful}
+use Rattle.lock_core.specs.declared.reason.Why.{Why}
 use Rattle.log_recovery.specs.declared.recovery.RecoverFault.{RecoverFault}
-use Rattle.log_recovery.specs.declared.recovery.RecoverFault.TheVariants as fault
 use Rattle.log_recovery.specs.Opened.{OpenedList, list_end, opening_before, placed}
 use Rattle.log_recovery.specs.Recovery.{HoldsLawful, IsFaultOf}
 use Rattle.log_recovery.proofs.AnswerLemmas.{lawful-fault, lawful-unlawful, one-list}
 use Rattle.ship_stream.specs.Stream.{HasFrames, records_of}
 use Rattle.ship_stream.proofs.StreamLemmas.{one_stream-fine, one_stream-front}
 use Rattle.standby.specs.Applying.{with_frames}
+use Rattle.standby.specs.declared.fault.StandbyFault.{StandbyFault}
+use Rattle.standby.specs.declared.fault.StandbyFault.TheVariants as stream
 use Rattle.standby.proofs.FrameLists.{records_of-append}
+use Rattle.cli_shared.specs.Answers.{recover_detail}
 use Rattle.cli_shared.specs.Outside.{Outside, outside}
 use Rattle.cli_shared.specs.declared.report.Detail.{Detail}
-use Rattle.cli_shared.specs.declared.report.Detail.TheVariants.{Fine, NoMemory, Usage, Script, Read, Write, Disk, NotALog, BadSnapshot, BadBatch, BadRec, Unlawful, LogEnd, TxnEnd, Exists, NoSuchLsn, BadStream, Gap, StreamUnlawful, NoAccount}
-use Rattle.cli_standby.specs.Following.{AnswersFollow, IsFollowDone, IsLawfulStream}
-
--- no fault of a lawful log but want of memory
-abbrev IsMemory : RecoverFault → Type 0
-IsMemory fault.NoMemory = Unit {0}
-IsMemory f = ⊥
-
-no-fault : (bytes : List ℕ) (list : OpenedList) (found : RecoverFault) → HoldsLawful bytes list → IsFaultOf bytes found → IsMemory found
-no-fault bytes list found held is = subst IsMemory (sym (lawful-fault bytes list found held is)) tt
+use Rattle.cli_shared.specs.declared.report.Detail.TheVariants.{Read, Write, Disk, BadStream, Gap, StreamUnlawful}
+use Rattle.cli_standby.specs.Following.{AnswersFollow, IsFollowDone, IsLawfulStream, Stopped}
+use Rattle.cli_standby.specs.Feeding.{stream_detail}
+use Rattle.cli_standby.proofs.FollowCases.{feeding-each, follow-case, FollowCase}
 
 -- the list with the first of some frames is lawful where it is with all
 lawful-frames : (list : OpenedList) (frames later : List (List Rec))
@@ -58,42 +55,51 @@ module _ {D : Type 0} (g : Ghosts D) (disk disk_new : D) (bytes : List ℕ) (lef
       lawful-frames opened frames front.1
       (subst (λ fs. IsLawful (opening_before opened) (placed (with_frames opened fs))) front.2 asked.lawful)
 
-  pub follow-done : (detail : Detail) → AnswersFollow g old new detail → (detail ≡ Read → ReadFails) → (detail ≡ Write → WriteFails)
-      → (detail ≡ Disk → DiskFails) → IsFollowDone detail
-  follow-done Fine answers reads writes disks = tt
-  follow-done NoMemory answers reads writes disks = tt
-  follow-done Read answers reads writes disks = absurd (no_read (reads refl))
-  follow-done Write answers reads writes disks = absurd (no_write (writes refl))
-  follow-done Disk answers reads writes disks = absurd (no_disk (disks refl))
-  follow-done (BadStream offset) answers reads writes disks =
-      let cause = answers.cause.1 in
-      absurd (one_stream-fine bytes (list_end opened) asked.frames offset asked.stream (cause.0, cause.3))
-  follow-done (Gap have from) answers reads writes disks =
-      let cause = answers.cause in
+  -- a stream has no bad part
+  no-bad-stream : (offset : ℕ) → Stopped g (BadStream offset) old new → ⊥
+  no-bad-stream offset stopped =
+      let cause = stopped.cause.1 in
+      one_stream-fine bytes (list_end opened) asked.frames offset asked.stream (cause.0, cause.3)
+
+  -- it begins where the list ends
+  no-gap : (have from : ℕ) → Stopped g (Gap have from) old new → ⊥
+  no-gap have from stopped =
+      let cause = stopped.cause in
       let front = one_stream-front bytes (list_end opened) from asked.frames [] cause.4.0 asked.stream cause.4.1 in
-      let same = ap list_end (same-list answers.opened answers.followed.held) in
-      absurd (cause.3 (front.0 ∙ sym (cause.2 ∙ same)))
-  follow-done (StreamUnlawful lsn why) answers reads writes disks =
-      let same = same-list answers.opened answers.followed.held in
-      let cause = answers.cause.1 in
-      let frames : List (List Rec) = answers.frames ++ cause.0 ∷ [] in
+      cause.3 (front.0 ∙ sym (cause.2 ∙ ap list_end (same-list stopped.opened stopped.followed.held)))
+
+  no-unlawful : (lsn : ℕ) (why : Why) → Stopped g (StreamUnlawful lsn why) old new → ⊥
+  no-unlawful lsn why stopped =
+      let same = same-list stopped.opened stopped.followed.held in
+      let cause = stopped.cause.1 in
+      let frames : List (List Rec) = stopped.frames ++ cause.0 ∷ [] in
       let has = subst (λ (list : OpenedList). HasFrames bytes (list_end list) frames cause.1.0) same cause.1.1 in
       let lawful = subst (λ (list : OpenedList). IsLawful (opening_before list) (placed (with_frames list frames))) (sym same)
       (stays-lawful frames (cause.1.0, has)) in
-      absurd (lawful-unlawful (opening_before answers.opened) (placed (with_frames answers.opened frames)) lsn why lawful cause.2)
-  follow-done NotALog answers reads writes disks = absurd (no-fault (g.reads disk) opened fault.NotALog held answers.1)
-  follow-done BadSnapshot answers reads writes disks = absurd (no-fault (g.reads disk) opened fault.BadSnapshot held answers.1)
-  follow-done (BadBatch offset) answers reads writes disks = absurd (no-fault (g.reads disk) opened (fault.BadBatch offset) held answers.1)
-  follow-done (BadRec lsn) answers reads writes disks = absurd (no-fault (g.reads disk) opened (fault.BadRec lsn) held answers.1)
-  follow-done (Unlawful lsn why) answers reads writes disks =
-      absurd (no-fault (g.reads disk) opened (fault.Unlawful lsn why) held answers.1)
-  follow-done Usage answers reads writes disks = absurd answers.cause
-  follow-done (Script line) answers reads writes disks = absurd answers.cause
-  follow-done (LogEnd tail total) answers reads writes disks = absurd answers.cause
-  follow-done (TxnEnd first count) answers reads writes disks = absurd answers.cause
-  follow-done Exists answers reads writes disks = absurd answers.cause
-  follow-done (NoSuchLsn lsn) answers reads writes disks = absurd answers.cause
-  follow-done (NoAccount account) answers reads writes disks = absurd answers.cause
+      lawful-unlawful (opening_before stopped.opened) (placed (with_frames stopped.opened frames)) lsn why lawful cause.2
+
+  stopped-done : (f : StandbyFault) → Stopped g (stream_detail f) old new → (stream_detail f ≡ Disk → DiskFails)
+      → IsFollowDone (stream_detail f)
+  stopped-done (stream.BadStream offset) stopped disks = absurd (no-bad-stream offset stopped)
+  stopped-done (stream.Gap have from) stopped disks = absurd (no-gap have from stopped)
+  stopped-done (stream.StreamUnlawful lsn why) stopped disks = absurd (no-unlawful lsn why stopped)
+  stopped-done stream.DiskFault stopped disks = absurd (no_disk (disks refl))
+  stopped-done stream.NoMemory stopped disks = tt
+
+  -- a lawful log has no fault but want of memory
+  found-done : (f : RecoverFault) → IsFaultOf (g.reads disk) f → IsFollowDone (recover_detail f)
+  found-done f is = subst (λ f. IsFollowDone (recover_detail f)) (sym (lawful-fault (g.reads disk) opened f held is)) tt
+
+  case-done : (detail : Detail) → FollowCase g old new detail → (detail ≡ Read → ReadFails) → (detail ≡ Write → WriteFails)
+      → (detail ≡ Disk → DiskFails) → IsFollowDone detail
+  case-done detail (inl whole) reads writes disks =
+      ⊎_elim (λ fine. subst IsFollowDone (sym fine) tt) (λ write. absurd (no_write (writes write))) whole.3
+  case-done detail (inr (inl looked)) reads writes disks =
+      ⊎_elim (λ failed. absurd (no_disk (disks failed))) (λ found. subst IsFollowDone found.2 (found-done found.0 found.1)) looked.1
+  case-done detail (inr (inr stopped)) reads writes disks =
+      feeding-each (λ d. Stopped g d old new → (d ≡ Read → ReadFails) → (d ≡ Disk → DiskFails) → IsFollowDone d)
+      (λ unread reads disks. absurd (no_read (reads refl))) (λ f ended reads disks. stopped-done f ended disks)
+      detail stopped.1 stopped.0 reads disks
 
 pub follow-complete : {D : Type 0} (g : Ghosts D) (disk disk_new : D) (left left_new text text_new : Option (List ℕ))
     (ReadFails WriteFails DiskFails : Type 0) (detail : Detail)
@@ -104,5 +110,5 @@ pub follow-complete : {D : Type 0} (g : Ghosts D) (disk disk_new : D) (left left
 follow-complete g disk disk_new None left_new text text_new R W F detail answers reads writes disks = tt
 follow-complete g disk disk_new (Some bytes) left_new text text_new R W F detail answers reads writes disks =
     λ opened held asked no_read no_write no_disk.
-    follow-done g disk disk_new bytes left_new text text_new R W F opened held asked no_read no_write no_disk detail answers reads writes
-    disks
+    case-done g disk disk_new bytes left_new text text_new R W F opened held asked no_read no_write no_disk detail
+    (follow-case g (outside disk (Some bytes) text) (outside disk_new left_new text_new) detail answers) reads writes disks

@@ -1,10 +1,11 @@
 -- What a standby has made of the bytes that were read, said of the whole input.
-use Rattle.std.proofs.Common.{◌≡◌, ◌∙◌, inl, inr, refl, sym, ap, subst, ℕ, List, [], ◌∷◌, ◌++◌, append-nil, take, Option, Some, None, IfSome, arith}
+use Rattle.std.proofs.Common.{◌≡◌, ◌∙◌, inl, inr, refl, sym, ap, subst, ℕ, List, [], ◌∷◌, ◌++◌, append-nil, take, Option, Some, None, IfSome, Result, Err, IsErrOf, arith}
 use Rattle.std.specs.Io.KnownBytes.{Consumes, IsAtEnd, Keeps}
 use Rattle.std.proofs.KnownBytes.{Consumes-kept, Consumes-trans}
 use Rattle.log_disk.proofs.Moments.{Leaves-refl}
 use Rattle.log_disk.specs.Faults.{CountsWhere}
 use Rattle.log_disk.specs.declared.disk.LogDisk.{Ghosts}
+use Rattle.log_disk.specs.declared.source.Source.{Ghosts as SourceGhosts}
 use Rattle.log_record.specs.declared.rec.Rec.{Rec}
 use Rattle.lock_core.specs.declared.judge.Judge.{Judge}
 use Rattle.log_recovery.specs.Opened.{OpenedList, list_end}
@@ -24,7 +25,7 @@ use Rattle.standby.proofs.JudgedFrames.{with_records-none}
 use Rattle.standby.proofs.StoppedStreams.{has-longer}
 use Rattle.cli_shared.specs.declared.report.Detail.{Detail}
 use Rattle.cli_shared.specs.declared.report.Detail.TheVariants.{Disk, NoMemory, Read}
-use Rattle.cli_standby.specs.Feeding.{begun, HasFed, HasFedAll, IsFeedingFault, StopsFeeding, stream_detail}
+use Rattle.cli_standby.specs.Feeding.{begun, FeedEnds, HasFed, HasFedAll, StopsFeeding, stream_detail}
 use Rattle.cli_standby.specs.Following.{IsCause}
 
 -- ---- the input and the bytes that were read of it
@@ -67,28 +68,24 @@ holds-unread list c held = holds-front-none (with_frames list []) c (subst (Hold
 
 -- ---- the fault of a standby
 
+-- what the bytes that were read hold from an LSN on, the whole input holds
+input-has : (left left_new : Option (List ℕ)) (fed : List ℕ) → Consumes left left_new fed → (from : ℕ) (frames : List (List Rec))
+    → (rest : List ℕ) × HasFrames fed from frames rest
+    → IfSome left (λ bytes. (rest : List ℕ) × HasFrames bytes from frames rest)
+input-has left left_new fed taken from frames has =
+    of-input (λ bytes. (rest : List ℕ) × HasFrames bytes from frames rest) left left_new fed taken
+    (λ more. (has.0 ++ more, has-longer fed from frames has.0 more has.1))
+
 cause-stopped : (list : OpenedList) (left left_new : Option (List ℕ)) (fed : List ℕ) → Consumes left left_new fed
     → (frames cut : List (List Rec))
     (fault : StandbyFault) → IsReason list fed frames cut fault → IsCause list left frames cut (stream_detail fault)
 cause-stopped list left left_new fed taken frames cut (stream.BadStream offset) is =
     (is.0, (is.1.0, is.1.1, is.1.2, of-input (λ bytes. IsBadBehind is.1.0 bytes offset) left left_new fed taken is.1.3))
-cause-stopped list left left_new fed taken frames cut (stream.Gap have from) is = (
-  is.0,
-  is.1,
-  is.2,
-  is.3,
-  of-input (λ bytes. (rest : List ℕ) × HasFrames bytes from [] rest) left left_new fed taken
-      (λ more. (is.4.0 ++ more, has-longer fed from [] is.4.0 more is.4.1)),
-)
-cause-stopped list left left_new fed taken frames cut (stream.StreamUnlawful lsn why) is = (
-  is.0,
-  (
-    is.1.0,
-    of-input (λ bytes. (rest : List ℕ) × HasFrames bytes (list_end list) (frames ++ is.1.0 ∷ []) rest) left left_new fed taken
-        (λ more. (is.1.1 ++ more, has-longer fed _ _ is.1.1 more is.1.2)),
-    is.1.3,
-  ),
-)
+cause-stopped list left left_new fed taken frames cut (stream.Gap have from) is =
+    (is.0, is.1, is.2, is.3, input-has left left_new fed taken from [] is.4)
+cause-stopped list left left_new fed taken frames cut (stream.StreamUnlawful lsn why) is =
+    let has = input-has left left_new fed taken (list_end list) (frames ++ is.1.0 ∷ []) (is.1.1, is.1.2) in
+    (is.0, (is.1.0, has, is.1.3))
 cause-stopped list left left_new fed taken frames cut stream.DiskFault is = inr (is.0, is.2)
 cause-stopped list left left_new fed taken frames cut stream.NoMemory is = is
 
@@ -101,20 +98,24 @@ counts-stopped (stream.StreamUnlawful lsn why) before now counts =
 counts-stopped stream.DiskFault before now counts = record { counted = λ is. counts.counted refl; fine = λ other. absurd (other refl) }
 counts-stopped stream.NoMemory before now counts = record { counted = λ is. absurd cc; fine = λ other. counts.fine (λ is. cc) }
 
-pub range-stopped : (fault : StandbyFault) → IsFeedingFault (stream_detail fault)
-range-stopped (stream.BadStream offset) = tt
-range-stopped (stream.Gap have from) = tt
-range-stopped (stream.StreamUnlawful lsn why) = tt
-range-stopped stream.DiskFault = tt
-range-stopped stream.NoMemory = tt
-
--- it is no fault of the input or of the output
+-- it is no fault of the input
 pub read-stopped : (fault : StandbyFault) → stream_detail fault ≡ Read → ⊥
 read-stopped (stream.BadStream offset) is = cc
 read-stopped (stream.Gap have from) is = cc
 read-stopped (stream.StreamUnlawful lsn why) is = cc
 read-stopped stream.DiskFault is = cc
 read-stopped stream.NoMemory is = cc
+
+-- nothing was written
+wrote-none : {D : Type 0} (g : Ghosts D) (base : Base D) → Wrote g base [] base.disk
+wrote-none g base = record {
+  moments = λ honest. Leaves-refl g.moment g.images_since (HoldsFront base.list []) base.disk;
+  count = λ honest. record { successes = omega arith; calls = omega arith };
+  grows = λ honest. omega arith;
+  later = omega arith;
+  honest = (λ is. is, λ is. is);
+  attached = refl;
+}
 
 -- there was no memory for a standby
 pub stops-unmade : {D : Type 0} (g : Ghosts D) (list : OpenedList) (judge : Judge) (tail : Tail) (disk : D)
@@ -127,14 +128,7 @@ stops-unmade g list judge tail disk left left_new kept = record {
   begins = begins-unread left list;
   images = λ honest c image.
       holds-unread list c (holds-lawful list c kept.each kept.taken.ledger.judged.lawful (kept.stands honest c image).held);
-  wrote = record {
-    moments = λ honest. Leaves-refl g.moment g.images_since (HoldsFront list []) disk;
-    count = λ honest. record { successes = omega arith; calls = omega arith };
-    grows = λ honest. omega arith;
-    later = omega arith;
-    honest = (λ is. is, λ is. is);
-    attached = refl;
-  };
+  wrote = wrote-none g (begun list tail disk);
   faults = record { counted = λ is. absurd cc; fine = λ no. refl };
 }
 
@@ -196,6 +190,39 @@ module _ {D : Type 0} (g : Ghosts D) (base : Base D) (left left_new : Option (Li
             of-all (λ bytes. IsBadBehind has.follows.came bytes bad.0) left left_new has.fed has.taken end bad.2,
           ),
         ))
+
+-- no read failed
+pub counts-no-read : {T : Type 0} (result : Result T Detail) (before now : ℕ) → (result ≡ Err Read → ⊥) → now ≡ before
+    → CountsWhere (IsErrOf result Read) before now
+counts-no-read result before now other same = record { counted = λ is. absurd (other is); fine = λ no. same }
+
+-- ---- what is promised where the standby was not fed all
+
+module _ {D S : Type 0} (g : Ghosts D) (h : SourceGhosts S) where
+  -- that is so whatever would have been made of the whole input
+  pub ends-failed : {T U : Type 0} (Made : Base D → T → Type 0) (Other : Base D → U → Type 0) (s t : Standby D) (script script_new : S)
+      (detail : Detail) → FeedEnds g h Made s t script script_new (Err detail) → FeedEnds g h Other s t script script_new (Err detail)
+  ends-failed Made Other s t script script_new detail ends = record {
+    ok = tt;
+    stops = ends.stops;
+    range = ends.range;
+    read = record { counted = λ is. ends.read.counted cc; fine = λ no. ends.read.fine (λ is. no cc) };
+    same = ends.same;
+  }
+
+  -- the standby went no further, and no read failed
+  pub ends-no-further : {T : Type 0} (Made : Base D → T → Type 0) (s t : Standby D) (script script_new : S) (f : StandbyFault)
+      → ((base : Base D) → Follows g base [] s
+      → StopsFeeding g base (h.left script) (h.left script_new) (stream_detail f) t.disk.now)
+      → h.faults script_new ≡ h.faults script → t.disk.ghost_name ≡ s.disk.ghost_name
+      → FeedEnds g h Made s t script script_new (Err (stream_detail f))
+  ends-no-further Made s t script script_new f stops fine same = record {
+    ok = tt;
+    stops = stops;
+    range = inr (f, refl);
+    read = counts-no-read (Err (stream_detail f)) _ _ (λ is. read-stopped f cc) fine;
+    same = same;
+  }
 
 -- ---- the input, piece by piece
 

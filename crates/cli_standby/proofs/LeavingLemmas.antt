@@ -1,14 +1,14 @@
 -- What `follow` leaves once it has opened a log.
-use Rattle.std.proofs.Common.{◌≤◌, ◌⊎◌, ⊎_elim, inl, inr, ℕ, List, arith}
+use Rattle.std.proofs.Common.{◌⊎◌, ⊎_elim, inl, inr, ℕ, List, arith}
 use Rattle.log_disk.specs.declared.disk.LogDisk.{Ghosts}
 use Rattle.log_record.specs.declared.rec.Rec.{Rec}
 use Rattle.log_recovery.specs.Opened.{OpenedList}
 use Rattle.standby.specs.Applying.{with_frames}
 use Rattle.cli_shared.specs.Outside.{Outside, OnlyReads}
 use Rattle.cli_shared.specs.declared.report.Detail.{Detail}
-use Rattle.cli_shared.specs.declared.report.Detail.TheVariants.{Fine, NoMemory, Usage, Script, Read, Write, Disk, NotALog, BadSnapshot, BadBatch, BadRec, Unlawful, LogEnd, TxnEnd, Exists, NoSuchLsn, BadStream, Gap, StreamUnlawful, NoAccount}
 use Rattle.cli_standby.specs.Following.{AnswersFollow}
 use Rattle.cli_standby.specs.Leaving.{LeavesFronts, StaysALog}
+use Rattle.cli_standby.proofs.FollowCases.{follow-case, FollowCase}
 
 module _ {D : Type 0} (g : Ghosts D) (only_now : (disk : D) (c : List ℕ) → g.images_since disk (g.moment disk) c → g.images disk c)
     (old new : Outside D) where
@@ -22,26 +22,10 @@ module _ {D : Type 0} (g : Ghosts D) (only_now : (disk : D) (c : List ℕ) → g
         (leaves.moments.each (g.moment leaves.disk) c (omega arith) since);
   }
 
+  leaves-case : (detail : Detail) → FollowCase g old new detail → OnlyReads g old new ⊎ StaysALog g old.disk new.disk
+  leaves-case detail (inl whole) = inr (stays whole.0 whole.1 whole.2)
+  leaves-case detail (inr (inl looked)) = inl looked.0
+  leaves-case detail (inr (inr stopped)) = inr (stays stopped.0.opened _ stopped.0.followed.moments)
+
   pub leaves-a-log : (detail : Detail) → AnswersFollow g old new detail → OnlyReads g old new ⊎ StaysALog g old.disk new.disk
-  leaves-a-log Fine answers = inr (stays answers.opened answers.frames answers.followed.moments)
-  leaves-a-log Write answers = inr (stays answers.opened answers.frames answers.followed.moments)
-  leaves-a-log NoMemory (inl reads) = inl reads
-  leaves-a-log NoMemory (inr stopped) = inr (stays stopped.opened _ stopped.followed.moments)
-  leaves-a-log Disk (inl reads) = inl reads
-  leaves-a-log Disk (inr stopped) = inr (stays stopped.opened _ stopped.followed.moments)
-  leaves-a-log Read answers = inr (stays answers.opened _ answers.followed.moments)
-  leaves-a-log (BadStream offset) answers = inr (stays answers.opened _ answers.followed.moments)
-  leaves-a-log (Gap have from) answers = inr (stays answers.opened _ answers.followed.moments)
-  leaves-a-log (StreamUnlawful lsn why) answers = inr (stays answers.opened _ answers.followed.moments)
-  leaves-a-log NotALog answers = inl answers.0
-  leaves-a-log BadSnapshot answers = inl answers.0
-  leaves-a-log (BadBatch offset) answers = inl answers.0
-  leaves-a-log (BadRec lsn) answers = inl answers.0
-  leaves-a-log (Unlawful lsn why) answers = inl answers.0
-  leaves-a-log Usage answers = absurd answers.cause
-  leaves-a-log (Script line) answers = absurd answers.cause
-  leaves-a-log (LogEnd tail total) answers = absurd answers.cause
-  leaves-a-log (TxnEnd first count) answers = absurd answers.cause
-  leaves-a-log Exists answers = absurd answers.cause
-  leaves-a-log (NoSuchLsn lsn) answers = absurd answers.cause
-  leaves-a-log (NoAccount account) answers = absurd answers.cause
+  leaves-a-log detail answers = leaves-case detail (follow-case g old new detail answers)

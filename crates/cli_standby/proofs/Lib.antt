@@ -1,5 +1,6 @@
 pub mod Completeness
 pub mod FedLemmas
+pub mod FollowCases
 pub mod FollowLemmas
 pub mod LeavingLemmas
 pub mod SettledLemmas

@@ -23,7 +23,7 @@ use Rattle.cli_shared.specs.declared.report.Detail.TheVariants.{Disk}
 use Rattle.cli_shared.proofs.ToldLemmas.{kept-text}
 use Rattle.standby.specs.Applying.{HoldsFront}
 use Rattle.standby.proofs.FrameLists.{holds-front-none}
-use Rattle.cli_standby.specs.Feeding.{AnswersUnsaid, IsOpened, IsUnopened}
+use Rattle.cli_standby.specs.Feeding.{AnswersUnsaid, IsOpened}
 use Rattle.cli_standby.specs.Leaving.{LeavesFronts}
 use Rattle.cli_standby.proofs.FedLemmas.{begins-unread, holds-unread}
 
@@ -40,14 +40,6 @@ module _ {D : Type 0} (g : Ghosts D) (old mid : D) (looks : OnlyLooks g old mid)
   unsaid-fault (fault.Unlawful lsn why) is text = (only-reads text, is)
   unsaid-fault fault.NoMemory is text = inl (only-reads text)
 
-pub range-fault : (f : RecoverFault) → IsUnopened (recover_detail f)
-range-fault fault.NotALog = tt
-range-fault fault.BadSnapshot = tt
-range-fault (fault.BadBatch offset) = tt
-range-fault (fault.BadRec lsn) = tt
-range-fault (fault.Unlawful lsn why) = tt
-range-fault fault.NoMemory = tt
-
 -- the bytes that were read, which the judge has taken
 module _ {D : Type 0} (g : Ghosts D) (old mid : D) (bytes : List ℕ) (read : MayHold g old bytes) (tail : Tail) (judge : Judge)
     (judges : JudgesBytes judge tail bytes) (same : g.honest old → g.reads mid ≡ g.reads old)
@@ -63,9 +55,6 @@ module _ {D : Type 0} (g : Ghosts D) (old mid : D) (bytes : List ℕ) (read : Ma
 
   pub place-read : length bytes ≤ 2 ^ 63 → tail.at ≤ 2 ^ 63
   place-read short = let within = stands-within tail (log_of list) bytes judges.stands in omega (arith, within, short)
-
-  pub within-read : g.honest old → tail.at ≤ length (g.reads mid)
-  within-read honest = subst (λ file. tail.at ≤ length file) (file-is honest) (stands-within tail (log_of list) bytes judges.stands)
 
   pub gate-read : g.honest old → IsStableGate tail.at (g.images mid)
   gate-read honest = stands-stable tail (log_of list) bytes judges.stands (g.images mid) (alone honest)

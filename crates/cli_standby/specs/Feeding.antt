@@ -7,7 +7,9 @@ use Rattle.log_disk.specs.Costs.{Costs}
 use Rattle.log_disk.specs.Faults.{CountsWhere}
 use Rattle.log_disk.specs.Lengths.{GrowsAtMostTo}
 use Rattle.log_disk.specs.declared.disk.LogDisk.{Ghosts}
+use Rattle.log_disk.specs.declared.source.Source.{Ghosts as SourceGhosts}
 use Rattle.log_record.specs.declared.rec.Rec.{Rec}
+use Rattle.log_recovery.specs.declared.recovery.RecoverFault.{RecoverFault}
 use Rattle.log_recovery.specs.Opened.{OpenedList, list_end, log_of}
 use Rattle.log_recovery.specs.Recovery.{HoldsLawful}
 use Rattle.log_recovery.specs.Text.{accounts_text, rows_text}
@@ -22,11 +24,12 @@ use Rattle.standby.specs.Keeping.{KeepsList}
 use Rattle.standby.specs.declared.fault.StandbyFault.{StandbyFault}
 use Rattle.standby.specs.declared.fault.StandbyFault.TheVariants as stream
 use Rattle.standby.specs.declared.standby.Standby.{Standby}
+use Rattle.cli_shared.specs.Answers.{recover_detail}
 use Rattle.cli_shared.specs.Attached.{EndsAttached}
 use Rattle.cli_shared.specs.Opening.{most_calls}
 use Rattle.cli_shared.specs.Outside.{outside}
 use Rattle.cli_shared.specs.declared.report.Detail.{Detail}
-use Rattle.cli_shared.specs.declared.report.Detail.TheVariants.{NoMemory, Read, Disk, NotALog, BadSnapshot, BadBatch, BadRec, Unlawful, BadStream, Gap, StreamUnlawful}
+use Rattle.cli_shared.specs.declared.report.Detail.TheVariants.{NoMemory, Read, Disk, BadStream, Gap, StreamUnlawful}
 use Rattle.cli_standby.specs.Following.{AnswersFollow, Followed, IsCause}
 use Rattle.cli_standby.specs.Leaving.{LeavesFronts}
 
@@ -92,31 +95,33 @@ pub record StopsFeeding {D : Type 0} (g : Ghosts D) (base : Base D) (left left_n
   pub wrote : Wrote g base (frames ++ cut) disk
   pub faults : CountsWhere (detail ≡ Disk) (g.faults base.disk) (g.faults disk)
 
--- why the input wasn't read to its end
+-- why the input wasn't read to its end: a read failed, or a standby went no further
 abbrev pub IsFeedingFault : Detail → Type 0
-IsFeedingFault NoMemory = Unit {0}
-IsFeedingFault Read = Unit {0}
-IsFeedingFault Disk = Unit {0}
-IsFeedingFault (BadStream offset) = Unit {0}
-IsFeedingFault (Gap have from) = Unit {0}
-IsFeedingFault (StreamUnlawful lsn why) = Unit {0}
-IsFeedingFault detail = ⊥
+IsFeedingFault detail = (detail ≡ Read) ⊎ ((fault : StandbyFault) × (stream_detail fault ≡ detail))
+
+-- no byte has come to the standby
+abbrev pub IsUnfed : {D : Type 0} → Ghosts D → Standby D → Type 0
+IsUnfed {D = D} g s = (base : Base D) × Follows g base [] s
+
+-- A standby that no byte had come to, `s`, was fed what a source gives: it is `t` then, and has `Made` this of the input; or it went no
+-- further.
+pub record FeedEnds {D S T : Type 0} (g : Ghosts D) (h : SourceGhosts S) (Made : Base D → T → Type 0) (s t : Standby D)
+    (script script_new : S) (result : Result T Detail) : Type 0 where
+  pub ok : IfOk result (λ value. (base : Base D) → Follows g base [] s → Made base value)
+  pub stops : IfErr result (λ detail. (base : Base D) → Follows g base [] s
+      → StopsFeeding g base (h.left script) (h.left script_new) detail t.disk.now)
+  pub range : IfErr result IsFeedingFault
+  pub read : CountsWhere (IsErrOf result Read) (h.faults script) (h.faults script_new)
+  pub same : t.disk.ghost_name ≡ s.disk.ghost_name
 
 -- what `follow` answers where nothing is written
 abbrev pub AnswersUnsaid : {D : Type 0} → Ghosts D → D → D → Option (List ℕ) → Option (List ℕ) → Detail → Type 0
 AnswersUnsaid g old new left left_new detail = (text : Option (List ℕ))
     → AnswersFollow g (outside old left text) (outside new left_new text) detail
 
--- why the log isn't opened, or not settled
+-- why the log isn't opened, or not settled: the disk failed, or no list is recovered
 abbrev pub IsUnopened : Detail → Type 0
-IsUnopened NoMemory = Unit {0}
-IsUnopened Disk = Unit {0}
-IsUnopened NotALog = Unit {0}
-IsUnopened BadSnapshot = Unit {0}
-IsUnopened (BadBatch offset) = Unit {0}
-IsUnopened (BadRec lsn) = Unit {0}
-IsUnopened (Unlawful lsn why) = Unit {0}
-IsUnopened detail = ⊥
+IsUnopened detail = (detail ≡ Disk) ⊎ ((fault : RecoverFault) × (recover_detail fault ≡ detail))
 
 -- why nothing is written
 abbrev pub IsUnsaid : Detail → Type 0
@@ -133,11 +138,12 @@ pub record HasFollowedInput {D : Type 0} (g : Ghosts D) (old new : D) (left left
   pub text : rows_text lsn rows ≡ accounts_text (with_frames opened frames)
 
 -- what there is once the log was opened and the stream was followed as far as it goes: the clauses of `follow`
-pub record FollowEnds {D : Type 0} (g : Ghosts D) (file : Attached) (old new : D) (left left_new : Option (List ℕ))
+pub record FollowEnds {D S : Type 0} (g : Ghosts D) (h : SourceGhosts S) (file : Attached) (old new : D) (script script_new : S)
     (result : Result (ℕ × Accounts) Detail) : Type 0 where
-  pub ok : g.honest old → IfOk result (λ both. HasFollowedInput g old new left left_new both.0 both.1.rows)
-  pub none : g.honest old → IfErr result (AnswersUnsaid g old new left left_new)
+  pub ok : g.honest old → IfOk result (λ both. HasFollowedInput g old new (h.left script) (h.left script_new) both.0 both.1.rows)
+  pub none : g.honest old → IfErr result (AnswersUnsaid g old new (h.left script) (h.left script_new))
   pub range : IfErr result IsUnsaid
   pub honest : g.honest old ↔ g.honest new
   pub attached : g.honest old → EndsAttached file (g.attached old) (g.attached new) result
+  pub read : CountsWhere (IsErrOf result Read) (h.faults script) (h.faults script_new)
   pub disk : CountsWhere (IsErrOf result Disk) (g.faults old) (g.faults new)

@@ -1,12 +1,9 @@
-ghost use Rattle.std.specs.Prelude.{◌≡◌, ◌≤◌, ◌+◌, ◌↔◌, [], List, ℕ, IfOk, IfErr, OnOk, IsErrOf};
+ghost use Rattle.std.specs.Prelude.{◌≡◌, ◌≤◌, ◌+◌, List, ℕ, IfOk, IfErr, IsErrOf};
 ghost use Rattle.log_disk.specs.Attaching.{existing};
 ghost use Rattle.log_disk.specs.Faults.{CountsWhere};
-ghost use Rattle.standby.specs.Applying.{Base};
-ghost use Rattle.standby.specs.Following.{Follows};
 ghost use Rattle.standby.specs.Keeping.{KeepsList};
 ghost use Rattle.log_recovery.specs.Opened.{OpenedList};
-ghost use Rattle.cli_shared.specs.Attached.{EndsAttached};
-ghost use Rattle.cli_standby.specs.Feeding.{AnswersUnsaid, begun, HasFedAll, HasFedEnd, HasFedWhole, HasFollowedInput, IsFeedingFault, IsUnsaid, StopsFeeding, stream_detail};
+ghost use Rattle.cli_standby.specs.Feeding.{begun, FeedEnds, FollowEnds, HasFedAll, HasFedEnd, HasFedWhole, IsFeedingFault, IsUnfed, StopsFeeding, stream_detail};
 ghost use Rattle.cli_shared.specs.World.{TellsFaults, world};
 ghost use Rattle.cli_standby.specs.Command.{DoesFollow};
 
@@ -59,14 +56,7 @@ fn follow<D: LogDisk, S: Source>(
     disk: &mut D,
     script: &mut S,
 ) -> Result<(Lsn, Balances), Detail>
-    ensures ok { D.honest disk.old → IfOk result (λ both.
-        HasFollowedInput D.LogDisk disk.old disk.new (S.left script.old) (S.left script.new) both.0 both.1.rows) }
-    ensures none { D.honest disk.old → IfErr result (AnswersUnsaid D.LogDisk disk.old disk.new (S.left script.old) (S.left script.new)) }
-    ensures range { IfErr result IsUnsaid }
-    ensures honest { D.honest disk.old ↔ D.honest disk.new }
-    ensures attached { D.honest disk.old → EndsAttached (existing log.now) (D.attached disk.old) (D.attached disk.new) result }
-    ensures read { CountsWhere (IsErrOf result Detail.Read) (S.faults script.old) (S.faults script.new) }
-    ensures disk { CountsWhere (IsErrOf result Detail.Disk) (D.faults disk.old) (D.faults disk.new) }
+    ensures { FollowEnds D.LogDisk S.Source (existing log.now) disk.old disk.new script.old script.new result }
 {
     let (tail, judge) = open_standby(alloc, log, disk)?;
     let mut followed = Err(Detail::NoMemory);
@@ -120,14 +110,10 @@ fn end_stream<D: LogDisk, S: Source>(
     standby: &mut Standby<'_, D>,
     script: &mut S,
 ) -> Result<Lsn, Detail>
-    requires ready { (base : Base D) × Follows D.LogDisk base [] standby.old }
-    ensures ended { IfOk result (λ lsn. (base : Base D) → Follows D.LogDisk base [] standby.old
-        → HasFedEnd D.LogDisk base (S.left script.old) (S.left script.new) lsn standby.new) }
-    ensures stops { IfErr result (λ detail. (base : Base D) → Follows D.LogDisk base [] standby.old
-        → StopsFeeding D.LogDisk base (S.left script.old) (S.left script.new) detail standby.new.disk.now) }
-    ensures range { IfErr result IsFeedingFault }
-    ensures read { CountsWhere (IsErrOf result Detail.Read) (S.faults script.old) (S.faults script.new) }
-    ensures same { standby.new.disk.ghost_name ≡ standby.old.disk.ghost_name }
+    requires { IsUnfed D.LogDisk standby.old }
+    ensures { FeedEnds D.LogDisk S.Source
+        (λ base lsn. HasFedEnd D.LogDisk base (S.left script.old) (S.left script.new) lsn standby.new)
+        standby.old standby.new script.old script.new result }
 {
     if let Err(detail) = feed_all(standby, script) {
         return Err(detail);
@@ -143,14 +129,10 @@ fn feed_all<D: LogDisk, S: Source>(
     standby: &mut Standby<'_, D>,
     script: &mut S,
 ) -> Result<(), Detail>
-    requires ready { (base : Base D) × Follows D.LogDisk base [] standby.old }
-    ensures all { OnOk result ((base : Base D) → Follows D.LogDisk base [] standby.old
-        → HasFedAll D.LogDisk base (S.left script.old) (S.left script.new) standby.new) }
-    ensures stops { IfErr result (λ detail. (base : Base D) → Follows D.LogDisk base [] standby.old
-        → StopsFeeding D.LogDisk base (S.left script.old) (S.left script.new) detail standby.new.disk.now) }
-    ensures range { IfErr result IsFeedingFault }
-    ensures read { CountsWhere (IsErrOf result Detail.Read) (S.faults script.old) (S.faults script.new) }
-    ensures same { standby.new.disk.ghost_name ≡ standby.old.disk.ghost_name }
+    requires { IsUnfed D.LogDisk standby.old }
+    ensures { FeedEnds D.LogDisk S.Source
+        (λ base done. HasFedAll D.LogDisk base (S.left script.old) (S.left script.new) standby.new)
+        standby.old standby.new script.old script.new result }
 {
     let mut buf = [0; PIECE];
     'pieces: loop {

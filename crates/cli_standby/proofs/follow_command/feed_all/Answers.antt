@@ -1,11 +1,12 @@
-use Rattle.std.proofs.Common.{rules, ◌∙◌, refl, [], take}
+use Rattle.std.proofs.Common.{rules, ◌∙◌, inl, refl, [], take}
 use Rattle.std.proofs.KnownBytes.{Consumes-nil}
-use Rattle.cli_standby.proofs.FedLemmas.{fed-end, fed-kept, fed-more, fed-none, fed-stopped, stops-unread}
+use Rattle.log_disk.proofs.Counting.{CountsWhere-after}
+use Rattle.cli_standby.proofs.FedLemmas.{counts-no-read, ends-no-further, fed-end, fed-kept, fed-more, fed-none, fed-stopped, stops-unread}
 use Rattle.cli_standby.proofs.follow_command.feed_all.Goals as goal
 
 pub pieces-init : goal.pieces-init
 pieces-init g c = record {
-  ready = (c.requires.ready.0, [], c.requires.ready.1);
+  ready = (c.requires.0, [], c.requires.1);
   fed = λ base follows. fed-none g.D.LogDisk base (g.S.Source.left c.args.script.now) (g.S.Source.left c.args.script.now) c.args.standby.now
       (Consumes-nil (g.S.Source.left c.args.script.now)) follows;
   no_fault = refl;
@@ -13,20 +14,35 @@ pieces-init g c = record {
 }
 
 -- the end of the input
-pub returns-in-Ok-eq0-clause-all : goal.returns-in-Ok-eq0-clause-all
-returns-in-Ok-eq0-clause-all g c = λ base follows.
-    fed-end g.D.LogDisk base (g.S.Source.left c.args.script.now) (g.S.Source.left c.pieces.script) (g.S.Source.left c.read.new.self)
-    c.pieces.standby
-    c.in-Ok-eq0.field-0 c.read.new.buf (c.pieces.invariant.fed base follows) (search rules) c.in-Ok-eq0.ensures.bytes.0
-    (c.in-Ok-eq0.ensures.bytes.1 (search rules) (search rules))
+pub returns-in-Ok-eq0 : goal.returns-in-Ok-eq0
+returns-in-Ok-eq0 g c =
+    let said = c.in-Ok-eq0.ensures in
+    record {
+      ok = λ base follows.
+          fed-end g.D.LogDisk base (g.S.Source.left c.args.script.now) (g.S.Source.left c.pieces.script)
+          (g.S.Source.left c.read.new.self) c.pieces.standby c.in-Ok-eq0.field-0 c.read.new.buf (c.pieces.invariant.fed base follows)
+          (search rules) said.bytes.0 (said.bytes.1 (search rules) (search rules));
+      stops = tt;
+      range = tt;
+      read = counts-no-read _ _ _ (λ is. cc) (said.cause.fine ∙ c.pieces.invariant.no_fault);
+      same = c.pieces.invariant.same;
+    }
 
 -- a read that failed
-pub returns-in-Err-clause-stops : goal.returns-in-Err-clause-stops
-returns-in-Err-clause-stops g c = λ base follows.
+pub returns-in-Err : goal.returns-in-Err
+returns-in-Err g c =
     let left = g.S.Source.left c.args.script.now in
-    stops-unread g.D.LogDisk base left (g.S.Source.left c.read.new.self) c.pieces.standby
-    (fed-kept g.D.LogDisk base left (g.S.Source.left c.pieces.script) (g.S.Source.left c.read.new.self) c.pieces.standby
-    (c.pieces.invariant.fed base follows) c.in-Err.ensures.bytes)
+    record {
+      ok = tt;
+      stops = λ base follows.
+          stops-unread g.D.LogDisk base left (g.S.Source.left c.read.new.self) c.pieces.standby
+          (fed-kept g.D.LogDisk base left (g.S.Source.left c.pieces.script) (g.S.Source.left c.read.new.self) c.pieces.standby
+          (c.pieces.invariant.fed base follows) c.in-Err.ensures.bytes);
+      range = inl refl;
+      read = CountsWhere-after _ _ _ _ c.pieces.invariant.no_fault
+          (record { counted = λ is. c.in-Err.ensures.cause.failed; fine = λ other. absurd (other refl) });
+      same = c.pieces.invariant.same;
+    }
 
 pub pieces-preserved : goal.pieces-preserved
 pieces-preserved g c = record {
@@ -46,9 +62,11 @@ pieces-preserved g c = record {
 }
 
 -- the standby goes no further
-pub returns-in-Err-feed-clause-stops : goal.returns-in-Err-feed-clause-stops
-returns-in-Err-feed-clause-stops g c = λ base follows.
+pub returns-in-Err-feed : goal.returns-in-Err-feed
+returns-in-Err-feed g c =
+    rw c.detail_of_stream.ensures (ends-no-further g.D.LogDisk g.S.Source _ _ _ _ _ c.in-Err-feed.fault (λ base follows.
     let has = c.pieces.invariant.fed base follows in
-    rw c.detail_of_stream.ensures (fed-stopped g.D.LogDisk base (g.S.Source.left c.args.script.now) (g.S.Source.left c.pieces.script)
+    fed-stopped g.D.LogDisk base (g.S.Source.left c.args.script.now) (g.S.Source.left c.pieces.script)
     (g.S.Source.left c.read.new.self) c.pieces.standby (take c.in-Ok.count c.read.new.buf) has c.in-Ok.ensures.bytes.0 c.in-Err-feed.fault
     c.feed.new.self.disk.now (c.in-Err-feed.ensures.stops base has.fed has.follows))
+    (c.in-Ok.ensures.cause.fine ∙ c.pieces.invariant.no_fault) (c.feed.ensures.same ∙ c.pieces.invariant.same))

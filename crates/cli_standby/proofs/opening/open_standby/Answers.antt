@@ -1,4 +1,4 @@
-use Rattle.std.proofs.Common.{subst, arith}
+use Rattle.std.proofs.Common.{inr, subst, sym, arith}
 use Rattle.log_recovery.specs.Opened.{log_of}
 use Rattle.log_recovery.specs.Recovery.{IsFaultOf}
 use Rattle.cli_standby.proofs.SettledLemmas.{gate-read, is-opened, place-read, stand-read, unsaid-fault, unsettled}
@@ -12,6 +12,9 @@ returns-in-Err-clause-none g c = λ honest left left_new.
     rw c.detail_of.ensures (unsaid-fault g.D.LogDisk c.args.disk.now c.image_of.new.disk
     (record { images = said.moments; reads = said.reads honest; count = said.count honest }) left left_new c.in-Err.fault
     (subst (λ bytes. IsFaultOf bytes c.in-Err.fault) (said.bytes honest) is))
+
+pub returns-in-Err-clause-range : goal.returns-in-Err-clause-range
+returns-in-Err-clause-range g c = inr (c.in-Err.fault, sym c.detail_of.ensures)
 
 pub settle-requires-clause-stable : goal.settle-requires-clause-stable
 settle-requires-clause-stable g c = λ honest.
