@@ -1,5 +1,5 @@
 -- What `cut` answers, from what was read and written.
-use Rattle.std.proofs.Common.{◌≡◌, ℕ, List, Option, Some, None, IfSome, [], subst}
+use Rattle.std.proofs.Common.{ℕ, List, Option, Some, None, IfSome, subst}
 use Rattle.std.specs.Io.KnownBytes.{Appends}
 use Rattle.log_disk.specs.Streams.{AppendsPart}
 use Rattle.lsn_space.specs.Opening.{Opening}

@@ -39,17 +39,19 @@ genesis-none units list = record { genesis = []; left = list.0; list = list.1; r
 left-spellable : (units rest : List ℕ) (taken : HasTakenGenesis units rest) → AllByRecursion IsSpellable taken.left
 left-spellable units rest taken = (all-split IsSpellable taken.genesis taken.left taken.list.spellable).1
 
+-- the first that is left goes behind those that were read
+first-moved : (genesis left : List Rec) (rec : Rec) (later : List Rec) → left ≡ rec ∷ later → genesis ++ left ≡ (genesis ++ rec ∷ []) ++ later
+first-moved genesis left rec later split = ap (λ left. genesis ++ left) split ∙ sym (append_assoc genesis (rec ∷ []) later)
+
 -- one Genesis more
 pub genesis-more : (units rest after : List ℕ) (account balance : ℕ) (taken : HasTakenGenesis units rest) → BeginsWith rest (Genesis account balance)
     → after ≡ drop (length (spelling (Genesis account balance))) rest → HasTakenGenesis units after
 genesis-more units rest after account balance taken begins dropped =
     let found = first-left rest taken.left (Genesis account balance) (left-spellable units rest taken) taken.rest_is begins in
-    let split : taken.genesis ++ taken.left ≡ (taken.genesis ++ Genesis account balance ∷ []) ++ found.0 =
-    ap (λ left. taken.genesis ++ left) found.1 ∙ sym (append_assoc taken.genesis (Genesis account balance ∷ []) found.0) in
     record {
       genesis = taken.genesis ++ Genesis account balance ∷ [];
       left = found.0;
-      list = subst (AreUnitsOf units) split taken.list;
+      list = subst (AreUnitsOf units) (first-moved taken.genesis taken.left (Genesis account balance) found.0 found.1) taken.list;
       rest_is = dropped ∙ found.2;
       all = all-append IsGenesis taken.genesis (Genesis account balance ∷ []) taken.all (tt, tt);
     }
@@ -71,6 +73,5 @@ genesis-split units rest taken other front place =
       list = taken.list;
       place = omega (arith, place, whole, length-append (units_of taken.genesis) (units_of taken.left), ap length taken.rest_is);
       all = taken.all;
-      first = λ rec later split genesis.
-          other rec (first-begins taken.left rec later rest (left-spellable units rest taken) taken.rest_is split) genesis;
+      first = λ rec later split. other rec (first-begins taken.left rec later rest (left-spellable units rest taken) taken.rest_is split);
     }

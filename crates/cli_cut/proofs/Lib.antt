@@ -5,6 +5,7 @@ pub mod GenesisLemmas
 pub mod PartsLemmas
 pub mod ReadyLemmas
 pub mod SameLemmas
+pub mod TryingLemmas
 pub mod UpgradeLemmas
 pub mod UpgradingLemmas
 pub mod WritingLemmas

@@ -1,5 +1,5 @@
 -- What is known of a log before it is upgraded, from what was read and asked for.
-use Rattle.std.proofs.Common.{◌≡◌, ◌≤◌, ◌∙◌, refl, ap, sym, subst, ℕ, ◌+◌, List, [], ◌++◌, length, length-append, Option, arith}
+use Rattle.std.proofs.Common.{◌≡◌, ◌≤◌, ◌∙◌, refl, ap, sym, subst, ℕ, List, [], ◌++◌, length, length-append, Option, arith}
 use Rattle.lsn_space.specs.declared.lsn.TheConstants.{LAST}
 use Rattle.log_record.specs.declared.rec.Rec.{Rec}
 use Rattle.log_record.specs.LogList.{AreUnitsOf, units_of, end_of}
@@ -13,7 +13,7 @@ use Rattle.log_recovery.proofs.AnswerLemmas.{one-list}
 use Rattle.log_recovery.proofs.ListingLemmas.{units_of-append}
 use Rattle.cli_shared.specs.Answers.{ReadsAll}
 use Rattle.cli_cut.specs.Cutting.{IsCutOf}
-use Rattle.cli_cut.specs.Parts.{ArePartsOf, SplitsGenesis}
+use Rattle.cli_cut.specs.Parts.{ArePartsOf, IsGenesisFront, SplitsGenesis}
 use Rattle.cli_cut.specs.declared.reading.Parts.{Parts}
 use Rattle.cli_cut.proofs.FrontLemmas.{behind-units, front-inside, split-is, split-none}
 
@@ -25,15 +25,16 @@ module _ (bytes : List ℕ) (listed : Listed) (found : ListsBytes listed bytes) 
   pub listed-lawful : HoldsLawful bytes (list_of listed found.records)
   listed-lawful = subst (HoldsLawful bytes) same-listed held
 
--- its front ends where LSNs do, or before
-pub front-fits : (bytes : List ℕ) (listed : Listed) (found : ListsBytes listed bytes) (front : ℕ) → SplitsGenesis listed.units front
-    → listed.opening.lsn + front ≤ LAST
-front-fits bytes listed found front split = omega (
-  arith,
-  found.held.holds.reads.total,
-  front-inside listed.units split.genesis split.later front split.list split.place,
-  ap length found.has.list.units_are,
-)
+  -- its front ends where LSNs do, or before
+  pub genesis-front : (front : ℕ) → SplitsGenesis listed.units front → IsGenesisFront listed front
+  genesis-front front split =
+      let inside = front-inside listed.units split.genesis split.later front split.list split.place in
+      record {
+        lawful = (bytes, found.records, listed-lawful, found.has.list.units_are);
+        split = split;
+        inside = inside;
+        fits = omega (arith, found.held.holds.reads.total, inside, ap length found.has.list.units_are);
+      }
 
 module _ (left left_new : Option (List ℕ)) (parts : Parts) (bytes : List ℕ) (recovers : Recovers parts.recovered bytes) (found : ListsBytes parts.listed bytes)
     (split : SplitsGenesis parts.listed.units parts.front)

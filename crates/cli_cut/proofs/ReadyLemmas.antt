@@ -1,10 +1,11 @@
 -- A log that is written in batches: what is known before each record, at a call that fails, and once all batches are written.
-use Rattle.std.proofs.Common.{◌≡◌, ◌≤◌, ◌<◌, ◌^◌, ◌∙◌, inl, refl, ap, sym, subst, ℕ, ◌+◌, ◌*◌, true, false, if◌then◌else◌, nat_le, List, [], ◌∷◌, ◌++◌, append-nil, length, length-append, map, take, drop, arith}
+use Rattle.std.proofs.Common.{◌≡◌, ◌≤◌, ◌<◌, ◌↔◌, ◌^◌, ◌∙◌, inl, refl, ap, sym, subst, Err, ℕ, ◌+◌, ◌*◌, true, false, if◌then◌else◌, nat_le, List, [], ◌∷◌, ◌++◌, append-nil, length, length-append, map, take, drop, arith}
 use Rattle.std.specs.List.{AllByRecursion}
 use Rattle.std.proofs.Math.Seq.{take-append_seam}
 use Rattle.std.proofs.lemmas.List.{take-append-drop}
 use Rattle.log_disk.specs.Costs.{Costs}
 use Rattle.log_disk.specs.Disk.{Leaves}
+use Rattle.log_disk.specs.Faults.{Rose}
 use Rattle.log_disk.specs.Lengths.{GrowsAtMostTo}
 use Rattle.log_disk.specs.declared.disk.LogDisk.{Ghosts}
 use Rattle.log_disk.proofs.Moments.{Leaves-trans, Leaves-weaken}
@@ -23,6 +24,7 @@ use Rattle.segment_file.specs.Log.{Log, cut_log, with_units}
 use Rattle.segment_cut.specs.Underway.{HoldsNoneOrBatches, IsUnderway}
 use Rattle.ship_stream.specs.Packing.{packed_behind}
 use Rattle.cli_cut.specs.Batches.{batches_of}
+use Rattle.cli_cut.specs.Writing.{WritesLog}
 use Rattle.cli_cut.proofs.WritingLemmas.{IsWriting, writing-begun, writing-flushed, writing-full, writing-taken}
 
 -- before a record, whatever records the units spell
@@ -79,9 +81,14 @@ some-batch : (waiting : List ℕ) (waits left : List Rec) → waiting ≡ units_
 some-batch waiting [] left is some = absurd (omega (arith, some, ap length is))
 some-batch waiting (rec ∷ waits) left is some = some-packed rec waits left
 
-pub none-there : (waiting : List ℕ) → length waiting ≡ 0 → waiting ≡ []
+none-there : (waiting : List ℕ) → length waiting ≡ 0 → waiting ≡ []
 none-there [] none = refl
 none-there (unit ∷ waiting) none = absurd (omega (arith, none))
+
+-- the units of the record that a rest begins with
+own-units : (rest own : List ℕ) (rec : Rec) (size : ℕ) → BeginsWith rest rec → size ≡ size_of rec → own ≡ take size rest → own ≡ spelling rec
+own-units rest own rec size begins size_is front =
+    front ∙ ap (λ n. take n rest) size_is ∙ ap (take (size_of rec)) begins.2 ∙ take-append_seam (spelling rec) begins.1
 
 -- before a record that doesn't fit some wait
 pub some-full : (waiting : ℕ) (rec : Rec) → IsSpellable rec → MOST_UNITS < waiting + size_of rec → 0 < waiting
@@ -105,6 +112,35 @@ module _ {D : Type 0} (g : Ghosts D) (begun : D) (opening : Opening) (units : Li
     faults = faults;
   }
 
+  -- a call failed before the first gate was opened
+  failed-log : {T E : Type 0} (error : E) (new : D)
+      → (g.honest begun → (records : List Rec) → AreUnitsOf units records → Leaves g.moment g.images_since (λ c. BeginsAsLog c → ⊥) begun new)
+      → (g.honest begun → (records : List Rec) → AreUnitsOf units records → Costs g (6 + length (batches_of records)) (7 + length (batches_of records)) begun new)
+      → (g.honest begun → (records : List Rec) → AreUnitsOf units records
+      → GrowsAtMostTo g (21 + 12 * length opening.accounts + 5 * length (batches_of records) + 8 * length units) begun new) → g.moment begun ≤ g.moment new
+      → (g.honest begun ↔ g.honest new) → g.attached new ≡ g.attached begun → g.faults begun ≤ g.faults new → Rose (g.faults begun) (g.faults new)
+      → WritesLog {T = T} g opening units begun new (Err error)
+  failed-log error new moments count grows later honest attached more rose = record {
+    moments = λ first made is are. Leaves-weaken g.moment g.images_since (λ c. BeginsAsLog c → ⊥)
+        (HoldsNoneOrBatches (log_of made) (batches_of made.records)) begun new (λ c none. inl none) (moments first made.records are);
+    made = λ first. tt;
+    count = count;
+    grows = grows;
+    later = later;
+    honest = honest;
+    attached = attached;
+    cause = record { later = more; fine = tt; failed = rose };
+  }
+
+  -- the head couldn't be written
+  pub failed-begun : {T E : Type 0} (error : E) (new : D) → (g.honest begun → Leaves g.moment g.images_since (λ c. BeginsAsLog c → ⊥) begun new)
+      → (g.honest begun → Costs g 3 4 begun new) → (g.honest begun → GrowsAtMostTo g (21 + 12 * length opening.accounts) begun new)
+      → g.moment begun ≤ g.moment new → (g.honest begun ↔ g.honest new) → g.attached new ≡ g.attached begun → g.faults begun ≤ g.faults new
+      → Rose (g.faults begun) (g.faults new) → WritesLog {T = T} g opening units begun new (Err error)
+  failed-begun error new moments count grows = failed-log error new (λ first records are. moments first)
+      (λ first records are. record { successes = omega (arith, (count first).successes); calls = omega (arith, (count first).calls) })
+      (λ first records are. omega (arith, grows first))
+
   -- the same, of what is equal
   pub ready-same : (now new : D) (tail after : Tail) (waiting waits rest : List ℕ) (room rooms : ℕ) → new ≡ now → after ≡ tail → waits ≡ waiting
       → rooms ≡ room → IsReady g begun opening units now tail waiting room rest → IsReady g begun opening units new after waits rooms rest
@@ -113,22 +149,19 @@ module _ {D : Type 0} (g : Ghosts D) (begun : D) (opening : Opening) (units : Li
       (λ i. (sym disk_is i, sym tail_is i, sym waits_is i, sym room_is i))
 
   module _ (now : D) (tail : Tail) (waiting rest : List ℕ) (room : ℕ) (ready : IsReady g begun opening units now tail waiting room rest) where
+    -- a record that fits waits too
     pub ready-taken : (rec : Rec) (own behind : List ℕ) (size : ℕ) → BeginsWith rest rec → size ≡ size_of rec → length waiting + size ≤ MOST_UNITS
         → own ≡ take size rest → behind ≡ drop size rest → IsReady g begun opening units now tail (waiting ++ own) room behind
-    ready-taken rec own behind size begins size_is fits front back =
-        let own_is : own ≡ spelling rec =
-        front ∙ ap (λ n. take n rest) size_is ∙ ap (take (size_of rec)) begins.2 ∙ take-append_seam (spelling rec) begins.1 in
-        let whole : own ++ behind ≡ rest = (λ i. front i ++ back i) ∙ take-append-drop size rest in
-        record {
-          writing = λ records are.
-              writing-taken g opening records begun now tail waiting rest rec own behind (ready.writing records are) begins (omega (arith, fits, size_is)) whole own_is
-              (back ∙ ap (λ n. drop n rest) size_is);
-          room_is = ready.room_is;
-          later = ready.later;
-          honest = ready.honest;
-          attached = ready.attached;
-          faults = ready.faults;
-        }
+    ready-taken rec own behind size begins size_is fits front back = record {
+      writing = λ records are. writing-taken g opening records begun now tail waiting rest rec own behind (ready.writing records are) begins
+          (omega (arith, fits, size_is)) ((λ i. front i ++ back i) ∙ take-append-drop size rest) (own-units rest own rec size begins size_is front)
+          (back ∙ ap (λ n. drop n rest) size_is);
+      room_is = ready.room_is;
+      later = ready.later;
+      honest = ready.honest;
+      attached = ready.attached;
+      faults = ready.faults;
+    }
 
     module _ (some : (records : List Rec) × AreUnitsOf units records) where
       abbrev pub writing : IsWriting g opening some.0 begun now tail waiting rest
@@ -153,7 +186,7 @@ module _ {D : Type 0} (g : Ghosts D) (begun : D) (opening : Opening) (units : Li
       can-add honest = (with_units (cut_log opening) (joined writing.done), writing.done, writing.underway (ready.honest.1 honest))
 
       -- a call that fails
-      pub failed-grows : (new : D) → 0 < length waiting → (g.honest now → GrowsAtMostTo g (tail.at + 6 + 8 * length waiting) now new) → g.honest begun
+      failed-grows : (new : D) → 0 < length waiting → (g.honest now → GrowsAtMostTo g (tail.at + 6 + 8 * length waiting) now new) → g.honest begun
           → GrowsAtMostTo g (21 + 12 * length opening.accounts + 5 * length (batches_of some.0) + 8 * length units) begun new
       failed-grows new more grows honest =
           let packed : List (List ℕ) = map units_of (packed_behind MOST_UNITS writing.waits writing.left) in
@@ -165,15 +198,7 @@ module _ {D : Type 0} (g : Ghosts D) (begun : D) (opening : Opening) (units : Li
           ) in
           omega (arith, batches, writing.grows honest, grows (ready.honest.0 honest), writing.at, all-units)
 
-    pub failed-moments : (new : D) → (g.honest now → Leaves g.moment g.images_since (λ c. BeginsAsLog c → ⊥) now new) → g.honest begun → (made : OpenedList)
-        → made.opening ≡ opening → AreUnitsOf units made.records
-        → Leaves g.moment g.images_since (HoldsNoneOrBatches (log_of made) (batches_of made.records)) begun new
-    failed-moments new moments honest made is are =
-        Leaves-weaken g.moment g.images_since (λ c. BeginsAsLog c → ⊥) (HoldsNoneOrBatches (log_of made) (batches_of made.records)) begun new (λ c none. inl none)
-        (Leaves-trans g.moment g.images_since (λ c. BeginsAsLog c → ⊥) begun now new ((ready.writing made.records are).moments honest)
-        (moments (ready.honest.0 honest)))
-
-    pub failed-count : (new : D) → (g.honest now → Costs g 1 1 now new) → g.honest begun → (records : List Rec) → AreUnitsOf units records
+    failed-count : (new : D) → (g.honest now → Costs g 1 1 now new) → g.honest begun → (records : List Rec) → AreUnitsOf units records
         → Costs g (6 + length (batches_of records)) (7 + length (batches_of records)) begun new
     failed-count new count honest records are =
         let written = ready.writing records are in
@@ -182,6 +207,18 @@ module _ {D : Type 0} (g : Ghosts D) (begun : D) (opening : Opening) (units : Li
         let more : length written.done ≤ length (batches_of records) =
         omega (arith, ap length written.batches, length-append written.done (map units_of (packed_behind MOST_UNITS written.waits written.left))) in
         record { successes = omega (arith, before.successes, behind.successes, more); calls = omega (arith, before.calls, behind.calls, more) }
+
+    -- all that is known after it
+    pub failed-writes : {T E : Type 0} (error : E) (new : D) → 0 < length waiting → (g.honest now → Leaves g.moment g.images_since (λ c. BeginsAsLog c → ⊥) now new)
+        → (g.honest now → Costs g 1 1 now new) → (g.honest now → GrowsAtMostTo g (tail.at + 6 + 8 * length waiting) now new) → g.moment now ≤ g.moment new
+        → (g.honest now ↔ g.honest new) → g.attached new ≡ g.attached now → g.faults now ≤ g.faults new → Rose (g.faults now) (g.faults new)
+        → WritesLog {T = T} g opening units begun new (Err error)
+    failed-writes error new some moments count grows later honest attached more rose = failed-log error new
+        (λ first records are. Leaves-trans g.moment g.images_since (λ c. BeginsAsLog c → ⊥) begun now new ((ready.writing records are).moments first)
+        (moments (ready.honest.0 first)))
+        (failed-count new count) (λ first records are. failed-grows (records, are) new some grows first) (omega (arith, ready.later, later))
+        (λ first. honest.0 (ready.honest.0 first), λ last. ready.honest.1 (honest.1 last)) (attached ∙ ready.attached) (omega (arith, ready.faults, more))
+        (subst (λ before. Rose before (g.faults new)) ready.faults rose)
 
     -- ---- a batch is written
 
@@ -253,9 +290,9 @@ module _ {D : Type 0} (g : Ghosts D) (begun : D) (opening : Opening) (units : Li
         let first = last.count honest in
         record { successes = omega (arith, first.successes, more); calls = omega (arith, first.calls, more) }
 
-  pub gathered : (now : D) (tail : Tail) (rest : List ℕ) (room : ℕ) → IsReady g begun opening units now tail [] room rest
+  gathered-now : (now : D) (tail : Tail) (rest : List ℕ) (room : ℕ) → IsReady g begun opening units now tail [] room rest
       → ((rec : Rec) → BeginsWith rest rec → ⊥) → (records : List Rec) × AreUnitsOf units records → IsGathered g begun opening units now
-  gathered now tail rest room ready none some = record {
+  gathered-now now tail rest room ready none some = record {
     tail = tail;
     underway = λ honest records are. last-underway now tail rest room ready none records are honest;
     moments = λ honest. (ready.writing some.0 some.1).moments honest;
@@ -266,6 +303,19 @@ module _ {D : Type 0} (g : Ghosts D) (begun : D) (opening : Opening) (units : Li
     attached = ready.attached;
     faults = ready.faults;
   }
+
+  -- the same, of a disk that is equal
+  pub gathered : (now new : D) → new ≡ now → (tail : Tail) (rest : List ℕ) (room : ℕ) → IsReady g begun opening units now tail [] room rest
+      → ((rec : Rec) → BeginsWith rest rec → ⊥) → (records : List Rec) × AreUnitsOf units records → IsGathered g begun opening units new
+  gathered now new same tail rest room ready none some =
+      subst (IsGathered g begun opening units) (sym same) (gathered-now now tail rest room ready none some)
+
+  -- the same, where it turns out that nothing waits
+  pub gathered-none : (now new : D) → new ≡ now → (tail : Tail) (waiting rest : List ℕ) (room : ℕ) → IsReady g begun opening units now tail waiting room rest
+      → length waiting ≡ 0 → ((rec : Rec) → BeginsWith rest rec → ⊥) → (records : List Rec) × AreUnitsOf units records → IsGathered g begun opening units new
+  gathered-none now new same tail waiting rest room ready empty none some =
+      gathered now new same tail rest room
+      (subst (λ waits. IsReady g begun opening units now tail waits room rest) (none-there waiting empty) ready) none some
 
   module _ (now : D) (all : IsGathered g begun opening units now) where
     pub gathered-underway : g.honest begun → (made : OpenedList) → made.opening ≡ opening → AreUnitsOf units made.records

@@ -1,5 +1,6 @@
 -- What `upgrade` leaves on a disk, from what it read, found, and wrote; and what it answers.
-use Rattle.std.proofs.Common.{◌≡◌, inl, inr, ℕ, ◌+◌, ◌*◌, List, length, drop, Option, Some, None, IfSome, ap, ◌∙◌, subst, arith}
+use Rattle.std.proofs.Common.{◌≡◌, inl, inr, ℕ, ◌+◌, ◌*◌, List, length, drop, Option, Some, None, IfSome, Result, OnOk, ap, ◌∙◌, subst, sym, arith}
+use Rattle.std.proofs.lemmas.Result.{on_ok_weaker}
 use Rattle.std.specs.Io.KnownBytes.{Appends}
 use Rattle.log_disk.specs.Costs.{Costs}
 use Rattle.log_disk.specs.Disk.{Leaves}
@@ -23,6 +24,7 @@ use Rattle.cli_cut.specs.Cutting.{IsSource}
 use Rattle.cli_cut.specs.Parts.{ArePartsOf, ReadsLog}
 use Rattle.cli_cut.specs.Upgrading.{AllHoldUpgrade, CostsUpgrade, GrowsByUpgrade, IsUpgradeOfSource, MayBeUpgraded}
 use Rattle.cli_cut.specs.Batches.{batches_of}
+use Rattle.cli_cut.specs.Writing.{WritesLog}
 use Rattle.cli_cut.specs.declared.reading.Parts.{Parts}
 
 -- ---- the answer
@@ -65,33 +67,49 @@ module _ (left left_new : Option (List ℕ)) (parts : Parts) (are : ArePartsOf l
   upgrade-left images c (inl none) = inr (inl none)
   upgrade-left images c (inr held) = inr (inr (are.made, of-source, held))
 
-  pub all-upgraded : (images : List ℕ → Type 0) → ((c : List ℕ) → images c → HoldsBatches (log_of are.made) (batches_of are.made.records) c) → AllHoldUpgrade left images
+  all-upgraded : (images : List ℕ → Type 0) → ((c : List ℕ) → images c → HoldsBatches (log_of are.made) (batches_of are.made.records) c) → AllHoldUpgrade left images
   all-upgraded images held = (are.made, of-source, held)
 
-  pub leaves-upgraded : {D : Type 0} (moment : D → ℕ) (images_since : D → ℕ → List ℕ → Type 0) (images : List ℕ → Type 0) (old mid new : D)
+  leaves-upgraded : {D : Type 0} (moment : D → ℕ) (images_since : D → ℕ → List ℕ → Type 0) (images : List ℕ → Type 0) (old mid new : D)
       → Leaves moment images_since images old mid → Leaves moment images_since (HoldsNoneOrBatches (log_of are.made) (batches_of are.made.records)) mid new
       → Leaves moment images_since (MayBeUpgraded left images) old new
   leaves-upgraded moment images_since images old mid new found written = Leaves-trans moment images_since (MayBeUpgraded left images) old mid new
       (Leaves-weaken moment images_since images (MayBeUpgraded left images) old mid (λ c image. inl image) found)
       (Leaves-weaken moment images_since (HoldsNoneOrBatches (log_of are.made) (batches_of are.made.records)) (MayBeUpgraded left images) mid new (upgrade-left images) written)
 
-  pub costs-upgraded : {D : Type 0} (g : Ghosts D) (old mid new : D) → Costs g 1 4 old mid
+  costs-upgraded : {D : Type 0} (g : Ghosts D) (old mid new : D) → Costs g 1 4 old mid
       → Costs g (6 + length (batches_of are.made.records)) (7 + length (batches_of are.made.records)) mid new → CostsUpgrade g left old new
   costs-upgraded g old mid new found written =
       let n : ℕ = length (batches_of are.made.records) in
       let both = Costs-then g 1 (6 + n) 4 (7 + n) old mid new found written in
       inr (are.made, of-source, record { successes = omega (arith, both.successes); calls = omega (arith, both.calls) })
 
-  pub grows-upgraded : {D : Type 0} (g : Ghosts D) (old mid new : D) (rest : List ℕ) → rest ≡ drop parts.front parts.listed.units
+  grows-upgraded : {D : Type 0} (g : Ghosts D) (old mid new : D) (rest : List ℕ) → rest ≡ drop parts.front parts.listed.units
       → g.reads mid ≡ g.reads old → GrowsAtMostTo g (21 + 12 * length parts.head.accounts + 5 * length (batches_of are.made.records) + 8 * length rest) mid new
       → GrowsByUpgrade g left old new
   grows-upgraded g old mid new rest is same grows =
       let place : ℕ = 21 + 12 * length are.made.opening.accounts + 5 * length (batches_of are.made.records) + 8 * end_of are.made.records in
-      let accounts = ap (λ (opening : Opening). length opening.accounts) are.head in
       inr (
         are.made,
         of-source,
         GrowsAtMostTo-trans g place old mid new (GrowsAtMostTo-same g place old mid same)
             (GrowsAtMostTo-more g (21 + 12 * length parts.head.accounts + 5 * length (batches_of are.made.records) + 8 * length rest) place mid new
-            (omega (arith, accounts, ap length (is ∙ are.units))) grows),
+            (omega (arith, ap (λ (opening : Opening). length opening.accounts) are.head, ap length (is ∙ are.units))) grows),
       )
+
+  -- the log is written to a disk on which none was found
+  module _ {D T E : Type 0} (g : Ghosts D) (old mid new : D) (rest : List ℕ) (is : rest ≡ drop parts.front parts.listed.units) (result : Result T E)
+      (stays : g.honest old → g.honest mid) (writes : WritesLog g parts.head rest mid new result) where
+    pub images-written : Leaves g.moment g.images_since (g.images old) old mid → g.honest old
+        → Leaves g.moment g.images_since (MayBeUpgraded left (g.images old)) old new
+    images-written found honest = leaves-upgraded g.moment g.images_since (g.images old) old mid new found
+        (writes.moments (stays honest) are.made (sym are.head) (rest-units rest is))
+
+    pub made-written : g.honest old → OnOk result (AllHoldUpgrade left (g.images new))
+    made-written honest = on_ok_weaker result (λ held. all-upgraded (g.images new) (held are.made (sym are.head) (rest-units rest is))) (writes.made (stays honest))
+
+    pub count-written : (g.honest old → Costs g 1 4 old mid) → g.honest old → CostsUpgrade g left old new
+    count-written found honest = costs-upgraded g old mid new (found honest) (writes.count (stays honest) are.made.records (rest-units rest is))
+
+    pub grows-written : (g.honest old → g.reads mid ≡ g.reads old) → g.honest old → GrowsByUpgrade g left old new
+    grows-written found honest = grows-upgraded g old mid new rest is (found honest) (writes.grows (stays honest) are.made.records (rest-units rest is))

@@ -1,5 +1,5 @@
 -- What is known of a log before it is upgraded. `left` and `left_new` are what the source holds before and after.
-use Rattle.std.specs.Prelude.{◌≡◌, ◌≤◌, ℕ, List, [], ◌∷◌, ◌++◌, length, drop, Option}
+use Rattle.std.specs.Prelude.{◌≡◌, ◌≤◌, ℕ, ◌+◌, List, [], ◌∷◌, ◌++◌, length, drop, Option}
 use Rattle.std.specs.List.{AllByRecursion}
 use Rattle.lsn_space.specs.declared.lsn.TheConstants.{LAST}
 use Rattle.log_record.specs.declared.rec.Rec.{Rec}
@@ -8,7 +8,8 @@ use Rattle.log_record.specs.Spelling.{IsSpellable}
 use Rattle.lock_core.specs.Tests.{IsGenesis}
 use Rattle.segment_file.specs.declared.layout.TheConstants.{MOST_UNITS}
 use Rattle.log_recovery.specs.Opened.{OpenedList, list_end}
-use Rattle.log_recovery.specs.Recovery.{Recovers}
+use Rattle.log_recovery.specs.Recovery.{HoldsLawful, Recovers, list_of}
+use Rattle.log_recovery.specs.declared.list_result.Listed.{Listed}
 use Rattle.log_recovery.specs.declared.recovery.Recovered.{Recovered}
 use Rattle.cli_shared.specs.Answers.{ReadsAll}
 use Rattle.cli_cut.specs.Upgrading.{IsUpgradeOf}
@@ -22,6 +23,13 @@ pub record SplitsGenesis (units : List ℕ) (front : ℕ) : Type 0 where
   pub place : front ≡ length (units_of genesis)
   pub all : AllByRecursion IsGenesis genesis
   pub first : (rec : Rec) (rest : List Rec) → later ≡ rec ∷ rest → IsGenesis rec → ⊥
+
+-- the list is lawful, and its first so many units, which end where LSNs do or before, are those of its Genesis records
+pub record IsGenesisFront (listed : Listed) (front : ℕ) : Type 0 where
+  pub lawful : (bytes : List ℕ) × (records : List Rec) × HoldsLawful bytes (list_of listed records) × (listed.units ≡ units_of records)
+  pub split : SplitsGenesis listed.units front
+  pub inside : front ≤ length listed.units
+  pub fits : listed.opening.lsn + front ≤ LAST
 
 -- the list that was read is lawful, and these are its accounts; the head begins with what its Genesis records leave, and the units behind them are those of
 -- the records of the new list, for which the batch has room

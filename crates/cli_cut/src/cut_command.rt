@@ -1,17 +1,12 @@
-ghost use Rattle.std.specs.Prelude.{◌≡◌, ◌≤◌, ◌+◌, ◌↔◌, IfSome, IfOk, IfErr, OnOk, MatchResult, IsErrOf};
-ghost use Rattle.log_disk.specs.Attaching.{existing_or_made};
+ghost use Rattle.std.specs.Prelude.{◌≡◌, ◌≤◌, ◌+◌, IfOk, MatchResult, IsErrOf};
 ghost use Rattle.log_disk.specs.Costs.{Costs};
-ghost use Rattle.log_disk.specs.Disk.{Leaves};
 ghost use Rattle.log_disk.specs.Faults.{CountsWhere};
 ghost use Rattle.lsn_space.specs.Opening.{IsSnapshot};
-ghost use Rattle.segment_file.specs.File.{BeginsOpen};
 ghost use Rattle.cli_shared.specs.Answers.{IsSourceFault};
-ghost use Rattle.cli_shared.specs.Attached.{EndsAttached};
-ghost use Rattle.cli_shared.specs.Creation.{TellsWhether};
-ghost use Rattle.cli_cut.specs.Answers.{IsMakingFault};
-ghost use Rattle.cli_cut.specs.Cutting.{AllHoldCut, GrowsByCut, MayBeCut, PrecedesCut, ReadsCut};
 ghost use Rattle.cli_shared.specs.World.{TellsFaults, world};
 ghost use Rattle.cli_cut.specs.Command.{DoesCut};
+ghost use Rattle.cli_cut.specs.Cutting.{AllHoldCut, GrowsByCut, MayBeCut, ReadsCut};
+ghost use Rattle.cli_cut.specs.Trying.{TriesLog};
 
 use cli_shared::{Detail, ReadFault, detail_of, finds_none, read_all};
 use log_disk::{LogDisk, Sink, Source};
@@ -51,23 +46,8 @@ fn make_cut<D: LogDisk, S: Source>(
     disk: &mut D,
     source: &mut S,
 ) -> Result<Opening, Detail>
-    ensures ok { IfOk result (ReadsCut (S.left source.old) (S.left source.new)) }
-    ensures err { IfErr result (IsMakingFault (S.left source.old) (S.left source.new)) }
-    ensures images { D.honest disk.old
-        → Leaves D.moment D.images_since (MayBeCut (S.left source.old) (D.images disk.old)) disk.old disk.new }
-    ensures made { D.honest disk.old → OnOk result (AllHoldCut (S.left source.old) (D.images disk.new)) }
-    ensures kept { IfErr result (λ detail. PrecedesCut detail
-        → Leaves D.moment D.images_since (D.images disk.old) disk.old disk.new) }
-    ensures unchanged { D.honest disk.old → IfErr result (λ detail. PrecedesCut detail → D.reads disk.new ≡ D.reads disk.old) }
-    ensures exists { D.honest disk.old
-        → MatchResult result (λ _. BeginsOpen (D.reads disk.old) → ⊥) (TellsWhether (BeginsOpen (D.reads disk.old))) }
-    ensures count { D.honest disk.old → Costs D.LogDisk 7 11 disk.old disk.new }
-    ensures grows { D.honest disk.old → GrowsByCut D.LogDisk (S.left source.old) disk.old disk.new }
-    ensures honest { D.honest disk.old ↔ D.honest disk.new }
-    ensures attached { D.honest disk.old
-        → EndsAttached (existing_or_made log.now) (D.attached disk.old) (D.attached disk.new) result }
-    ensures read { CountsWhere (IsErrOf result Detail.Read) (S.faults source.old) (S.faults source.new) }
-    ensures disk { CountsWhere (IsErrOf result Detail.Disk) (D.faults disk.old) (D.faults disk.new) }
+    ensures { TriesLog D.LogDisk S.Source ReadsCut MayBeCut AllHoldCut (Costs D.LogDisk 7 11) (GrowsByCut D.LogDisk (S.left source.old))
+        log.now disk.old disk.new source.old source.new result }
 {
     finds_none(disk, log)?;
     let opening = read_opening(alloc, source)?;
@@ -82,9 +62,9 @@ fn make_cut<D: LogDisk, S: Source>(
 
 /// What the log that is read leaves before the next list.
 fn read_opening<S: Source>(alloc: Global, source: &mut S) -> Result<Opening, Detail>
-    ensures ok { IfOk result (ReadsCut (S.left source.old) (S.left source.new)) }
+    ensures told { MatchResult result (ReadsCut (S.left source.old) (S.left source.new))
+        (IsSourceFault (S.left source.old) (S.left source.new)) }
     ensures held { IfOk result IsSnapshot }
-    ensures err { IfErr result (IsSourceFault (S.left source.old) (S.left source.new)) }
     ensures read { CountsWhere (IsErrOf result Detail.Read) (S.faults source.old) (S.faults source.new) }
 {
     let bytes = match read_all(alloc, source) {

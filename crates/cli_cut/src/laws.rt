@@ -10,12 +10,12 @@ ghost use Rattle.cli_cut.specs.Upgrading.{IsUpgradeOf};
 /// A law: of the log that was made `recover` answers the end, the balances, the marks and the next transaction number that it
 /// answers of the log that was cut.
 pub fn cut_recovers_the_same()
-    ensures lsn { (bytes made : List ℕ) (list : OpenedList) (opening : Opening) (a b : Recovered) → HoldsLawful bytes list → IsCutOf list opening
-        → HoldsLog made (cut_log opening) → Recovers a bytes → Recovers b made → a.lsn ≡ b.lsn }
+    ensures lsn { (bytes made : List ℕ) (list : OpenedList) (opening : Opening) (a b : Recovered) → HoldsLawful bytes list
+        → IsCutOf list opening → HoldsLog made (cut_log opening) → Recovers a bytes → Recovers b made → a.lsn ≡ b.lsn }
     ensures accounts { (bytes made : List ℕ) (list : OpenedList) (opening : Opening) (a b : Recovered) → HoldsLawful bytes list
         → IsCutOf list opening → HoldsLog made (cut_log opening) → Recovers a bytes → Recovers b made → a.accounts.rows ≡ b.accounts.rows }
-    ensures next { (bytes made : List ℕ) (list : OpenedList) (opening : Opening) (a b : Recovered) → HoldsLawful bytes list → IsCutOf list opening
-        → HoldsLog made (cut_log opening) → Recovers a bytes → Recovers b made → a.next_txn ≡ b.next_txn }
+    ensures next { (bytes made : List ℕ) (list : OpenedList) (opening : Opening) (a b : Recovered) → HoldsLawful bytes list
+        → IsCutOf list opening → HoldsLog made (cut_log opening) → Recovers a bytes → Recovers b made → a.next_txn ≡ b.next_txn }
 {}
 
 /// A law: a log that was made of another is a lawful list with no record.

@@ -1,19 +1,18 @@
 //! All that is read and asked for before anything of an upgraded log is written.
 
-ghost use Rattle.std.specs.Prelude.{◌≡◌, ◌≤◌, ◌+◌, ◌++◌, [], ℕ, List, length, IfSome, IfNone, IfOk, IfErr, IsErrOf};
+ghost use Rattle.std.specs.Prelude.{◌≡◌, ◌≤◌, ◌+◌, ◌++◌, [], ℕ, List, length, IfSome, IfNone, IfOk, MatchResult, IsErrOf};
 ghost use Rattle.log_disk.specs.Faults.{CountsWhere};
 ghost use Rattle.lsn_space.specs.Opening.{IsSnapshot};
-ghost use Rattle.lsn_space.specs.declared.lsn.TheConstants.{LAST};
 ghost use Rattle.log_record.specs.declared.rec.Rec.{Rec};
 ghost use Rattle.log_record.specs.declared.rec.Rec.TheVariants.{Genesis};
 ghost use Rattle.log_record.specs.LogList.{AreUnitsOf, units_of};
 ghost use Rattle.log_record.specs.Spelling.{spelling, BeginsWith};
 ghost use Rattle.lock_core.specs.Tests.{IsGenesis};
-ghost use Rattle.log_recovery.specs.Recovery.{HoldsLawful, list_of};
+ghost use Rattle.log_recovery.specs.Recovery.{list_of};
 ghost use Rattle.segment_file.specs.declared.layout.TheConstants.{MOST_UNITS};
 ghost use Rattle.cli_shared.specs.Answers.{IsSourceFault};
 ghost use Rattle.cli_cut.specs.Cutting.{IsCutOf};
-ghost use Rattle.cli_cut.specs.Parts.{ArePartsOf, SplitsGenesis};
+ghost use Rattle.cli_cut.specs.Parts.{ArePartsOf, IsGenesisFront, SplitsGenesis};
 
 use cli_shared::{Detail, ReadFault, detail_of, read_all};
 use log_disk::Source;
@@ -45,8 +44,8 @@ pub(crate) struct Parts {
 
 /// Reads the log, and asks for all memory.
 pub(crate) fn read_parts<S: Source>(alloc: Global, source: &mut S) -> Result<Parts, Detail>
-    ensures ok { IfOk result (ArePartsOf (S.left source.old) (S.left source.new)) }
-    ensures err { IfErr result (IsSourceFault (S.left source.old) (S.left source.new)) }
+    ensures told { MatchResult result (ArePartsOf (S.left source.old) (S.left source.new))
+        (IsSourceFault (S.left source.old) (S.left source.new)) }
     ensures read { CountsWhere (IsErrOf result Detail.Read) (S.faults source.old) (S.faults source.new) }
 {
     let bytes = match read_all(alloc, source) {
@@ -100,10 +99,7 @@ fn genesis_size(units: &[u64]) -> Option<usize>
 
 /// The head of the new log: what the list leaves behind so many units. And room for a batch.
 fn ask(alloc: Global, listed: &Listed, front: usize) -> Result<(Head, Batch), NoMemory>
-    requires lawful { (bytes : List ℕ) × (records : List Rec) × HoldsLawful bytes (list_of listed.now records) × (listed.now.units ≡ units_of records) }
-    requires front { SplitsGenesis listed.now.units front }
-    requires inside { front ≤ length listed.now.units }
-    requires fits { listed.now.opening.lsn + front ≤ LAST }
+    requires { IsGenesisFront listed.now front }
     ensures head { IfOk result (λ made. (genesis later : List Rec) → AreUnitsOf listed.now.units (genesis ++ later)
         → front ≡ length (units_of genesis) → IsCutOf (list_of listed.now genesis) made.0) }
     ensures batch { IfOk result (λ made. (made.1.units ≡ []) × (made.1.room ≡ MOST_UNITS)) }
@@ -116,10 +112,7 @@ fn ask(alloc: Global, listed: &Listed, front: usize) -> Result<(Head, Batch), No
 
 /// What the list leaves behind its first so many units, which are those of its Genesis records.
 fn opening_behind(alloc: Global, listed: &Listed, front: usize) -> Result<Opening, NoMemory>
-    requires lawful { (bytes : List ℕ) × (records : List Rec) × HoldsLawful bytes (list_of listed.now records) × (listed.now.units ≡ units_of records) }
-    requires front { SplitsGenesis listed.now.units front }
-    requires inside { front ≤ length listed.now.units }
-    requires fits { listed.now.opening.lsn + front ≤ LAST }
+    requires { IsGenesisFront listed.now front }
     ensures held { IfOk result IsSnapshot }
     ensures cut { IfOk result (λ opening. (genesis later : List Rec) → AreUnitsOf listed.now.units (genesis ++ later)
         → front ≡ length (units_of genesis) → IsCutOf (list_of listed.now genesis) opening) }

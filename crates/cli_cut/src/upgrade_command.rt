@@ -1,16 +1,9 @@
-ghost use Rattle.std.specs.Prelude.{◌≡◌, ◌↔◌, IfSome, IfOk, IfErr, OnOk, MatchResult, IsErrOf};
-ghost use Rattle.log_disk.specs.Attaching.{existing_or_made};
-ghost use Rattle.log_disk.specs.Disk.{Leaves};
-ghost use Rattle.log_disk.specs.Faults.{CountsWhere};
-ghost use Rattle.segment_file.specs.File.{BeginsOpen};
-ghost use Rattle.cli_shared.specs.Attached.{EndsAttached};
-ghost use Rattle.cli_shared.specs.Creation.{TellsWhether};
-ghost use Rattle.cli_cut.specs.Answers.{IsMakingFault};
-ghost use Rattle.cli_cut.specs.Cutting.{PrecedesCut};
-ghost use Rattle.cli_cut.specs.Parts.{ReadsLog};
-ghost use Rattle.cli_cut.specs.Upgrading.{AllHoldUpgrade, CostsUpgrade, GrowsByUpgrade, MayBeUpgraded};
+ghost use Rattle.std.specs.Prelude.{◌≡◌};
 ghost use Rattle.cli_shared.specs.World.{TellsFaults, world};
 ghost use Rattle.cli_cut.specs.Command.{DoesUpgrade};
+ghost use Rattle.cli_cut.specs.Parts.{ReadsLog};
+ghost use Rattle.cli_cut.specs.Trying.{TriesLog};
+ghost use Rattle.cli_cut.specs.Upgrading.{AllHoldUpgrade, CostsUpgrade, GrowsByUpgrade, MayBeUpgraded};
 
 use crate::reading::read_parts;
 use crate::writing::write_log;
@@ -49,23 +42,8 @@ fn make_upgrade<D: LogDisk, S: Source>(
     disk: &mut D,
     source: &mut S,
 ) -> Result<Recovered, Detail>
-    ensures ok { IfOk result (ReadsLog (S.left source.old) (S.left source.new)) }
-    ensures err { IfErr result (IsMakingFault (S.left source.old) (S.left source.new)) }
-    ensures images { D.honest disk.old
-        → Leaves D.moment D.images_since (MayBeUpgraded (S.left source.old) (D.images disk.old)) disk.old disk.new }
-    ensures made { D.honest disk.old → OnOk result (AllHoldUpgrade (S.left source.old) (D.images disk.new)) }
-    ensures kept { IfErr result (λ detail. PrecedesCut detail
-        → Leaves D.moment D.images_since (D.images disk.old) disk.old disk.new) }
-    ensures unchanged { D.honest disk.old → IfErr result (λ detail. PrecedesCut detail → D.reads disk.new ≡ D.reads disk.old) }
-    ensures exists { D.honest disk.old
-        → MatchResult result (λ _. BeginsOpen (D.reads disk.old) → ⊥) (TellsWhether (BeginsOpen (D.reads disk.old))) }
-    ensures count { D.honest disk.old → CostsUpgrade D.LogDisk (S.left source.old) disk.old disk.new }
-    ensures grows { D.honest disk.old → GrowsByUpgrade D.LogDisk (S.left source.old) disk.old disk.new }
-    ensures honest { D.honest disk.old ↔ D.honest disk.new }
-    ensures attached { D.honest disk.old
-        → EndsAttached (existing_or_made log.now) (D.attached disk.old) (D.attached disk.new) result }
-    ensures read { CountsWhere (IsErrOf result Detail.Read) (S.faults source.old) (S.faults source.new) }
-    ensures disk { CountsWhere (IsErrOf result Detail.Disk) (D.faults disk.old) (D.faults disk.new) }
+    ensures { TriesLog D.LogDisk S.Source ReadsLog MayBeUpgraded AllHoldUpgrade (CostsUpgrade D.LogDisk (S.left source.old))
+        (GrowsByUpgrade D.LogDisk (S.left source.old)) log.now disk.old disk.new source.old source.new result }
 {
     finds_none(disk, log)?;
     let mut parts = read_parts(alloc, source)?;

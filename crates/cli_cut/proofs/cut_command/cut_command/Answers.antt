@@ -1,71 +1,33 @@
-use Rattle.std.proofs.Common.{ap, refl, subst, sym}
-use Rattle.cli_shared.proofs.FaultsTold.{told-before, told-fine, told-part}
-use Rattle.cli_shared.proofs.ToldLemmas.{TellsWrite}
+use Rattle.std.proofs.Common.{ap}
 use Rattle.log_recovery.specs.Text.{rows_text}
 use Rattle.lsn_space.specs.Opening.{Opening}
-use Rattle.cli_cut.proofs.AnswerLemmas.{answers_cut-fine, answers_cut-write, unmade-fault}
+use Rattle.cli_cut.proofs.AnswerLemmas.{answers_cut-fine, answers_cut-write}
+use Rattle.cli_cut.proofs.TryingLemmas.{makes-fine, makes-none, makes-part, tells-fine, tells-none, tells-part}
 use Rattle.cli_cut.proofs.cut_command.cut_command.Goals as goal
 
 -- no log is made
 pub returns-in-Err : goal.returns-in-Err
-returns-in-Err g c =
-    let made = c.in-Err.ensures in
-    let told = unmade-fault _ _ _ c.in-Err.detail made.err in
-    record {
-      done = record {
-        answer = told.answer;
-        silent = told.silent;
-        range = told.range;
-        images = made.images;
-        made = λ honest follows. absurd (told.follows follows);
-        kept = made.kept;
-        unchanged = made.unchanged;
-        exists = made.exists;
-        count = made.count;
-        attached = made.attached;
-        grows = made.grows;
-      };
-      faults = told-before g.D.LogDisk g.S.Source g.K.Sink _ _ c.in-Err.detail (λ is. told.write (subst TellsWrite (sym is) tt)) made.read refl made.disk made.honest;
-    }
+returns-in-Err g c = record {
+  done = makes-none g.D.LogDisk g.S.Source g.K.Sink _ _ _ _ _ _ _ _ _ _ _ c.in-Err.detail c.in-Err.ensures;
+  faults = tells-none g.D.LogDisk g.S.Source g.K.Sink _ _ _ _ _ _ _ _ _ _ _ c.in-Err.detail c.in-Err.ensures;
+}
 
 -- the log is made, and its text written
 pub returns-in-Ok-put_accounts : goal.returns-in-Ok-put_accounts
-returns-in-Ok-put_accounts g c = record {
-  done = record {
-    answer = let text = ap (λ (o : Opening). rows_text o.lsn o.accounts) c.opening.view_is in
-        answers_cut-fine _ _ _ _ c.in-Ok.opening c.in-Ok.ensures.ok (rw text at c.in-Ok-put_accounts.ensures.all);
-    silent = tt;
-    range = tt;
-    images = c.in-Ok.ensures.images;
-    made = λ honest follows. c.in-Ok.ensures.made honest;
-    kept = λ precedes. absurd precedes;
-    unchanged = λ honest precedes. absurd precedes;
-    exists = c.in-Ok.ensures.exists;
-    count = c.in-Ok.ensures.count;
-    attached = c.in-Ok.ensures.attached;
-    grows = c.in-Ok.ensures.grows;
-  };
-  faults = told-fine g.D.LogDisk g.S.Source g.K.Sink _ _ (c.in-Ok.ensures.read.fine (λ is. cc)) c.in-Ok-put_accounts.ensures.cause.fine
-      (c.in-Ok.ensures.disk.fine (λ is. cc)) c.in-Ok.ensures.honest;
-}
+returns-in-Ok-put_accounts g c =
+    let made = c.in-Ok.ensures in
+    let text = rw (ap (λ (o : Opening). rows_text o.lsn o.accounts) c.opening.view_is) at c.in-Ok-put_accounts.ensures.all in
+    record {
+      done = makes-fine g.D.LogDisk g.S.Source g.K.Sink _ _ _ _ _ _ _ _ _ _ _ _ c.in-Ok.opening made (answers_cut-fine _ _ _ _ c.in-Ok.opening made.ok text);
+      faults = tells-fine g.D.LogDisk g.S.Source g.K.Sink _ _ _ _ _ _ _ _ _ _ _ _ c.in-Ok.opening made c.in-Ok-put_accounts.ensures.cause.fine;
+    }
 
 -- the log is made, and the writing failed
 pub returns : goal.returns
-returns g c = record {
-  done = record {
-    answer = let text = ap (λ (o : Opening). rows_text o.lsn o.accounts) c.opening.view_is in
-        answers_cut-write _ _ _ _ c.in-Ok.opening c.in-Ok.ensures.ok (rw text at c.in-Err-put_accounts.ensures.prefix);
-    silent = tt;
-    range = tt;
-    images = c.in-Ok.ensures.images;
-    made = λ honest follows. c.in-Ok.ensures.made honest;
-    kept = λ precedes. absurd precedes;
-    unchanged = λ honest precedes. absurd precedes;
-    exists = c.in-Ok.ensures.exists;
-    count = c.in-Ok.ensures.count;
-    attached = c.in-Ok.ensures.attached;
-    grows = c.in-Ok.ensures.grows;
-  };
-  faults = told-part g.D.LogDisk g.S.Source g.K.Sink _ _ (c.in-Ok.ensures.read.fine (λ is. cc)) c.in-Err-put_accounts.ensures.cause.failed
-      (c.in-Ok.ensures.disk.fine (λ is. cc)) c.in-Ok.ensures.honest;
-}
+returns g c =
+    let made = c.in-Ok.ensures in
+    let text = rw (ap (λ (o : Opening). rows_text o.lsn o.accounts) c.opening.view_is) at c.in-Err-put_accounts.ensures.prefix in
+    record {
+      done = makes-part g.D.LogDisk g.S.Source g.K.Sink _ _ _ _ _ _ _ _ _ _ _ _ c.in-Ok.opening made (answers_cut-write _ _ _ _ c.in-Ok.opening made.ok text);
+      faults = tells-part g.D.LogDisk g.S.Source g.K.Sink _ _ _ _ _ _ _ _ _ _ _ _ c.in-Ok.opening made c.in-Err-put_accounts.ensures.cause.failed;
+    }

@@ -27,7 +27,7 @@ returns-clause-held c =
     let end : c.new.result ≡ c.args.listed.now.opening.lsn + length (units_of taken.records) =
     omega (arith, c.new.ensures, lsn, ap length taken.list.units_are, c.split_at.ensures.front_len, c.requires.fits) in
     let small : c.greatest_txn.result < 2 ^ 32 = search rules in
-    split-snapshot lawful.0 (list_of c.args.listed.now lawful.1) lawful.2 c.args.listed.now.units lawful.3 c.args.front c.requires.front _ taken.records _ _ _ own
+    split-snapshot lawful.0 (list_of c.args.listed.now lawful.1) lawful.2 c.args.listed.now.units lawful.3 c.args.front c.requires.split _ taken.records _ _ _ own
     taken.list shows end small
 
 pub returns-clause-cut : goal.returns-clause-cut

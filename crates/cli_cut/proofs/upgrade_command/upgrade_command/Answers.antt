@@ -1,68 +1,32 @@
-use Rattle.std.proofs.Common.{refl, subst, sym}
-use Rattle.cli_shared.proofs.FaultsTold.{told-before, told-fine, told-part}
-use Rattle.cli_shared.proofs.ToldLemmas.{TellsWrite}
-use Rattle.cli_cut.proofs.AnswerLemmas.{unmade-fault}
+use Rattle.cli_cut.proofs.TryingLemmas.{makes-fine, makes-none, makes-part, tells-fine, tells-none, tells-part}
 use Rattle.cli_cut.proofs.UpgradingLemmas.{answers_read-fine, answers_read-write}
 use Rattle.cli_cut.proofs.upgrade_command.upgrade_command.Goals as goal
 
 -- no log is made
 pub returns-in-Err : goal.returns-in-Err
-returns-in-Err g c =
-    let made = c.in-Err.ensures in
-    let told = unmade-fault _ _ _ c.in-Err.detail made.err in
-    record {
-      done = record {
-        answer = told.answer;
-        silent = told.silent;
-        range = told.range;
-        images = made.images;
-        made = λ honest follows. absurd (told.follows follows);
-        kept = made.kept;
-        unchanged = made.unchanged;
-        exists = made.exists;
-        count = made.count;
-        attached = made.attached;
-        grows = made.grows;
-      };
-      faults = told-before g.D.LogDisk g.S.Source g.K.Sink _ _ c.in-Err.detail (λ is. told.write (subst TellsWrite (sym is) tt)) made.read refl made.disk made.honest;
-    }
+returns-in-Err g c = record {
+  done = makes-none g.D.LogDisk g.S.Source g.K.Sink _ _ _ _ _ _ _ _ _ _ _ c.in-Err.detail c.in-Err.ensures;
+  faults = tells-none g.D.LogDisk g.S.Source g.K.Sink _ _ _ _ _ _ _ _ _ _ _ c.in-Err.detail c.in-Err.ensures;
+}
 
 -- the log is made, and its text written
 pub returns-in-Ok-put_accounts : goal.returns-in-Ok-put_accounts
-returns-in-Ok-put_accounts g c = record {
-  done = record {
-    answer = answers_read-fine _ _ _ _ c.in-Ok.recovered c.in-Ok.ensures.ok c.in-Ok-put_accounts.ensures.all;
-    silent = tt;
-    range = tt;
-    images = c.in-Ok.ensures.images;
-    made = λ honest follows. c.in-Ok.ensures.made honest;
-    kept = λ precedes. absurd precedes;
-    unchanged = λ honest precedes. absurd precedes;
-    exists = c.in-Ok.ensures.exists;
-    count = c.in-Ok.ensures.count;
-    attached = c.in-Ok.ensures.attached;
-    grows = c.in-Ok.ensures.grows;
-  };
-  faults = told-fine g.D.LogDisk g.S.Source g.K.Sink _ _ (c.in-Ok.ensures.read.fine (λ is. cc)) c.in-Ok-put_accounts.ensures.cause.fine
-      (c.in-Ok.ensures.disk.fine (λ is. cc)) c.in-Ok.ensures.honest;
-}
+returns-in-Ok-put_accounts g c =
+    let made = c.in-Ok.ensures in
+    let recovered = c.in-Ok.recovered in
+    let written = c.in-Ok-put_accounts.ensures in
+    record {
+      done = makes-fine g.D.LogDisk g.S.Source g.K.Sink _ _ _ _ _ _ _ _ _ _ _ _ recovered made (answers_read-fine _ _ _ _ recovered made.ok written.all);
+      faults = tells-fine g.D.LogDisk g.S.Source g.K.Sink _ _ _ _ _ _ _ _ _ _ _ _ recovered made written.cause.fine;
+    }
 
 -- the log is made, and the writing failed
 pub returns : goal.returns
-returns g c = record {
-  done = record {
-    answer = answers_read-write _ _ _ _ c.in-Ok.recovered c.in-Ok.ensures.ok c.in-Err-put_accounts.ensures.prefix;
-    silent = tt;
-    range = tt;
-    images = c.in-Ok.ensures.images;
-    made = λ honest follows. c.in-Ok.ensures.made honest;
-    kept = λ precedes. absurd precedes;
-    unchanged = λ honest precedes. absurd precedes;
-    exists = c.in-Ok.ensures.exists;
-    count = c.in-Ok.ensures.count;
-    attached = c.in-Ok.ensures.attached;
-    grows = c.in-Ok.ensures.grows;
-  };
-  faults = told-part g.D.LogDisk g.S.Source g.K.Sink _ _ (c.in-Ok.ensures.read.fine (λ is. cc)) c.in-Err-put_accounts.ensures.cause.failed
-      (c.in-Ok.ensures.disk.fine (λ is. cc)) c.in-Ok.ensures.honest;
-}
+returns g c =
+    let made = c.in-Ok.ensures in
+    let recovered = c.in-Ok.recovered in
+    let written = c.in-Err-put_accounts.ensures in
+    record {
+      done = makes-part g.D.LogDisk g.S.Source g.K.Sink _ _ _ _ _ _ _ _ _ _ _ _ recovered made (answers_read-write _ _ _ _ recovered made.ok written.prefix);
+      faults = tells-part g.D.LogDisk g.S.Source g.K.Sink _ _ _ _ _ _ _ _ _ _ _ _ recovered made written.cause.failed;
+    }

@@ -1,5 +1,5 @@
-use Rattle.std.proofs.Common.{◌≤◌, ◌<◌, ◌+◌, ◌∙◌, refl, ap, sym, subst, [], length, arith}
-use Rattle.std.proofs.lemmas.Result.{on_ok_weaker}
+use Rattle.std.proofs.Common.{◌≤◌, ◌<◌, ◌+◌, ◌∙◌, refl, ap, subst, [], length, arith}
+use Rattle.std.proofs.lemmas.Result.{err_from_is_err_and, on_ok_weaker}
 use Rattle.log_disk.specs.Faults.{HasCause}
 use Rattle.log_record.specs.LogList.{size_of}
 use Rattle.log_record.proofs.BoundLemmas.{length-spelling}
@@ -7,9 +7,18 @@ use Rattle.log_recovery.specs.Opened.{log_of}
 use Rattle.segment_file.specs.Packing.{BatchState}
 use Rattle.segment_file.specs.declared.layout.TheConstants.{MOST_UNITS}
 use Rattle.cli_cut.specs.Batches.{batches_of}
-use Rattle.cli_cut.proofs.ReadyLemmas.{IsGathered, IsReady, can-add, can-fit, can-open, can-place, failed-count, failed-grows, failed-moments, gathered, gathered-underway, none-there, opened-count, opened-grows, opened-moments, ready-begun, ready-flushed, ready-last, ready-same, ready-taken, some-full}
+use Rattle.cli_cut.proofs.ReadyLemmas.{IsGathered, IsReady, can-add, can-fit, can-open, can-place, failed-begun, failed-writes, gathered, gathered-none, gathered-underway, opened-count, opened-grows, opened-moments, ready-begun, ready-flushed, ready-last, ready-same, ready-taken, some-full}
 use Rattle.cli_cut.proofs.writing.write_log.Goals as goal
 use Rattle.cli_cut.proofs.writing.write_log.Goals.{then-count-size+in_ok-tail-2, else-count-size, then-count-gt0+in_ok-add_cut, else-count-gt0}
+
+-- ---- the head
+
+pub returns-in_err-tail : goal.returns-in_err-tail
+returns-in_err-tail g c =
+    let failed = err_from_is_err_and c.from_residual.result c.from_residual.ensures.1 in
+    let begun = c.in_err-tail.ensures in
+    rw failed.1 (failed-begun g.D.LogDisk _ c.args.head.now c.args.units.now failed.0 _ begun.moments begun.count begun.length begun.later begun.honest
+    begun.attached begun.cause.later begun.cause.failed)
 
 -- ---- before each record
 
@@ -41,18 +50,13 @@ add_cut-requires-clause-place g c = can-place g.D.LogDisk _ c.args.head.now _ _ 
 pub add_cut-requires-clause-underway : goal.add_cut-requires-clause-underway
 add_cut-requires-clause-underway g c = can-add g.D.LogDisk _ c.args.head.now _ _ _ _ _ _ c.records.invariant c.requires.records
 
-pub returns-in_err-tail-2-clause-moments : goal.returns-in_err-tail-2-clause-moments
-returns-in_err-tail-2-clause-moments g c =
-    failed-moments g.D.LogDisk _ c.args.head.now _ _ _ _ _ _ c.records.invariant _ c.add_cut.ensures.moments
-
-pub returns-in_err-tail-2-clause-count : goal.returns-in_err-tail-2-clause-count
-returns-in_err-tail-2-clause-count g c =
-    failed-count g.D.LogDisk _ c.args.head.now _ _ _ _ _ _ c.records.invariant _ c.add_cut.ensures.count
-
-pub returns-in_err-tail-2-clause-grows : goal.returns-in_err-tail-2-clause-grows
-returns-in_err-tail-2-clause-grows g c = λ honest records are.
+pub returns-in_err-tail-2 : goal.returns-in_err-tail-2
+returns-in_err-tail-2 g c =
+    let failed = err_from_is_err_and c.from_residual-in_err-tail-2.result c.from_residual-in_err-tail-2.ensures.1 in
     let some = some-full _ c.in-Ok.field-0-0 c.in-Ok.ensures.found.0.0 (omega (arith, c.if-count-size.true, c.count.ensures, c.in-Ok.ensures.found.1)) in
-    failed-grows g.D.LogDisk _ c.args.head.now _ _ _ _ _ _ c.records.invariant (records, are) _ some c.add_cut.ensures.length honest
+    let added = c.in_err-tail-2.ensures in
+    rw failed.1 (failed-writes g.D.LogDisk _ c.args.head.now _ _ _ _ _ _ c.records.invariant failed.0 _ some added.moments added.count added.length added.later
+    added.honest added.attached added.cause.later added.cause.failed)
 
 -- ---- the record waits
 
@@ -130,18 +134,12 @@ add_cut-requires-then-count-gt0-clause-place g c =
 pub add_cut-requires-then-count-gt0-clause-underway : goal.add_cut-requires-then-count-gt0-clause-underway
 add_cut-requires-then-count-gt0-clause-underway g c = can-add g.D.LogDisk _ c.args.head.now _ _ _ _ _ _ c.records.invariant c.requires.records
 
-pub returns-in_err-add_cut-clause-moments : goal.returns-in_err-add_cut-clause-moments
-returns-in_err-add_cut-clause-moments g c =
-    failed-moments g.D.LogDisk _ c.args.head.now _ _ _ _ _ _ c.records.invariant _ c.add_cut-then-count-gt0.ensures.moments
-
-pub returns-in_err-add_cut-clause-count : goal.returns-in_err-add_cut-clause-count
-returns-in_err-add_cut-clause-count g c =
-    failed-count g.D.LogDisk _ c.args.head.now _ _ _ _ _ _ c.records.invariant _ c.add_cut-then-count-gt0.ensures.count
-
-pub returns-in_err-add_cut-clause-grows : goal.returns-in_err-add_cut-clause-grows
-returns-in_err-add_cut-clause-grows g c = λ honest records are.
-    failed-grows g.D.LogDisk _ c.args.head.now _ _ _ _ _ _ c.records.invariant (records, are) _ (omega (arith, c.if-count-gt0.true, c.count-2.ensures))
-    c.add_cut-then-count-gt0.ensures.length honest
+pub returns-in_err-add_cut : goal.returns-in_err-add_cut
+returns-in_err-add_cut g c =
+    let failed = err_from_is_err_and c.from_residual-in_err-add_cut.result c.from_residual-in_err-add_cut.ensures.1 in
+    let added = c.in_err-add_cut.ensures in
+    rw failed.1 (failed-writes g.D.LogDisk _ c.args.head.now _ _ _ _ _ _ c.records.invariant failed.0 _ (omega (arith, c.if-count-gt0.true, c.count-2.ensures))
+    added.moments added.count added.length added.later added.honest added.attached added.cause.later added.cause.failed)
 
 -- ---- the first gate is opened
 
@@ -152,16 +150,13 @@ open_cut-requires g c =
     elim c.if-count-gt0.branch [
       | then-count-gt0+in_ok-add_cut w ↦
           (let added = w.in_ok-add_cut.ensures in
-          subst (IsGathered g.D.LogDisk c.args.disk.now c.args.head.now c.args.units.now) (sym w.disk-is)
-          (gathered g.D.LogDisk _ c.args.head.now _ _ _ _ _
+          gathered g.D.LogDisk _ c.args.head.now _ _ _ w.disk-is _ _ _
           (ready-last g.D.LogDisk _ c.args.head.now _ _ _ _ _ _ c.records.invariant _ w.in_ok-add_cut.field-0 added.added added.moments added.place added.next
           added.length added.count added.later added.honest added.attached added.cause.fine (omega (arith, w.if-count-gt0.true, c.count-2.ensures)) none) none
-          c.requires.records))
+          c.requires.records)
       | else-count-gt0 w ↦
-          subst (IsGathered g.D.LogDisk c.args.disk.now c.args.head.now c.args.units.now) (sym w.disk-is)
-          (gathered g.D.LogDisk _ c.args.head.now _ _ _ _ _
-          (ready-same g.D.LogDisk _ c.args.head.now _ _ _ _ _ _ _ _ _ _ refl refl
-          (sym (none-there c.records.batch.units (omega (arith, w.if-count-gt0.false, c.count-2.ensures)))) refl c.records.invariant) none c.requires.records)
+          gathered-none g.D.LogDisk _ c.args.head.now _ _ _ w.disk-is _ _ _ _ c.records.invariant (omega (arith, w.if-count-gt0.false, c.count-2.ensures)) none
+          c.requires.records
     ] in
     record { underway = can-open g.D.LogDisk _ c.args.head.now _ _ all c.requires.records }
 
@@ -172,16 +167,13 @@ returns g c =
     elim c.if-count-gt0.branch [
       | then-count-gt0+in_ok-add_cut w ↦
           (let added = w.in_ok-add_cut.ensures in
-          subst (IsGathered g.D.LogDisk c.args.disk.now c.args.head.now c.args.units.now) (sym w.disk-is)
-          (gathered g.D.LogDisk _ c.args.head.now _ _ _ _ _
+          gathered g.D.LogDisk _ c.args.head.now _ _ _ w.disk-is _ _ _
           (ready-last g.D.LogDisk _ c.args.head.now _ _ _ _ _ _ c.records.invariant _ w.in_ok-add_cut.field-0 added.added added.moments added.place added.next
           added.length added.count added.later added.honest added.attached added.cause.fine (omega (arith, w.if-count-gt0.true, c.count-2.ensures)) none) none
-          c.requires.records))
+          c.requires.records)
       | else-count-gt0 w ↦
-          subst (IsGathered g.D.LogDisk c.args.disk.now c.args.head.now c.args.units.now) (sym w.disk-is)
-          (gathered g.D.LogDisk _ c.args.head.now _ _ _ _ _
-          (ready-same g.D.LogDisk _ c.args.head.now _ _ _ _ _ _ _ _ _ _ refl refl
-          (sym (none-there c.records.batch.units (omega (arith, w.if-count-gt0.false, c.count-2.ensures)))) refl c.records.invariant) none c.requires.records)
+          gathered-none g.D.LogDisk _ c.args.head.now _ _ _ w.disk-is _ _ _ _ c.records.invariant (omega (arith, w.if-count-gt0.false, c.count-2.ensures)) none
+          c.requires.records
     ] in
     let opened = c.open_cut.ensures in
     record {
