@@ -1,14 +1,8 @@
-//! What `judged` answers, and what the judge tells of transactions that aren't ended.
-
-ghost use Rattle.std.specs.Prelude.{List};
-ghost use Rattle.log_record.specs.declared.rec.Placed.{Placed};
-ghost use Rattle.lock_core.specs.Sums.{Opening};
-ghost use Rattle.lock_core.specs.Taking.{HasJudged};
+//! What `judged` answers.
 
 use crate::answers::{Fault, is_fault};
 use crate::cut::cut_and;
 use crate::images::{GENESIS, TRANSFER, image};
-use arrayvec::ArrayVec;
 use lock_core::Judge;
 use log_recovery::{Why, judged};
 use segment_file::Tail;
@@ -35,47 +29,34 @@ fn has_end(rt: &impl Abort, name: &str, judge: &Judge, tail: Tail, end: End) {
     );
 }
 
-/// Transaction 7 has so many Updates and no end record, transaction 1 has none or has its end record.
-fn has_changes(rt: &impl Abort, judge: &Judge, count: usize)
-    requires { (opening : Opening) × (h : List Placed) × HasJudged opening judge.now h }
-{
-    let mut changes = ArrayVec::new();
-    judge.changes_of(7, &mut changes);
-    let open = changes.len();
-    judge.changes_of(1, &mut changes);
-    assert_eq!(rt; (open, changes.len()), (count, 0));
-}
-
-/// A judge is answered that has taken a list with that end, and Updates of transaction 7 as many as said.
+/// A judge is answered that has taken a list with that end.
 fn is_judged<R: AllocGlobal + Abort>(
     rt: &R,
     name: &str,
     bytes: &[u8],
     end: End,
-    changes: usize,
 ) -> Result<(), Fail> {
     let Ok((judge, tail)) = judged(rt.alloc(), bytes) else {
         return Err(Fail::new("not judged"));
     };
     has_end(rt, name, &judge, tail, end);
-    has_changes(rt, &judge, changes);
     Ok(())
 }
 
 #[test]
 fn judges_a_whole_log(rt: HostRuntime) -> Result<(), Fail> {
     let genesis = image(rt.alloc(), &[&GENESIS])?;
-    is_judged(&rt, "genesis", genesis.as_slice(), (44, 4, 0), 0)?;
+    is_judged(&rt, "genesis", genesis.as_slice(), (44, 4, 0))?;
     let done = image(rt.alloc(), &[&GENESIS, &TRANSFER])?;
-    is_judged(&rt, "one transfer", done.as_slice(), (89, 9, 1), 0)?;
+    is_judged(&rt, "one transfer", done.as_slice(), (89, 9, 1))?;
     let open = image(rt.alloc(), &[&GENESIS, &UNFINISHED])?;
-    is_judged(&rt, "unfinished", open.as_slice(), (81, 8, 7), 2)
+    is_judged(&rt, "unfinished", open.as_slice(), (81, 8, 7))
 }
 
 #[test]
 fn judges_a_log_that_was_cut(rt: HostRuntime) -> Result<(), Fail> {
     let cut = cut_and(rt.alloc(), &[])?;
-    is_judged(&rt, "cut", cut.as_slice(), (44, 9, 1), 0)
+    is_judged(&rt, "cut", cut.as_slice(), (44, 9, 1))
 }
 
 /// Batches behind the accounts' that no judge takes.

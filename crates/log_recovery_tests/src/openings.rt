@@ -4,7 +4,8 @@ ghost use Rattle.std.specs.Prelude.{◌≡◌, [], IfOk};
 ghost use Rattle.lock_core.specs.Taking.{HasJudged};
 ghost use Rattle.lock_core.specs.Witness.{snapshot, cut};
 
-use lock_core::{Judge, JudgeFault, Why};
+use arrayvec::ArrayVec;
+use lock_core::{Change, Judge, JudgeFault, Why};
 use log_record::Rec;
 use lsn_space::{Balances, Lsn, NoMemory, Opening};
 use std::alloc::Global;
@@ -42,6 +43,16 @@ fn has(rt: &impl Abort, judge: &Judge, first: (u32, u32), second: (u32, u32), gr
     assert_eq!(rt; judge.greatest_txn(), greatest);
 }
 
+/// These are the transfer's Updates, newest first.
+fn are_its_updates(rt: &impl Abort, changes: &[Change]) -> Result<(), Fail> {
+    let [giving, taking] = changes else {
+        return Err(Fail::new("not two Updates"));
+    };
+    assert_eq!(rt; (giving.account, giving.delta), (0, 30));
+    assert_eq!(rt; (taking.account, taking.delta), (1, -30));
+    Ok(())
+}
+
 /// The record was refused by this test.
 fn is_refused(rt: &impl Abort, found: Result<(), JudgeFault>, why: Why) {
     assert_eq!(rt; found, Err(JudgeFault::Why(why)));
@@ -66,18 +77,18 @@ fn goes_on(rt: HostRuntime) -> Result<(), Fail> {
         delta: 30,
         prev: Lsn::new(9),
     };
-    let commit = Rec::Commit { txn: 2, legs: 1 };
     let Ok(()) = judge.take(Lsn::new(9), &taking) else {
         return Err(Fail::new("the taking is refused"));
     };
     let Ok(()) = judge.take(Lsn::new(11), &giving) else {
         return Err(Fail::new("the giving is refused"));
     };
-    let Ok(()) = judge.take(Lsn::new(13), &commit) else {
+    let mut changes = ArrayVec::new();
+    let Ok(()) = judge.take_commit(Lsn::new(13), 2, 1, &mut changes) else {
         return Err(Fail::new("the Commit is refused"));
     };
     has(&rt, &judge, (100, 14), (0, 14), 2);
-    Ok(())
+    are_its_updates(&rt, changes.as_slice())
 }
 
 /// A transaction of the log that was cut is ended.

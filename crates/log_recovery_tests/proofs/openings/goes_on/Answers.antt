@@ -12,8 +12,8 @@ take-requires-2-clause-taken g c =
     let start = c.new-4.ensures in let next = c.new-5.ensures in
     (cut, entry_at c.new-4.result (Update 2 1 (negsuc 29) c.new-2.result) ∷ [], c.in-Ok-take.ensures.taken cut [] c.in-Ok.ensures, omega arith)
 
-pub take-requires-3-clause-taken : goal.take-requires-3-clause-taken
-take-requires-3-clause-taken g c =
+pub take_commit-requires-clause-taken : goal.take_commit-requires-clause-taken
+take_commit-requires-clause-taken g c =
     let next = c.new-5.ensures in let last = c.new-6.ensures in (
       cut,
       entry_at c.new-5.result (Update 2 0 (pos 30) c.new-3.result) ∷ entry_at c.new-4.result (Update 2 1 (negsuc 29) c.new-2.result) ∷ [],
