@@ -1,3 +1,4 @@
+//! The words of the command line.
 use cli_shared::Detail;
 use lsn_space::Word;
 use std::env;

@@ -1,3 +1,4 @@
+//! What `recover` answers of a log that was cut or upgraded.
 ghost use Rattle.std.specs.Prelude.{◌≡◌, List, [], ℕ};
 ghost use Rattle.lsn_space.specs.Opening.{Opening};
 ghost use Rattle.segment_file.specs.Log.{cut_log, HoldsLog};

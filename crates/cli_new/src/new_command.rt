@@ -1,3 +1,4 @@
+//! The command `new`: a log of balances.
 ghost use Rattle.std.specs.Prelude.{◌≡◌, ◌≤◌, ◌+◌, ◌↔◌, IfSome, IfOk, IfErr, OnOk, MatchResult, IsErrOf};
 ghost use Rattle.log_disk.specs.Attaching.{existing_or_made};
 ghost use Rattle.log_disk.specs.Costs.{Costs};

@@ -1,3 +1,4 @@
+//! The command `follow`: a log that takes in a stream, frame by frame.
 ghost use Rattle.std.specs.Prelude.{◌≡◌, ◌≤◌, ◌+◌, List, ℕ, IfOk, IfErr, IsErrOf};
 ghost use Rattle.log_disk.specs.Attaching.{existing};
 ghost use Rattle.log_disk.specs.Faults.{CountsWhere};

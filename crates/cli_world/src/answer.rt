@@ -1,3 +1,4 @@
+//! What comes of the words of the command line: an answer, or a command that needs workers.
 use cli_shared::Detail;
 use command_line::RunOptions;
 use lsn_space::Word;

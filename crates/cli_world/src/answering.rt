@@ -1,3 +1,4 @@
+//! The words of the command line, and the commands that they ask where no workers are needed.
 ghost use Rattle.cli_shared.specs.World.{world};
 ghost use Rattle.cli_world.specs.Alone.{AnsweredAlone};
 

@@ -1,3 +1,4 @@
+//! The commands, and why words ask none.
 use crate::options::RunOptions;
 use lsn_space::Word;
 

@@ -1,3 +1,4 @@
+//! The options of `run` and `demo`.
 ghost use Rattle.std.specs.Prelude.{◌≡◌, ◌≤◌, ◌↔◌, ℕ, Some, IsTrue, IfSome, IfNone, IfOk, IfErr, codes};
 ghost use Rattle.clap.specs.Words.{found_of, rows_of, first_of};
 ghost use Rattle.command_line.specs.CommandLine.{AreOptions, HasNoOptions, IsGiven, IsNumberOf};

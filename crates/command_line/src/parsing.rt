@@ -1,3 +1,4 @@
+//! The words of the command line, and what they ask.
 ghost use Rattle.std.specs.Prelude.{◌≡◌, ◌⊎◌, List, ℕ, IfErr, MatchResult, true};
 ghost use Rattle.clap.specs.Words.{found_of, rows_of, subcommand_of, subcommand_rows_of, takes};
 ghost use Rattle.command_line.specs.CommandLine.{aether_command, Answers, AreKnown, IsCommandLine, IsRefusalOf, IsSubcommand, NamesBadNumbers, NamesSubcommand, log_in, name_of};

@@ -1,3 +1,4 @@
+//! What the rule says of the units that were sent.
 ghost use Rattle.std.specs.Prelude.{◌≡◌, ◌++◌, ℕ};
 ghost use Rattle.log_rule.specs.declared.start.Start.{Start};
 ghost use Rattle.log_rule.specs.declared.view.Role.TheVariants.{Flusher};

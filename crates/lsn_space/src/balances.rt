@@ -1,3 +1,4 @@
+//! The balances of accounts, each with the end of its last commit.
 ghost use Rattle.std.specs.Prelude.{◌≡◌, ◌<◌, ◌++◌, ◌∷◌, [], length, slice_get, slice_set, Some, IfOk};
 
 use crate::memory::NoMemory;

@@ -1,3 +1,4 @@
+//! A log sequence number, and the limits of the log and of its buffer.
 ghost use Rattle.std.specs.Prelude.{◌≡◌, ◌+◌, ◌%◌, ◌≤◌, ◌↔◌, IsSome, IfSome};
 ghost use Rattle.lsn_space.specs.declared.lsn.TheConstants.{LAST, LEAST_RING, GREATEST_RING};
 ghost use Rattle.lsn_space.specs.declared.numerals.TheConstants.{MOST_GENERATED};

@@ -1,3 +1,4 @@
+//! What stands before a list of records, and the limits of its accounts.
 ghost use Rattle.std.specs.Prelude.{◌≡◌, IfOk};
 ghost use Rattle.lsn_space.specs.Opening.{no_opening};
 

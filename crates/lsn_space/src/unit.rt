@@ -1,3 +1,4 @@
+//! A unit of the log and its eight bytes.
 ghost use Rattle.std.specs.Prelude.{◌≡◌, ◌<◌, ◌^◌, ℕ, List, length, All};
 ghost use Rattle.lsn_space.specs.Unit.{unit_value, unit_bytes};
 

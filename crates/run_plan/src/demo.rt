@@ -1,3 +1,4 @@
+//! The transfers and accounts that `demo` generates.
 ghost use Rattle.std.specs.Prelude.{◌≡◌, false, IfOk};
 ghost use Rattle.txn_script.specs.Generator.{generated_jobs};
 ghost use Rattle.run_plan.specs.Generated.{generated_rows};

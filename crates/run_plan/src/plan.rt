@@ -1,3 +1,4 @@
+//! How the transfers of `run` and `demo` are made.
 ghost use Rattle.std.specs.Prelude.{◌≡◌};
 
 use command_line::RunOptions;

@@ -1,3 +1,4 @@
+//! How far a group of the machine has come, and what became of it.
 ghost use Rattle.std.specs.Prelude.{◌≡◌, ◌+◌, ◌≤◌, ◌↔◌, IsTrue};
 ghost use Rattle.std.specs.Bool.{OnTrue};
 ghost use Rattle.lsn_space.specs.declared.lsn.TheConstants.{LAST};

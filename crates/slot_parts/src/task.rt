@@ -1,3 +1,4 @@
+//! What an actor of the group machine does next.
 ghost use Rattle.std.specs.Prelude.{◌≡◌, ◌↔◌, IsTrue, Some};
 ghost use Rattle.ring_core.specs.State.{base_in, looks_at, raises_from};
 ghost use Rattle.slot_parts.specs.declared.task.TheConstants.{LONGEST_PIECE};

@@ -1,3 +1,4 @@
+//! Why a daemon stopped, and the stop word that tells it.
 ghost use Rattle.std.specs.Prelude.{◌≡◌};
 ghost use Rattle.stop_word.specs.Stopping.{stop_word};
 

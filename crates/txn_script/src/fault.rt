@@ -1,3 +1,4 @@
+//! Why a text of balances or transfers wasn't read.
 ghost use Rattle.std.specs.Prelude.{◌≡◌};
 ghost use Rattle.txn_script.specs.declared.fault.ParseFault.TheVariants as fault;
 

@@ -1,3 +1,4 @@
+//! The text of a new log's balances.
 ghost use Rattle.std.specs.Prelude.{◌≡◌, ◌≤◌, ◌<◌, ◌+◌, ℕ, List, length, IfSome, IfNone, IfOk, IfErr};
 ghost use Rattle.log_record.specs.declared.limits.TheConstants.{MOST_ACCOUNTS};
 ghost use Rattle.log_record.specs.Spelling.{IsBalance};
