@@ -6,6 +6,7 @@ use Rattle.lsn_space.specs.Number.{number_text}
 use Rattle.lsn_space.specs.declared.lsn.TheConstants.{LAST}
 use Rattle.lsn_space.specs.declared.numerals.TheConstants.{MOST_GENERATED}
 use Rattle.command_line.specs.Ranges.{AreInRange}
+use Rattle.command_line.specs.declared.options.TheConstants.{DEFAULT_RING, DEFAULT_SLOTS, DEFAULT_WORKERS}
 use Rattle.command_line.specs.declared.parsing.TheConstants.{GREATEST_ACCOUNT, GREATEST_SEED}
 use Rattle.command_line.specs.declared.options.RunOptions.{RunOptions}
 use Rattle.command_line.specs.declared.command.Command.{Command}
@@ -107,12 +108,12 @@ abbrev pub IsNumberOf : Option (List ℕ) → ℕ → ℕ → Type 0
 IsNumberOf None default number = number ≡ default
 IsNumberOf (Some text) default number = text ≡ number_text number
 
--- how to work: 2 workers, a ring of 65536 units and 4 slots where the words say nothing else
+-- how to work: by the defaults where the words say nothing else
 pub record AreOptions (rows : List Row) (options : RunOptions) : Type 0 where
   pub range : AreInRange options
-  pub workers : IsNumberOf (first_of (codes "workers") rows) 2 options.workers
-  pub ring : IsNumberOf (first_of (codes "ring") rows) 65536 options.ring
-  pub slots : IsNumberOf (first_of (codes "slots") rows) 4 options.slots
+  pub workers : IsNumberOf (first_of (codes "workers") rows) DEFAULT_WORKERS options.workers
+  pub ring : IsNumberOf (first_of (codes "ring") rows) DEFAULT_RING options.ring
+  pub slots : IsNumberOf (first_of (codes "slots") rows) DEFAULT_SLOTS options.slots
   pub wait : IsTrue options.wait ↔ (first_of (codes "wait") rows ≡ Some (codes "true"))
 
 -- a number is written otherwise, or outside its range

@@ -7,16 +7,31 @@ use crate::command::Refused;
 use clap::ArgMatches;
 use lsn_space::{GREATEST_RING, LEAST_RING, number};
 
+/// The most workers that may be asked for.
+pub const MOST_WORKERS: u32 = 16;
+
+/// How many workers there are where no number is given.
+pub const DEFAULT_WORKERS: u32 = 2;
+
+/// The length of the ring in units where none is given.
+pub const DEFAULT_RING: u32 = 65536;
+
+/// The most slots that may be asked for.
+pub const MOST_SLOTS: u32 = 16;
+
+/// How many slots there are where no number is given.
+pub const DEFAULT_SLOTS: u32 = 4;
+
 /// How `run` and `demo` are to work.
 #[derive(Clone, Copy, Debug, PartialEq, Eq)]
 pub struct RunOptions {
-    /// How many workers there are, 1 to 16.
+    /// How many workers there are, 1 to `MOST_WORKERS`.
     pub workers: u32,
 
-    /// The length of the ring in units, a power of two from 1024 to 1048576.
+    /// The length of the ring in units, a power of two from `LEAST_RING` to `GREATEST_RING`.
     pub ring: u32,
 
-    /// How many slots there are, at most 16, at which workers that meet at the tail go on as one group. At 0 each goes alone.
+    /// How many slots there are, at most `MOST_SLOTS`, at which workers that meet at the tail go on as one group. At 0 each goes alone.
     pub slots: u32,
 
     /// Whether a worker gives accounts back only once the end of its transaction is durable. `demo` has no such flag.
@@ -28,9 +43,9 @@ pub(crate) fn options_in(found: &ArgMatches<'_>) -> Option<RunOptions>
     ensures some { IfSome result (AreOptions (rows_of (found_of found.now))) }
     ensures none { IfNone result (HasNoOptions (rows_of (found_of found.now))) }
 {
-    let workers = number_in(found, "workers", 2, 1, 16)?;
-    let ring = number_in(found, "ring", 65536, LEAST_RING, GREATEST_RING)?;
-    let slots = number_in(found, "slots", 4, 0, 16)?;
+    let workers = number_in(found, "workers", DEFAULT_WORKERS, 1, MOST_WORKERS)?;
+    let ring = number_in(found, "ring", DEFAULT_RING, LEAST_RING, GREATEST_RING)?;
+    let slots = number_in(found, "slots", DEFAULT_SLOTS, 0, MOST_SLOTS)?;
     if !ring.is_power_of_two() {
         return None;
     }

@@ -7,7 +7,7 @@ use Rattle.command_line.proofs.options.options_in.Goals as goal
 pub returns-then-not-is_power_of_two-clause-none : goal.returns-then-not-is_power_of_two-clause-none
 returns-then-not-is_power_of_two-clause-none c = λ options are.
     let same : c.in_ok-ring.ring ≡ options.ring =
-    one-number (first_of (codes "ring") (rows_of (found_of c.args.found.now))) 65536 _ _ (omega arith) (omega (arith, are.range.ring))
+    one-number (first_of (codes "ring") (rows_of (found_of c.args.found.now))) _ _ _ (omega arith) (omega (arith, are.range.ring))
     c.in_ok-ring.ensures.some are.ring in
     let one : count_ones c.in_ok-ring.ring ≡ 1 = ap count_ones (same ∙ are.range.power.1) ∙ one-power are.range.power.0 in
     search rules steps 1000000
