@@ -42,7 +42,8 @@ fn exchange_account_as<N: Number>(
     requires next { MayTake account from to (view_of seat.old) }
     requires named { N.number ≡ account }
     ensures ok { OnOk result (Becomes seat.old seat.new (took_account account (word_of from) (view_of seat.old))) }
-    ensures err { IfErr result (λ found. (found ≢ from) × Becomes seat.old seat.new (saw_account account (word_of found) (view_of seat.old))) }
+    ensures err { IfErr result (λ found.
+        (found ≢ from) × Becomes seat.old seat.new (saw_account account (word_of found) (view_of seat.old))) }
     ensures own { IfErr result (λ found. IsOwnWord account (word_of found) (view_of seat.old).books) }
 {
     let place = account_place(table.ring, table.slots, account);
@@ -77,7 +78,8 @@ impl LogTable {
         requires account { account < self.now.accounts }
         ensures view { Becomes seat.old seat.new (saw_account account (word_of result) (view_of seat.old)) }
         ensures own { IsOwnWord account (word_of result) (view_of seat.old).books }
-        ensures event { IsStep (key_of self.now) (number_of seat.old) (Account account) (word_of result) (word_of result) (view_of seat.old) (saw_account account (word_of result) (view_of seat.old)) none }
+        ensures event { IsStep (key_of self.now) (number_of seat.old) (Account account) (word_of result) (word_of result)
+            (view_of seat.old) (saw_account account (word_of result) (view_of seat.old)) none }
     {
         load_account_as::<Brand>(self, seat, account)
     }
@@ -95,10 +97,14 @@ impl LogTable {
         requires account { account < self.now.accounts }
         requires next { MayTake account from to (view_of seat.old) }
         ensures ok { OnOk result (Becomes seat.old seat.new (took_account account (word_of from) (view_of seat.old))) }
-        ensures ok_event { OnOk result (IsStep (key_of self.now) (number_of seat.old) (Account account) (word_of from) (word_of to) (view_of seat.old) (took_account account (word_of from) (view_of seat.old)) none) }
-        ensures err { IfErr result (λ found. (found ≢ from) × Becomes seat.old seat.new (saw_account account (word_of found) (view_of seat.old))) }
+        ensures ok_event { OnOk result (IsStep (key_of self.now) (number_of seat.old) (Account account) (word_of from) (word_of to)
+            (view_of seat.old) (took_account account (word_of from) (view_of seat.old)) none) }
+        ensures err { IfErr result (λ found.
+            (found ≢ from) × Becomes seat.old seat.new (saw_account account (word_of found) (view_of seat.old))) }
         ensures own { IfErr result (λ found. IsOwnWord account (word_of found) (view_of seat.old).books) }
-        ensures err_event { IfErr result (λ found. IsStep (key_of self.now) (number_of seat.old) (Account account) (word_of found) (word_of found) (view_of seat.old) (saw_account account (word_of found) (view_of seat.old)) none) }
+        ensures err_event { IfErr result (λ found.
+            IsStep (key_of self.now) (number_of seat.old) (Account account) (word_of found) (word_of found)
+            (view_of seat.old) (saw_account account (word_of found) (view_of seat.old)) none) }
     {
         exchange_account_as::<Brand>(self, seat, account, from, to)
     }
@@ -110,7 +116,8 @@ impl LogTable {
         requires account { account < self.now.accounts }
         requires next { MayGiveBack account word (view_of seat.old) }
         ensures view { Becomes seat.old seat.new (gave_account account (view_of seat.old)) }
-        ensures event { (found : ℕ) → IsStep (key_of self.now) (number_of seat.old) (Account account) found (word_of word) (view_of seat.old) (gave_account account (view_of seat.old)) none }
+        ensures event { (found : ℕ) → IsStep (key_of self.now) (number_of seat.old) (Account account) found (word_of word)
+            (view_of seat.old) (gave_account account (view_of seat.old)) none }
     {
         store_account_as::<Brand>(self, seat, account, word);
     }

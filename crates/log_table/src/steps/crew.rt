@@ -18,7 +18,8 @@ impl LogTable {
         requires seat { IsOf self.now seat.old }
         requires fresh { (view_of seat.old).standing.role ≡ Fresh }
         ensures view { Becomes seat.old seat.new (enrolled (view_of seat.old)) }
-        ensures event { (found : ℕ) → IsStep (key_of self.now) (number_of seat.old) Crew found (found + 1) (view_of seat.old) (enrolled (view_of seat.old)) none }
+        ensures event { (found : ℕ) → IsStep (key_of self.now) (number_of seat.old) Crew found (found + 1)
+            (view_of seat.old) (enrolled (view_of seat.old)) none }
     {
         self.table
             .shared
@@ -30,7 +31,8 @@ impl LogTable {
         requires seat { IsOf self.now seat.old }
         requires may { MayLeave (view_of seat.old) }
         ensures view { Becomes seat.old seat.new (retired (view_of seat.old)) }
-        ensures event { (found : ℕ) → IsStep (key_of self.now) (number_of seat.old) Crew found (found - 1) (view_of seat.old) (retired (view_of seat.old)) none }
+        ensures event { (found : ℕ) → IsStep (key_of self.now) (number_of seat.old) Crew found (found - 1)
+            (view_of seat.old) (retired (view_of seat.old)) none }
     {
         self.table
             .shared
@@ -42,7 +44,8 @@ impl LogTable {
     pub fn load_crew(&self, seat: &mut Seat) -> u64
         requires { IsOf self.now seat.old }
         ensures view { Becomes seat.old seat.new (saw_crew result (view_of seat.old)) }
-        ensures event { IsStep (key_of self.now) (number_of seat.old) Crew result result (view_of seat.old) (saw_crew result (view_of seat.old)) none }
+        ensures event { IsStep (key_of self.now) (number_of seat.old) Crew result result
+            (view_of seat.old) (saw_crew result (view_of seat.old)) none }
     {
         self.table.shared.load::<LoadCrew>(&mut seat.base, CREW)
     }

@@ -34,7 +34,8 @@ impl LogTable {
         ensures view { Becomes seat.old seat.new (saw_durable result (view_of seat.old)) }
         ensures grows { (view_of seat.old).seen.durable ≤ result }
         ensures flusher { IsDurableToFlusher (view_of seat.old) result }
-        ensures event { IsStep (key_of self.now) (number_of seat.old) Durable result result (view_of seat.old) (saw_durable result (view_of seat.old)) none }
+        ensures event { IsStep (key_of self.now) (number_of seat.old) Durable result result
+            (view_of seat.old) (saw_durable result (view_of seat.old)) none }
     {
         Lsn::new(
             self.table
@@ -51,7 +52,8 @@ impl LogTable {
         requires next { MaySend to (view_of seat.old) }
         ensures view { Becomes seat.old seat.new (has_sent to (view_of seat.old)) }
         ensures at_once { HoldsAtOnce (key_of self.now) (number_of seat.new) (view_of seat.new) }
-        ensures event { (found : ℕ) → IsStep (key_of self.now) (number_of seat.old) Durable found to (view_of seat.old) (has_sent to (view_of seat.old)) (flushes to) }
+        ensures event { (found : ℕ) → IsStep (key_of self.now) (number_of seat.old) Durable found to
+            (view_of seat.old) (has_sent to (view_of seat.old)) (flushes to) }
     {
         store_durable_as::<Brand>(self, seat, to);
     }

@@ -20,7 +20,8 @@ impl LogTable {
         ensures view { Becomes seat.old seat.new (saw_exposed result (view_of seat.old)) }
         ensures grows { (view_of seat.old).seen.exposed ≤ result }
         ensures flusher { IsExposedToFlusher (view_of seat.old) result }
-        ensures event { IsStep (key_of self.now) (number_of seat.old) Exposed result result (view_of seat.old) (saw_exposed result (view_of seat.old)) (look_event (number_of seat.old) (view_of seat.old).call) }
+        ensures event { IsStep (key_of self.now) (number_of seat.old) Exposed result result
+            (view_of seat.old) (saw_exposed result (view_of seat.old)) (look_event (number_of seat.old) (view_of seat.old).call) }
     {
         Lsn::new(
             self.table
@@ -36,10 +37,13 @@ impl LogTable {
         requires next { MayRaise from to (view_of seat.old) }
         ensures ok { OnOk result (Becomes seat.old seat.new (after_raise to (view_of seat.old))) }
         ensures ok_grows { OnOk result ((view_of seat.old).seen.exposed ≤ from) }
-        ensures ok_event { OnOk result (IsStep (key_of self.now) (number_of seat.old) Exposed from to (view_of seat.old) (after_raise to (view_of seat.old)) (raises (number_of seat.old))) }
+        ensures ok_event { OnOk result (IsStep (key_of self.now) (number_of seat.old) Exposed from to
+            (view_of seat.old) (after_raise to (view_of seat.old)) (raises (number_of seat.old))) }
         ensures err { IfErr result (λ found. (from < found) × Becomes seat.old seat.new (after_raise found (view_of seat.old))) }
         ensures err_grows { IfErr result (λ found. (view_of seat.old).seen.exposed ≤ found) }
-        ensures err_event { IfErr result (λ found. IsStep (key_of self.now) (number_of seat.old) Exposed found found (view_of seat.old) (after_raise found (view_of seat.old)) (raises (number_of seat.old))) }
+        ensures err_event { IfErr result (λ found.
+            IsStep (key_of self.now) (number_of seat.old) Exposed found found
+            (view_of seat.old) (after_raise found (view_of seat.old)) (raises (number_of seat.old))) }
     {
         let found = self.table.shared.compare_exchange::<ExchangeExposed>(
             &mut seat.base,

@@ -31,7 +31,8 @@ impl LogTable {
         requires may { MayTakeJob self.now.accounts number job.now (view_of seat.old) }
         ensures view { Becomes seat.old seat.new (took_job number job.now result (view_of seat.old)) }
         ensures stays { (view_of seat.old).seen.stop ≢ 0 → result ≡ (view_of seat.old).seen.stop }
-        ensures event { IsStep (key_of self.now) (number_of seat.old) Stop result result (view_of seat.old) (took_job number job.now result (view_of seat.old)) none }
+        ensures event { IsStep (key_of self.now) (number_of seat.old) Stop result result
+            (view_of seat.old) (took_job number job.now result (view_of seat.old)) none }
     {
         take_job_as::<Brand>(self, seat, number, job)
     }

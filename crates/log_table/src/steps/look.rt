@@ -26,7 +26,8 @@ impl LogTable {
         requires { IsOf self.now seat.old }
         ensures view { Becomes seat.old seat.new (view_of seat.old) }
         ensures at_once { HoldsAtOnce (key_of self.now) (number_of seat.new) (view_of seat.new) }
-        ensures event { (found : ℕ) → IsStep (key_of self.now) (number_of seat.old) Stop found found (view_of seat.old) (view_of seat.old) none }
+        ensures event { (found : ℕ) → IsStep (key_of self.now) (number_of seat.old) Stop found found
+            (view_of seat.old) (view_of seat.old) none }
     {
         look_as::<Brand>(self, seat);
     }

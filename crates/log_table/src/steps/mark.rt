@@ -18,7 +18,8 @@ impl LogTable {
         requires seat { IsOf self.now seat.old }
         requires next { MayMark base end (view_of seat.old) }
         ensures view { Becomes seat.old seat.new (marked (view_of seat.old)) }
-        ensures event { (found : ℕ) → IsStep (key_of self.now) (number_of seat.old) (Mark (base % self.now.ring)) found end (view_of seat.old) (marked (view_of seat.old)) (marks (number_of seat.old)) }
+        ensures event { (found : ℕ) → IsStep (key_of self.now) (number_of seat.old) (Mark (base % self.now.ring)) found end
+            (view_of seat.old) (marked (view_of seat.old)) (marks (number_of seat.old)) }
     {
         let index = mark_place(self.ring, base);
         self.table
@@ -33,7 +34,8 @@ impl LogTable {
         requires seat { IsOf self.now seat.old }
         requires next { MayLookMark base (view_of seat.old) }
         ensures view { Becomes seat.old seat.new (saw_mark result (view_of seat.old)) }
-        ensures event { IsStep (key_of self.now) (number_of seat.old) (Mark (base % self.now.ring)) result result (view_of seat.old) (saw_mark result (view_of seat.old)) (looks_mark (number_of seat.old)) }
+        ensures event { IsStep (key_of self.now) (number_of seat.old) (Mark (base % self.now.ring)) result result
+            (view_of seat.old) (saw_mark result (view_of seat.old)) (looks_mark (number_of seat.old)) }
     {
         let index = mark_place(self.ring, base);
         Lsn::new(self.table.shared.load::<LoadMark>(&mut seat.base, index) as u32)

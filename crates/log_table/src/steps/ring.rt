@@ -20,7 +20,8 @@ impl LogTable {
         requires seat { IsOf self.now seat.old }
         requires next { MayFill self.now.slots at unit (view_of seat.old) }
         ensures view { Becomes seat.old seat.new (filled unit (view_of seat.old)) }
-        ensures event { (found : ℕ) → IsStep (key_of self.now) (number_of seat.old) (Ring (at % self.now.ring)) found unit (view_of seat.old) (filled unit (view_of seat.old)) (fills (number_of seat.old)) }
+        ensures event { (found : ℕ) → IsStep (key_of self.now) (number_of seat.old) (Ring (at % self.now.ring)) found unit
+            (view_of seat.old) (filled unit (view_of seat.old)) (fills (number_of seat.old)) }
     {
         let index = RING + place(at, self.ring);
         self.table
@@ -35,7 +36,8 @@ impl LogTable {
         requires next { MayRead at (view_of seat.old) }
         ensures view { Becomes seat.old seat.new (has_read result (view_of seat.old)) }
         ensures whole { ReadsWholeEntries (has_read result (view_of seat.old)) }
-        ensures event { IsStep (key_of self.now) (number_of seat.old) (Ring (at % self.now.ring)) result result (view_of seat.old) (has_read result (view_of seat.old)) none }
+        ensures event { IsStep (key_of self.now) (number_of seat.old) (Ring (at % self.now.ring)) result result
+            (view_of seat.old) (has_read result (view_of seat.old)) none }
     {
         let index = RING + place(at, self.ring);
         self.table.shared.load::<LoadRing>(&mut seat.base, index)

@@ -43,7 +43,8 @@ impl LogTable {
         requires slot { slot < self.now.slots }
         ensures view { Becomes seat.old seat.new (saw_slot slot (word_of result) (view_of seat.old)) }
         ensures tells { TellsWaiting slot (word_of result) (view_of seat.old) }
-        ensures event { IsStep (key_of self.now) (number_of seat.old) (Slot slot) (word_of result) (word_of result) (view_of seat.old) (saw_slot slot (word_of result) (view_of seat.old)) none }
+        ensures event { IsStep (key_of self.now) (number_of seat.old) (Slot slot) (word_of result) (word_of result)
+            (view_of seat.old) (saw_slot slot (word_of result) (view_of seat.old)) none }
     {
         load_slot_as::<Brand>(self, seat, slot)
     }
@@ -62,9 +63,14 @@ impl LogTable {
         requires slot { slot < self.now.slots }
         requires next { MayJoinSlot slot from to (view_of seat.old) }
         ensures ok { OnOk result (Becomes seat.old seat.new (joined_slot slot from.total (word_of from) (view_of seat.old))) }
-        ensures ok_event { OnOk result (IsStep (key_of self.now) (number_of seat.old) (Slot slot) (word_of from) (word_of to) (view_of seat.old) (joined_slot slot from.total (word_of from) (view_of seat.old)) (joins (number_of seat.old) slot (length (spelling (next_of (view_of seat.old).books))))) }
-        ensures err { IfErr result (λ found. (found ≢ from) × Becomes seat.old seat.new (lost_join slot (word_of found) (view_of seat.old))) }
-        ensures err_event { IfErr result (λ found. IsStep (key_of self.now) (number_of seat.old) (Slot slot) (word_of found) (word_of found) (view_of seat.old) (lost_join slot (word_of found) (view_of seat.old)) none) }
+        ensures ok_event { OnOk result (IsStep (key_of self.now) (number_of seat.old) (Slot slot) (word_of from) (word_of to)
+            (view_of seat.old) (joined_slot slot from.total (word_of from) (view_of seat.old))
+            (joins (number_of seat.old) slot (length (spelling (next_of (view_of seat.old).books))))) }
+        ensures err { IfErr result (λ found.
+            (found ≢ from) × Becomes seat.old seat.new (lost_join slot (word_of found) (view_of seat.old))) }
+        ensures err_event { IfErr result (λ found.
+            IsStep (key_of self.now) (number_of seat.old) (Slot slot) (word_of found) (word_of found)
+            (view_of seat.old) (lost_join slot (word_of found) (view_of seat.old)) none) }
     {
         let place = slot_place(self.ring, slot);
         let free = from.pack();
@@ -88,7 +94,8 @@ impl LogTable {
         requires next { MayCloseSlot slot (view_of seat.old) }
         ensures view { Becomes seat.old seat.new (closed_slot (word_of result) (view_of seat.old)) }
         ensures gathers { IsGatheringWord ((view_of seat.old).constants.ring / 4) (word_of result) }
-        ensures event { IsStep (key_of self.now) (number_of seat.old) (Slot slot) (word_of result) (packed Pending 0 0) (view_of seat.old) (closed_slot (word_of result) (view_of seat.old)) (closes (number_of seat.old)) }
+        ensures event { IsStep (key_of self.now) (number_of seat.old) (Slot slot) (word_of result) (packed Pending 0 0)
+            (view_of seat.old) (closed_slot (word_of result) (view_of seat.old)) (closes (number_of seat.old)) }
     {
         let place = slot_place(self.ring, slot);
         let closed = SlotWord::pending().pack();
@@ -106,8 +113,13 @@ impl LogTable {
         requires slot { slot < self.now.slots }
         requires next { MayStoreBase slot word (view_of seat.old) }
         ensures view { Becomes seat.old seat.new (stored_base (view_of seat.old)) }
-        ensures granted { MayStoreGranted slot word (view_of seat.old) → (found : ℕ) → IsStep (key_of self.now) (number_of seat.old) (Base slot) found word (view_of seat.old) (stored_base (view_of seat.old)) (stores_base (number_of seat.old)) }
-        ensures refused { MayStoreRefused slot word (view_of seat.old) → (found : ℕ) → IsStep (key_of self.now) (number_of seat.old) (Base slot) found word (view_of seat.old) (stored_base (view_of seat.old)) (refuses (number_of seat.old) (view_of seat.old).seen.tail (view_of seat.old).seen.durable) }
+        ensures granted { MayStoreGranted slot word (view_of seat.old) → (found : ℕ) →
+            IsStep (key_of self.now) (number_of seat.old) (Base slot) found word
+            (view_of seat.old) (stored_base (view_of seat.old)) (stores_base (number_of seat.old)) }
+        ensures refused { MayStoreRefused slot word (view_of seat.old) → (found : ℕ) →
+            IsStep (key_of self.now) (number_of seat.old) (Base slot) found word
+            (view_of seat.old) (stored_base (view_of seat.old))
+            (refuses (number_of seat.old) (view_of seat.old).seen.tail (view_of seat.old).seen.durable) }
     {
         let place = base_place(self.ring, self.slots, slot);
         self.table
@@ -121,7 +133,8 @@ impl LogTable {
         requires slot { slot < self.now.slots }
         requires next { MayPublish slot word (view_of seat.old) }
         ensures view { Becomes seat.old seat.new (published (view_of seat.old)) }
-        ensures event { (found : ℕ) → IsStep (key_of self.now) (number_of seat.old) (Slot slot) found (word_of word) (view_of seat.old) (published (view_of seat.old)) (tells (number_of seat.old)) }
+        ensures event { (found : ℕ) → IsStep (key_of self.now) (number_of seat.old) (Slot slot) found (word_of word)
+            (view_of seat.old) (published (view_of seat.old)) (tells (number_of seat.old)) }
     {
         let place = slot_place(self.ring, slot);
         let told = word.pack();
@@ -138,7 +151,8 @@ impl LogTable {
         requires next { MayLoadBase slot (view_of seat.old) }
         ensures view { Becomes seat.old seat.new (heard_base result (view_of seat.old)) }
         ensures tells { TellsMember result (view_of seat.old) }
-        ensures event { IsStep (key_of self.now) (number_of seat.old) (Base slot) result result (view_of seat.old) (heard_base result (view_of seat.old)) (hears (number_of seat.old)) }
+        ensures event { IsStep (key_of self.now) (number_of seat.old) (Base slot) result result
+            (view_of seat.old) (heard_base result (view_of seat.old)) (hears (number_of seat.old)) }
     {
         let place = base_place(self.ring, self.slots, slot);
         self.table.shared.load::<LoadBase>(&mut seat.base, place)
@@ -153,7 +167,8 @@ impl LogTable {
         requires next { MayReleaseSlot slot n (view_of seat.old) }
         ensures view { Becomes seat.old seat.new (released_piece (word_of result) (view_of seat.old)) }
         ensures told { HasToRelease ((view_of seat.old).constants.ring / 4) n (view_of seat.old).call (word_of result) }
-        ensures event { IsStep (key_of self.now) (number_of seat.old) (Slot slot) (word_of result) (word_of result - n) (view_of seat.old) (released_piece (word_of result) (view_of seat.old)) (releases (number_of seat.old)) }
+        ensures event { IsStep (key_of self.now) (number_of seat.old) (Slot slot) (word_of result) (word_of result - n)
+            (view_of seat.old) (released_piece (word_of result) (view_of seat.old)) (releases (number_of seat.old)) }
     {
         let place = slot_place(self.ring, slot);
         let piece = n as u64;
@@ -170,7 +185,8 @@ impl LogTable {
         requires slot { slot < self.now.slots }
         requires next { MayReopen slot (view_of seat.old) }
         ensures view { Becomes seat.old seat.new (reopened (view_of seat.old)) }
-        ensures event { (found : ℕ) → IsStep (key_of self.now) (number_of seat.old) (Slot slot) found 0 (view_of seat.old) (reopened (view_of seat.old)) (reopens (number_of seat.old)) }
+        ensures event { (found : ℕ) → IsStep (key_of self.now) (number_of seat.old) (Slot slot) found 0
+            (view_of seat.old) (reopened (view_of seat.old)) (reopens (number_of seat.old)) }
     {
         let place = slot_place(self.ring, slot);
         self.table.shared.store::<Reopen>(&mut seat.base, place, 0);

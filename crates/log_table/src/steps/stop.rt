@@ -15,7 +15,8 @@ impl LogTable {
         requires { IsOf self.now seat.old }
         ensures view { Becomes seat.old seat.new (saw_stop result (view_of seat.old)) }
         ensures stays { (view_of seat.old).seen.stop ≢ 0 → result ≡ (view_of seat.old).seen.stop }
-        ensures event { IsStep (key_of self.now) (number_of seat.old) Stop result result (view_of seat.old) (saw_stop result (view_of seat.old)) none }
+        ensures event { IsStep (key_of self.now) (number_of seat.old) Stop result result
+            (view_of seat.old) (saw_stop result (view_of seat.old)) none }
     {
         self.table.shared.load::<LoadStop>(&mut seat.base, STOP)
     }
@@ -25,7 +26,8 @@ impl LogTable {
         requires seat { IsOf self.now seat.old }
         requires may { MayStop word (view_of seat.old) }
         ensures view { Becomes seat.old seat.new (has_stopped word (view_of seat.old)) }
-        ensures event { (found : ℕ) → IsStep (key_of self.now) (number_of seat.old) Stop found word (view_of seat.old) (has_stopped word (view_of seat.old)) none }
+        ensures event { (found : ℕ) → IsStep (key_of self.now) (number_of seat.old) Stop found word
+            (view_of seat.old) (has_stopped word (view_of seat.old)) none }
     {
         self.table
             .shared

@@ -17,7 +17,8 @@ impl LogTable {
         requires { IsOf self.now seat.old }
         ensures view { Becomes seat.old seat.new (saw_tail result (view_of seat.old)) }
         ensures grows { (view_of seat.old).seen.tail ≤ result }
-        ensures event { IsStep (key_of self.now) (number_of seat.old) Tail result result (view_of seat.old) (saw_tail result (view_of seat.old)) none }
+        ensures event { IsStep (key_of self.now) (number_of seat.old) Tail result result
+            (view_of seat.old) (saw_tail result (view_of seat.old)) none }
     {
         Lsn::new(self.table.shared.load::<LoadTail>(&mut seat.base, TAIL) as u32)
     }
@@ -28,14 +29,29 @@ impl LogTable {
     pub fn exchange_tail(&self, seat: &mut Seat, from: Lsn, to: Lsn) -> Result<(), Lsn>
         requires seat { IsOf self.now seat.old }
         requires next { MayExchangeTail from to (view_of seat.old) }
-        ensures ok { MayReserve from to (view_of seat.old) → OnOk result (Becomes seat.old seat.new (reserved from to (view_of seat.old))) }
-        ensures ok_event { MayReserve from to (view_of seat.old) → OnOk result (IsStep (key_of self.now) (number_of seat.old) Tail from to (view_of seat.old) (reserved from to (view_of seat.old)) (reserves (number_of seat.old) (to - from))) }
-        ensures group { MayPlaceGroup from to (view_of seat.old) → OnOk result (Becomes seat.old seat.new (reserved_group from to (view_of seat.old))) }
-        ensures group_event { MayPlaceGroup from to (view_of seat.old) → OnOk result (IsStep (key_of self.now) (number_of seat.old) Tail from to (view_of seat.old) (reserved_group from to (view_of seat.old)) (places (number_of seat.old) from (view_of seat.old).seen.durable)) }
-        ensures err { MayReserve from to (view_of seat.old) → IfErr result (λ found. (from < found) × Becomes seat.old seat.new (lost_alone found (view_of seat.old))) }
-        ensures err_event { MayReserve from to (view_of seat.old) → IfErr result (λ found. IsStep (key_of self.now) (number_of seat.old) Tail found found (view_of seat.old) (lost_alone found (view_of seat.old)) none) }
-        ensures group_err { MayPlaceGroup from to (view_of seat.old) → IfErr result (λ found. (from < found) × Becomes seat.old seat.new (saw_tail found (view_of seat.old))) }
-        ensures group_err_event { MayPlaceGroup from to (view_of seat.old) → IfErr result (λ found. IsStep (key_of self.now) (number_of seat.old) Tail found found (view_of seat.old) (saw_tail found (view_of seat.old)) none) }
+        ensures ok { MayReserve from to (view_of seat.old)
+            → OnOk result (Becomes seat.old seat.new (reserved from to (view_of seat.old))) }
+        ensures ok_event { MayReserve from to (view_of seat.old) → OnOk result
+            (IsStep (key_of self.now) (number_of seat.old) Tail from to
+            (view_of seat.old) (reserved from to (view_of seat.old)) (reserves (number_of seat.old) (to - from))) }
+        ensures group { MayPlaceGroup from to (view_of seat.old)
+            → OnOk result (Becomes seat.old seat.new (reserved_group from to (view_of seat.old))) }
+        ensures group_event { MayPlaceGroup from to (view_of seat.old) → OnOk result
+            (IsStep (key_of self.now) (number_of seat.old) Tail from to
+            (view_of seat.old) (reserved_group from to (view_of seat.old))
+            (places (number_of seat.old) from (view_of seat.old).seen.durable)) }
+        ensures err { MayReserve from to (view_of seat.old)
+            → IfErr result (λ found. (from < found) × Becomes seat.old seat.new (lost_alone found (view_of seat.old))) }
+        ensures err_event { MayReserve from to (view_of seat.old)
+            → IfErr result (λ found.
+            IsStep (key_of self.now) (number_of seat.old) Tail found found
+            (view_of seat.old) (lost_alone found (view_of seat.old)) none) }
+        ensures group_err { MayPlaceGroup from to (view_of seat.old)
+            → IfErr result (λ found. (from < found) × Becomes seat.old seat.new (saw_tail found (view_of seat.old))) }
+        ensures group_err_event { MayPlaceGroup from to (view_of seat.old)
+            → IfErr result (λ found.
+            IsStep (key_of self.now) (number_of seat.old) Tail found found
+            (view_of seat.old) (saw_tail found (view_of seat.old)) none) }
     {
         let found = self.table.shared.compare_exchange::<ExchangeTail>(
             &mut seat.base,
