@@ -6,8 +6,10 @@ use arrayvec::ArrayVec;
 use log_record::Rec;
 use lsn_space::{Lsn, decimal};
 
-/// Room for a line.
-pub(crate) type Line = ArrayVec<u8, 72>;
+/// At least the length of the longest line: a word, two spaces, the LF, and three numbers of at most 20 digits.
+const LINE_ROOM: usize = 72;
+
+pub(crate) type Line = ArrayVec<u8, LINE_ROOM>;
 
 /// The line of a record that ends at this LSN, where it ends a transaction.
 pub(crate) fn line_of(rec: &Rec, end: Lsn) -> Option<Line>

@@ -19,9 +19,11 @@ pub fn tell_record<K: Sink>(
     block: &mut OutputBlock,
     sink: &mut K,
 ) -> Result<u32, WriteFault>
-    ensures all { IfOk result (λ lines. AppendsBut (K.held_bytes sink.old) (K.held_bytes sink.new) (block.old ++ line_said voice end rec.now) block.new
+    ensures all { IfOk result (λ lines.
+        AppendsBut (K.held_bytes sink.old) (K.held_bytes sink.new) (block.old ++ line_said voice end rec.now) block.new
         × (lines ≡ count_said voice rec.now)) }
-    ensures prefix { OnErr result (AppendsPart (K.held_bytes sink.old) (K.held_bytes sink.new) (block.old ++ line_said voice end rec.now)) }
+    ensures prefix { OnErr result
+        (AppendsPart (K.held_bytes sink.old) (K.held_bytes sink.new) (block.old ++ line_said voice end rec.now)) }
     ensures cause { HasCause (K.faults sink.old) (K.faults sink.new) result }
 {
     if voice == Voice::Count {

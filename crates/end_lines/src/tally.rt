@@ -1,3 +1,4 @@
+//! The count of end records.
 ghost use Rattle.std.specs.Prelude.{◌≡◌, ◌+◌, ◌<◌, ◌^◌, ◌∷◌, []};
 ghost use Rattle.end_lines.specs.EndLines.{is_done, is_refused};
 
