@@ -10,7 +10,7 @@ use Rattle.log_rule.specs.May.{MayRaise}
 use Rattle.log_table.specs.Seats.{Becomes, view_of}
 use Rattle.log_rule.specs.Views.{saw_exposed, after_look}
 use Rattle.ring_buffer.specs.Calls.{HasMarked, HasInHand, HasExposed, HasOnlySeen}
-use Rattle.ring_buffer.proofs.OneStep.{IsSameWorker-becomes}
+use Rattle.ring_buffer.proofs.OneStep.{KeepsWorker, IsSameWorker-becomes}
 use Rattle.ring_buffer.proofs.TwoCalls.{IsSameWorker-trans}
 
 pub HasOnlySeen-trans : (first second third : Seat) → HasOnlySeen first second → HasOnlySeen second third → HasOnlySeen first third
@@ -38,16 +38,19 @@ module _ (first seat : Seat) (at : ℕ) (becomes : Becomes first seat (saw_expos
   is : view_of seat ≡ saw_exposed at (view_of first)
   is = ap (λ me. me.0) becomes.me
 
+  KeepsWorker-looked : (view_of first).seen.exposed ≤ at → KeepsWorker (view_of first) (saw_exposed at (view_of first))
+  KeepsWorker-looked grows = record {
+    constants = refl;
+    standing = refl;
+    tail = le_refl (view_of first).seen.tail;
+    exposed = grows;
+    durable = le_refl (view_of first).seen.durable;
+    steps = omega arith;
+  }
+
   HasOnlySeen-looked : (view_of first).seen.exposed ≤ at → HasOnlySeen first seat
   HasOnlySeen-looked grows = record {
-    same = IsSameWorker-becomes first seat (saw_exposed at (view_of first)) becomes record {
-      constants = refl;
-      standing = refl;
-      tail = le_refl (view_of first).seen.tail;
-      exposed = grows;
-      durable = le_refl (view_of first).seen.durable;
-      steps = omega arith;
-    };
+    same = IsSameWorker-becomes first seat (saw_exposed at (view_of first)) becomes (KeepsWorker-looked grows);
     entries = ap (λ (v : View). v.entries) is;
     books = ap (λ (v : View). v.books) is;
     stop = ap (λ (v : View). v.seen.stop) is;
@@ -90,16 +93,19 @@ module _ (seat after : Seat) (at mark : ℕ) (hand : HasInHand at (view_of seat)
   call-marked : (view_of after).call ≡ next_raise at mark rest
   call-marked = ap (λ (v : View). v.call) looked-is ∙ ap (call_with_mark mark) hand.call
 
+  KeepsWorker-marked : KeepsWorker (view_of seat) (saw_mark mark (view_of seat))
+  KeepsWorker-marked = record {
+    constants = refl;
+    standing = refl;
+    tail = le_refl (view_of seat).seen.tail;
+    exposed = le_refl (view_of seat).seen.exposed;
+    durable = le_refl (view_of seat).seen.durable;
+    steps = omega arith;
+  }
+
   pub HasOnlySeen-marked : HasOnlySeen seat after
   HasOnlySeen-marked = record {
-    same = IsSameWorker-becomes seat after (saw_mark mark (view_of seat)) becomes record {
-      constants = refl;
-      standing = refl;
-      tail = le_refl (view_of seat).seen.tail;
-      exposed = le_refl (view_of seat).seen.exposed;
-      durable = le_refl (view_of seat).seen.durable;
-      steps = omega arith;
-    };
+    same = IsSameWorker-becomes seat after (saw_mark mark (view_of seat)) becomes KeepsWorker-marked;
     entries = ap (λ (v : View). v.entries) looked-is;
     books = ap (λ (v : View). v.books) looked-is;
     stop = ap (λ (v : View). v.seen.stop) looked-is;

@@ -42,7 +42,8 @@ pub record HasRoom (ring tail durable n : ℕ) : Type 0 where
 -- they do not, for the reason that is told; the log's end is told where both hold
 abbrev pub Refuses : ℕ → ℕ → ℕ → ℕ → Refused → Type 0
 Refuses ring tail durable n (LogEnd told total) = (told ≡ tail) × (total ≡ n) × (LAST < tail + n)
-Refuses ring tail durable n (RingFull told stood total) = (told ≡ tail) × (stood ≡ durable) × (total ≡ n) × (tail + n ≤ LAST) × (durable + ring < tail + n)
+Refuses ring tail durable n (RingFull told stood total) =
+    (told ≡ tail) × (stood ≡ durable) × (total ≡ n) × (tail + n ≤ LAST) × (durable + ring < tail + n)
 
 -- after loads of the tail and then of durable
 abbrev pub looked : ℕ → ℕ → View → View
@@ -164,12 +165,16 @@ pub record IsSameWorker (old new : Seat) : Type 0 where
   pub durable : (view_of old).seen.durable ≤ (view_of new).seen.durable
   pub steps : (view_of old).seen.steps ≤ (view_of new).seen.steps
 
--- but for what it saw, and for its call, the seat is as it was; it saw nothing of the stop word
+-- the seat saw nothing of the stop word
+abbrev pub SeesNoStop : Seat → Seat → Type 0
+SeesNoStop old new = (view_of new).seen.stop ≡ (view_of old).seen.stop
+
+-- but for what it saw, and for its call, the seat is as it was
 pub record HasOnlySeen (old new : Seat) : Type 0 where
   pub same : IsSameWorker old new
   pub entries : (view_of new).entries ≡ (view_of old).entries
   pub books : (view_of new).books ≡ (view_of old).books
-  pub stop : (view_of new).seen.stop ≡ (view_of old).seen.stop
+  pub stop : SeesNoStop old new
   pub contended : (view_of new).contended ≡ (view_of old).contended
 
 -- The seat has nothing left to expose, which it did since its view was `old`. It has nothing under way, or where the range was a group's it
@@ -178,14 +183,18 @@ pub record HasExposed (lsn : ℕ) (old new : View) : Type 0 where
   pub call : new.call ≡ call_after (follow_up old.call)
   pub last : IsLastExposed lsn new.seen
 
--- The seat has nothing under way, these entries and these books, which tell the accounts that it gave back. It is as contended as before; between
--- the two moments it may have been contended.
+-- The seat has nothing under way, these entries and these books, which tell the accounts that it gave back. It is as contended as before;
+-- between the two moments it may have been contended.
 pub record HasEntries (old new : Seat) (entries : List Entry) (books : Books) : Type 0 where
   pub same : IsSameWorker old new
   pub idle : (view_of new).call ≡ Idle
   pub contended : (view_of new).contended ≡ (view_of old).contended
   pub entries_are : (view_of new).entries ≡ entries
   pub books_are : (view_of new).books ≡ books
+
+-- the same with the entries and the books of before
+abbrev pub KeepsEntries : Seat → Seat → Type 0
+KeepsEntries old new = HasEntries old new (view_of old).entries (view_of old).books
 
 -- the refusal is by what the seat looked at last, in this call; the tail that it names is an LSN that the seat saw
 pub record IsRefusedNow (old new : Seat) (ring n : ℕ) (refused : Refused) : Type 0 where

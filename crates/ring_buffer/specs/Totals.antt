@@ -3,7 +3,8 @@ use Rattle.std.specs.Prelude.{◌≡◌, ◌⊎◌, ℕ, ◌/◌, ◌<◌, ◌�
 use Rattle.log_rule.specs.declared.group_view.HeardRefusal.{HeardRefusal}
 use Rattle.log_rule.specs.declared.view.View.{View}
 
--- The record of this size was one of a group of this total, of which this is known. In a table with slots a group gets a quarter of the ring at most.
+-- The record of this size was one of a group of this total, of which this is known. In a table with slots a group gets a quarter of the ring
+-- at most.
 pub record IsOfGroup (ring slots : ℕ) (Known : ℕ → ℕ → Type 0) (size total : ℕ) : Type 0 where
   pub grouped : 0 < slots
   pub within : size ≤ total

@@ -14,7 +14,8 @@ pub fn fill(table: &LogTable, seat: &mut Seat, range: Range, units: &Units) -> F
     requires seat { IsOf table.now seat.old }
     requires range { HasReserved range units.now (view_of seat.old) }
     ensures range { result.range ≡ range }
-    ensures becomes { Becomes seat.old seat.new (with_units units.now ((view_of seat.old).seen.steps + range.size) (view_of seat.old)) }
+    ensures becomes { Becomes seat.old seat.new
+        (with_units units.now ((view_of seat.old).seen.steps + range.size) (view_of seat.old)) }
 {
     let list = units.as_slice();
     for i in 0..list.len() {

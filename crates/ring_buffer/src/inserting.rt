@@ -1,10 +1,10 @@
 //! A whole insert.
-ghost use Rattle.std.specs.Prelude.{◌≡◌, ◌++◌, ◌∷◌, ◌+◌, ◌≤◌, [], length, IfOk, IfErr, OnOk};
-ghost use Rattle.lsn_space.specs.declared.lsn.TheConstants.{LAST};
+ghost use Rattle.std.specs.Prelude.{◌≡◌, length, IfOk, IfErr, OnOk};
 ghost use Rattle.log_record.specs.Spelling.{spelling};
-ghost use Rattle.log_rule.specs.Books.{next_of, placing};
+ghost use Rattle.log_rule.specs.Books.{next_of};
 ghost use Rattle.log_table.specs.Seats.{IsOf, view_of};
-ghost use Rattle.ring_buffer.specs.Calls.{IsReady, MayPlace, PlacesNext, HasEntries, IsSameWorker, IsRefusedNow, entry_of};
+ghost use Rattle.ring_buffer.specs.Calls.{IsReady, MayPlace, PlacesNext, KeepsEntries, IsSameWorker, IsRefusedNow, SeesNoStop};
+ghost use Rattle.ring_buffer.specs.Inserting.{Inserts};
 
 use crate::call::Range;
 use crate::filling::fill;
@@ -31,13 +31,7 @@ pub fn insert_alone<G: Gate>(
     requires ready { IsReady (view_of seat.old) }
     requires next { MayPlace (length units.now) (view_of seat.old).books }
     requires units { units.now ≡ spelling (next_of (view_of seat.old).books) }
-    ensures inserted { IfOk result (λ at. HasEntries seat.old seat.new ((view_of seat.old).entries ++ entry_of at (next_of (view_of seat.old).books) ∷ []) (placing (at + length units.now) (next_of (view_of seat.old).books) (view_of seat.old).books)) }
-    ensures behind { IfOk result (λ at. (view_of seat.old).seen.tail ≤ at) }
-    ensures seen { IfOk result (λ at. at + length units.now ≤ (view_of seat.new).seen.tail) }
-    ensures fits { IfOk result (λ at. at + length units.now ≤ LAST) }
-    ensures kept { IfErr result (λ e. HasEntries seat.old seat.new (view_of seat.old).entries (view_of seat.old).books) }
-    ensures refused { IfErr result (IsRefusedNow seat.old seat.new table.now.ring (length units.now)) }
-    ensures stop { (view_of seat.new).seen.stop ≡ (view_of seat.old).seen.stop }
+    ensures { Inserts (IsRefusedNow seat.old seat.new table.now.ring (length units.now)) seat.old seat.new (length units.now) result }
 {
     let n = units.as_slice().len() as u32;
     let range = place_among(table, seat, n, gate)?;
@@ -66,9 +60,9 @@ fn place_among<G: Gate>(
     requires next { MayPlace n (view_of seat.old).books }
     ensures placed { IfOk result (PlacesNext (view_of seat.old) (view_of seat.new) n) }
     ensures same { OnOk result (IsSameWorker seat.old seat.new) }
-    ensures kept { IfErr result (λ e. HasEntries seat.old seat.new (view_of seat.old).entries (view_of seat.old).books) }
+    ensures kept { IfErr result (λ e. KeepsEntries seat.old seat.new) }
     ensures refused { IfErr result (IsRefusedNow seat.old seat.new table.now.ring n) }
-    ensures stop { (view_of seat.new).seen.stop ≡ (view_of seat.old).seen.stop }
+    ensures stop { SeesNoStop seat.old seat.new }
 {
     'places: loop {
         let seen = look(table, seat);

@@ -62,8 +62,10 @@ pub fn try_place(
     requires look { IsLastLook look (view_of seat.old) }
     requires next { MayPlace n (view_of seat.old).books }
     ensures room { OnOk result (HasRoom table.now.ring look.tail look.durable n) }
-    ensures placed { IfOk result (λ o. IfSome o (λ range. (range.start ≡ look.tail) × (range.size ≡ n) × Becomes seat.old seat.new (reserved look.tail (look.tail + n) (view_of seat.old)))) }
-    ensures lost { IfOk result (λ o. IfNone o ((found : ℕ) × (look.tail < found) × Becomes seat.old seat.new (lost_alone found (view_of seat.old)))) }
+    ensures placed { IfOk result (λ o. IfSome o (λ range. (range.start ≡ look.tail) × (range.size ≡ n)
+        × Becomes seat.old seat.new (reserved look.tail (look.tail + n) (view_of seat.old)))) }
+    ensures lost { IfOk result (λ o. IfNone o ((found : ℕ) × (look.tail < found)
+        × Becomes seat.old seat.new (lost_alone found (view_of seat.old)))) }
     ensures refused { IfErr result (λ e. (seat.new ≡ seat.old) × Refuses table.now.ring look.tail look.durable n e) }
 {
     let to = end_of(&look, table.ring(), n)?;

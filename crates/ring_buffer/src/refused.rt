@@ -1,3 +1,4 @@
+//! Why a range was not reserved.
 use lsn_space::Lsn;
 
 /// Why no range was reserved. The LSNs are those that the call looked at, and `total` is the number of

@@ -1,4 +1,4 @@
-use Rattle.std.proofs.Common.{arith, ◌≡◌, ◌∙◌, ◌+◌, ◌++◌, ◌∷◌, [], ℕ, List, length, ap, sym, refl, subst}
+use Rattle.std.proofs.Common.{rules, arith, ◌≡◌, ◌∙◌, ◌+◌, ◌++◌, ◌∷◌, [], ℕ, List, length, ap, sym, refl, subst}
 use Rattle.log_record.specs.Spelling.{spelling}
 use Rattle.log_rule.specs.Books.{next_of, placing}
 use Rattle.log_rule.specs.GroupViews.{follow_up}
@@ -32,47 +32,40 @@ expose-requires-clause-marked g c =
     HasMarked-call (view_of c.finish.new.seat) Nothing (ap (λ m. m.0.call) c.finish.ensures.becomes.me
     ∙ ap (λ (call : Call). Marked (follow_up call)) (filling ∙ ap (filled_with c.args.units.now) c.in_ok-range.ensures.placed.call))
 
-pub returns-clause-inserted : goal.returns-clause-inserted
-returns-clause-inserted g c =
+pub returns : goal.returns
+returns g c =
     let placed = c.in_ok-range.ensures.placed in
     let old = view_of c.args.seat.now in
     let mid = view_of c.place_among.new.seat in
     let steps : ℕ = mid.seen.steps + c.in_ok-range.range.size in
     let rec = next_of old.books in
     let entry : Entry = entry_of c.start-at.result rec in
-    let size : length c.as_slice.result.now ≡ length (spelling rec) = ap length c.as_slice.ensures.units ∙ ap length c.requires.units in
+    let length-is = ap length c.as_slice.ensures.units in
+    let size : length c.as_slice.result.now ≡ length (spelling rec) = length-is ∙ ap length c.requires.units in
     let start : c.in_ok-range.range.start ≡ c.start-at.result = sym c.start-at.ensures in
     let call : filled_with c.args.units.now mid.call ≡ Filling entry =
     ap (filled_with c.args.units.now) placed.call ∙ (λ i. Filling (record { start = start i; size = size i; units = c.requires.units i; rec = rec })) in
-    record {
-      same = IsSameWorker-trans c.args.seat.now c.place_among.new.seat c.expose.new.seat c.in_ok-range.ensures.same
-          (same-inserted c.place_among.new.seat c.fill-filled.new.seat c.finish.new.seat c.expose.new.seat c.args.units.now steps
-          c.fill-filled.ensures.becomes c.finish.ensures.becomes c.expose.result c.expose.ensures.stays c.expose.ensures.over (omega arith));
-      idle = idle-inserted c.place_among.new.seat c.fill-filled.new.seat c.finish.new.seat c.expose.new.seat c.args.units.now steps
-          c.fill-filled.ensures.becomes c.finish.ensures.becomes c.expose.result c.expose.ensures.stays c.expose.ensures.over entry call;
-      contended = contended-inserted c.place_among.new.seat c.fill-filled.new.seat c.finish.new.seat c.expose.new.seat c.args.units.now steps
-          c.fill-filled.ensures.becomes c.finish.ensures.becomes c.expose.result c.expose.ensures.stays c.expose.ensures.over ∙ placed.contended;
-      entries_are = entries-inserted c.place_among.new.seat c.fill-filled.new.seat c.finish.new.seat c.expose.new.seat c.args.units.now steps
-          c.fill-filled.ensures.becomes c.finish.ensures.becomes c.expose.result c.expose.ensures.stays c.expose.ensures.over entry call
-          ∙ ap (λ (entries : List Entry). entries ++ entry ∷ []) placed.entries;
-      books_are = books-inserted c.place_among.new.seat c.fill-filled.new.seat c.finish.new.seat c.expose.new.seat c.args.units.now steps
-          c.fill-filled.ensures.becomes c.finish.ensures.becomes c.expose.result c.expose.ensures.stays c.expose.ensures.over
-          ∙ (placed.books ∙ (λ i. placing (start i + ap length c.as_slice.ensures.units i) rec old.books));
-    }
-
-pub returns-clause-behind : goal.returns-clause-behind
-returns-clause-behind g c = omega (arith, c.in_ok-range.ensures.placed.behind, c.start-at.ensures)
-
-pub returns-clause-seen : goal.returns-clause-seen
-returns-clause-seen g c =
-    let steps : ℕ = (view_of c.place_among.new.seat).seen.steps + c.in_ok-range.range.size in
     let same = same-inserted c.place_among.new.seat c.fill-filled.new.seat c.finish.new.seat c.expose.new.seat c.args.units.now steps
-    c.fill-filled.ensures.becomes c.finish.ensures.becomes c.expose.result c.expose.ensures.stays c.expose.ensures.over (omega arith) in
-    omega (arith, c.in_ok-range.ensures.placed.seen, same.grows, c.start-at.ensures, ap length c.as_slice.ensures.units)
-
-pub returns-clause-stop : goal.returns-clause-stop
-returns-clause-stop g c =
-    let steps : ℕ = (view_of c.place_among.new.seat).seen.steps + c.in_ok-range.range.size in
-    stop-inserted c.place_among.new.seat c.fill-filled.new.seat c.finish.new.seat c.expose.new.seat c.args.units.now steps
-    c.fill-filled.ensures.becomes c.finish.ensures.becomes c.expose.result c.expose.ensures.stays c.expose.ensures.over
-    ∙ c.place_among.ensures.stop
+    c.fill-filled.ensures.becomes c.finish.ensures.becomes c.expose.result c.expose.ensures.stays c.expose.ensures.over (omega arith) in record {
+      inserted = record {
+        same = IsSameWorker-trans c.args.seat.now c.place_among.new.seat c.expose.new.seat c.in_ok-range.ensures.same same;
+        idle = idle-inserted c.place_among.new.seat c.fill-filled.new.seat c.finish.new.seat c.expose.new.seat c.args.units.now steps
+            c.fill-filled.ensures.becomes c.finish.ensures.becomes c.expose.result c.expose.ensures.stays c.expose.ensures.over entry call;
+        contended = contended-inserted c.place_among.new.seat c.fill-filled.new.seat c.finish.new.seat c.expose.new.seat c.args.units.now steps
+            c.fill-filled.ensures.becomes c.finish.ensures.becomes c.expose.result c.expose.ensures.stays c.expose.ensures.over ∙ placed.contended;
+        entries_are = entries-inserted c.place_among.new.seat c.fill-filled.new.seat c.finish.new.seat c.expose.new.seat c.args.units.now steps
+            c.fill-filled.ensures.becomes c.finish.ensures.becomes c.expose.result c.expose.ensures.stays c.expose.ensures.over entry call
+            ∙ ap (λ (entries : List Entry). entries ++ entry ∷ []) placed.entries;
+        books_are = books-inserted c.place_among.new.seat c.fill-filled.new.seat c.finish.new.seat c.expose.new.seat c.args.units.now steps
+            c.fill-filled.ensures.becomes c.finish.ensures.becomes c.expose.result c.expose.ensures.stays c.expose.ensures.over
+            ∙ (placed.books ∙ (λ i. placing (start i + length-is i) rec old.books));
+      };
+      behind = omega (arith, placed.behind, c.start-at.ensures);
+      seen = omega (arith, placed.seen, same.grows, c.start-at.ensures, length-is);
+      fits = search rules;
+      kept = tt;
+      refused = tt;
+      stop = stop-inserted c.place_among.new.seat c.fill-filled.new.seat c.finish.new.seat c.expose.new.seat c.args.units.now steps
+          c.fill-filled.ensures.becomes c.finish.ensures.becomes c.expose.result c.expose.ensures.stays c.expose.ensures.over
+          ∙ c.place_among.ensures.stop;
+    }
