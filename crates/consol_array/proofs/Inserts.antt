@@ -20,7 +20,9 @@ use Rattle.consol_array.specs.declared.call.Joined.{Joined}
 use Rattle.consol_array.specs.declared.call.Leaver.{Leaver}
 use Rattle.consol_array.specs.declared.call.Member.{Member}
 use Rattle.consol_array.specs.Hearing.{HasHeardBase, HasHeardRefusal}
-use Rattle.consol_array.specs.Inserting.{JoinsNext, WasRefused}
+use Rattle.consol_array.specs.Inserting.{HasComeTo, JoinsNext, WasRefused}
+use Rattle.consol_array.specs.declared.inserting.Way.{Way}
+use Rattle.consol_array.specs.declared.inserting.Way.TheVariants.{InGroup}
 use Rattle.consol_array.specs.Members.{IsAtStep, IsSamePiece}
 use Rattle.consol_array.specs.Releasing.{SeesTheSame}
 
@@ -32,6 +34,11 @@ IsOf-since table first second of same = record {
   ring = ap (λ (constants : Constants). constants.ring) same.constants ∙ of.ring;
   slots = ap (λ (constants : Constants). constants.slots) same.constants ∙ of.slots;
 }
+
+-- the rounds came to a group
+pub JoinsNext-way : (table : LogTable) (first joins : Seat) (n : ℕ) (way : Way) (joined : Joined) → way ≡ InGroup joined
+    → HasComeTo table first joins n way → JoinsNext table first joins n joined
+JoinsNext-way table first joins n way joined is = subst (λ (way : Way). HasComeTo table first joins n way) is
 
 -- the seat joined a group, and led it if it was the first
 module _ (table : LogTable) (first joins leads : Seat) (n : ℕ) (units : List ℕ) (joined : Joined) (has : JoinsNext table first joins n joined) (stays : HasOnlySeen joins leads)

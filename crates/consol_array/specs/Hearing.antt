@@ -13,7 +13,7 @@ use Rattle.log_rule.specs.declared.view.View.{View}
 use Rattle.log_rule.specs.Books.{placing}
 use Rattle.log_table.specs.Seats.{Becomes, view_of}
 use Rattle.log_rule.specs.SlotViews.{saw_slot}
-use Rattle.ring_buffer.specs.Calls.{Refuses, IsSameWorker}
+use Rattle.ring_buffer.specs.Calls.{Refuses, IsSameWorker, SeesNoStop}
 use Rattle.ring_buffer.specs.Totals.{IsHeard}
 use Rattle.ring_buffer.specs.declared.refused.Refused.{Refused}
 use Rattle.consol_array.specs.declared.call.Heard.{Heard}
@@ -57,8 +57,8 @@ pub record IsToHear (table : LogTable) (joined : Joined) (state : SlotWord) (vie
   pub member : IsMember table joined.slot joined.offset joined.n (step_told state) view
   pub told : TellsGroup state
 
--- The seat is the same worker's, and has seen no less than any seat of this worker which had seen no more of tail and durable when it joined
--- with the piece.
+-- The seat is the same worker's, and has seen no less than any seat of this worker which had seen no more of tail and durable when it
+-- joined with the piece.
 abbrev pub HasSeenNoLess : Piece → Seat → Seat → Type 0
 HasSeenNoLess piece old new = (first : Seat) → IsSameWorker first old → (view_of first).seen.tail ≤ piece.tail
     → (view_of first).seen.durable ≤ piece.durable → IsSameWorker first new
@@ -79,12 +79,13 @@ pub record HasHeardBase (joined : Joined) (piece : Piece) (old new : Seat) (memb
   pub call : IsAtStep joined.slot piece (Fills base []) (view_of new)
   pub entries : (view_of new).entries ≡ (view_of old).entries
   pub books : (view_of new).books ≡ placing (base + piece.offset + piece.size) piece.rec (view_of old).books
-  pub stop : (view_of new).seen.stop ≡ (view_of old).seen.stop
+  pub stop : SeesNoStop old new
   pub alone : (view_of old).contended ≡ false → (view_of new).contended ≡ false
 
 -- The member heard that its group was refused, by which tail and which durable and for which total: there was no room by these. Neither is
 -- below what the member had seen when it joined, and both count as seen. The view keeps the size and the total.
-pub record HasHeardRefusal (ring : ℕ) (joined : Joined) (piece : Piece) (old new : Seat) (refused : Refused) (leaver : Leaver) : Type 0 where
+pub record HasHeardRefusal (ring : ℕ) (joined : Joined) (piece : Piece) (old new : Seat) (refused : Refused) (leaver : Leaver)
+    : Type 0 where
   pub slot_is : leaver.slot ≡ joined.slot
   pub size_is : leaver.n ≡ joined.n
   pub total : ℕ
@@ -99,7 +100,7 @@ pub record HasHeardRefusal (ring : ℕ) (joined : Joined) (piece : Piece) (old n
   pub call : IsAtStep joined.slot piece (Leaves (view_of new).seen.tail (view_of new).seen.durable) (view_of new)
   pub entries : (view_of new).entries ≡ (view_of old).entries
   pub books : (view_of new).books ≡ (view_of old).books
-  pub stop : (view_of new).seen.stop ≡ (view_of old).seen.stop
+  pub stop : SeesNoStop old new
   pub alone : (view_of old).contended ≡ false → (view_of new).contended ≡ false
 
 -- what the member heard

@@ -1,5 +1,5 @@
 -- When a seat may join the group at its slot, and what it leaves behind that has joined or has not.
-use Rattle.std.specs.Prelude.{◌≡◌, ◌≢◌, ◌⊎◌, ℕ, ◌+◌, ◌/◌, ◌<◌, ◌≤◌}
+use Rattle.std.specs.Prelude.{◌≡◌, ◌≢◌, ◌⊎◌, ℕ, ◌+◌, ◌/◌, ◌<◌, ◌≤◌, false, Result, IfOk, IfErr}
 use Rattle.slot_word.specs.declared.phase.Phase.TheVariants.{Gathering}
 use Rattle.slot_word.specs.declared.slot_word.SlotWord.{SlotWord}
 use Rattle.slot_word.specs.SlotWord.{word_of}
@@ -8,7 +8,7 @@ use Rattle.log_table.specs.declared.table.Seat.{Seat}
 use Rattle.log_rule.specs.declared.view.Call.TheVariants.{Idle}
 use Rattle.log_table.specs.Seats.{Becomes, view_of}
 use Rattle.log_rule.specs.SlotViews.{own_slot_of, saw_slot, joined_slot, lost_join}
-use Rattle.ring_buffer.specs.Calls.{IsSameWorker}
+use Rattle.ring_buffer.specs.Calls.{IsSameWorker, SeesNoStop}
 use Rattle.consol_array.specs.declared.call.Joined.{Joined}
 use Rattle.consol_array.specs.declared.call.NotJoined.{NotJoined}
 
@@ -36,7 +36,8 @@ pub record HasJoined (table : LogTable) (old new : Seat) (n : ℕ) (joined : Joi
   pub loaded : SlotWord
   pub room : HasSlotRoom table.ring n loaded
   pub offset_is : joined.offset ≡ loaded.total
-  pub becomes : Becomes old new (joined_slot joined.slot joined.offset (word_of loaded) (saw_slot joined.slot (word_of loaded) (view_of old)))
+  pub becomes : Becomes old new
+      (joined_slot joined.slot joined.offset (word_of loaded) (saw_slot joined.slot (word_of loaded) (view_of old)))
 
 -- the seat loaded a state of its slot by which the group there takes no more, and made no exchange
 pub record WasTurnedAway (table : LogTable) (old new : Seat) (n : ℕ) (answer : NotJoined) : Type 0 where
@@ -48,8 +49,8 @@ pub record WasTurnedAway (table : LogTable) (old new : Seat) (n : ℕ) (answer :
 pub record HasLostJoin (table : LogTable) (old new : Seat) (n : ℕ) (answer : NotJoined) : Type 0 where
   pub room : HasSlotRoom table.ring n answer.loaded
   pub other : answer.found ≢ answer.loaded
-  pub becomes : Becomes old new
-      (lost_join (own_slot_of (view_of old)) (word_of answer.found) (saw_slot (own_slot_of (view_of old)) (word_of answer.loaded) (view_of old)))
+  pub becomes : Becomes old new (lost_join (own_slot_of (view_of old)) (word_of answer.found)
+      (saw_slot (own_slot_of (view_of old)) (word_of answer.loaded) (view_of old)))
 
 -- the seat has not joined
 abbrev pub HasNotJoined : LogTable → Seat → Seat → ℕ → NotJoined → Type 0
@@ -61,3 +62,11 @@ pub record IsBackAtRest (old new : Seat) : Type 0 where
   pub idle : (view_of new).call ≡ Idle
   pub entries : (view_of new).entries ≡ (view_of old).entries
   pub books : (view_of new).books ≡ (view_of old).books
+
+-- The seat tried to join the group at its slot, and has joined it or is back at rest. It isn't contended, and saw nothing of the stop word.
+pub record TriesJoin (table : LogTable) (old new : Seat) (n : ℕ) (result : Result Joined NotJoined) : Type 0 where
+  pub joined : IfOk result (HasJoined table old new n)
+  pub not_joined : IfErr result (HasNotJoined table old new n)
+  pub back : IfErr result (λ answer. IsBackAtRest old new)
+  pub alone : (view_of new).contended ≡ false
+  pub stop : SeesNoStop old new

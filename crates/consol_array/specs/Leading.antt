@@ -24,8 +24,8 @@ pub record HasClosed (table : LogTable) (slot total : ℕ) (view : View) : Type 
   pub call : IsAtStep slot piece (Places total closed) view
   pub earlier : closed ≤ view.seen.steps
 
--- By what the leader saw last there was room for the group of this total, and the tail is behind the group's range; or there is none, and these
--- are the tail and the durable that it saw.
+-- By what the leader saw last there was room for the group of this total, and the tail is behind the group's range; or there is none, and
+-- these are the tail and the durable that it saw.
 abbrev pub IsBySight : ℕ → ℕ → Outcome → Seen → Type 0
 IsBySight ring total (Granted base) seen = HasRoom ring base seen.durable total × (seen.tail ≡ base + total)
 IsBySight ring total (Refused tail durable) seen = (tail ≡ seen.tail) × (durable ≡ seen.durable) × LacksRoom ring total tail durable
@@ -35,7 +35,8 @@ pub record HasPlacedGroup (ring slot total : ℕ) (old new : View) (state : Slot
   pub outcome : Outcome
   pub by_sight : IsBySight ring total outcome new.seen
   pub now : old.seen.steps < new.seen.tail_step
-  pub tells : (piece : Piece) (closed : ℕ) → IsAtStep slot piece (Places total closed) old → IsAtStep slot piece (Tells total outcome) new
+  pub tells : (piece : Piece) (closed : ℕ) → IsAtStep slot piece (Places total closed) old
+      → IsAtStep slot piece (Tells total outcome) new
   pub state_is : word_of state ≡ told_word outcome total total
 
 -- the leader looked and saw room, but another worker had reserved before it did

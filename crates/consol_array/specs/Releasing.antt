@@ -10,7 +10,8 @@ use Rattle.log_table.specs.Seats.{Becomes, view_of}
 use Rattle.log_rule.specs.SlotViews.{released_piece, reopened, HasToRelease}
 use Rattle.ring_buffer.specs.Calls.{HasOnlySeen, HasExposed}
 
--- the seat released its piece of n units by a subtraction from this state, and is the last of its group to do so exactly where no more remained
+-- the seat released its piece of n units by a subtraction from this state, and is the last of its group to do so exactly where no more
+-- remained
 pub record LetsGo (table : LogTable) (n : ℕ) (old mid : Seat) (last : Bool) : Type 0 where
   pub found : SlotWord
   pub told : HasToRelease (table.ring / 4) n (view_of old).call (word_of found)

@@ -20,7 +20,8 @@ use std::sync::Wait;
 pub fn hear<R: Wait>(rt: &R, table: &LogTable, seat: &mut Seat, joined: Joined) -> Heard
     requires seat { IsOf table.now seat.old }
     requires waits { IsMember table.now joined.slot joined.offset joined.n Waits (view_of seat.old) }
-    ensures heard { (piece : Piece) → IsAtStep joined.slot piece Waits (view_of seat.old) → HasHeard table.now.ring joined piece seat.old seat.new result }
+    ensures heard { (piece : Piece) → IsAtStep joined.slot piece Waits (view_of seat.old)
+        → HasHeard table.now.ring joined piece seat.old seat.new result }
 {
     let backoff = Backoff::new();
     for _ in rt.forever() {
@@ -52,7 +53,8 @@ pub fn look_told(table: &LogTable, seat: &mut Seat, joined: &Joined) -> Option<S
 fn hear_told(table: &LogTable, seat: &mut Seat, joined: Joined, state: SlotWord) -> Heard
     requires seat { IsOf table.now seat.old }
     requires hears { IsToHear table.now joined state (view_of seat.old) }
-    ensures heard { (piece : Piece) → IsAtStep joined.slot piece (step_told state) (view_of seat.old) → HasHeard table.now.ring joined piece seat.old seat.new result }
+    ensures heard { (piece : Piece) → IsAtStep joined.slot piece (step_told state) (view_of seat.old)
+        → HasHeard table.now.ring joined piece seat.old seat.new result }
 {
     let Joined { slot, offset, n } = joined;
     let word = table.load_base(seat, slot);

@@ -1,15 +1,16 @@
 //! A whole insert, alone or in a group.
-ghost use Rattle.std.specs.Prelude.{◌≡◌, ◌++◌, ◌∷◌, ◌+◌, ◌≤◌, [], length, IfOk, IfErr, IfSome, IfNone, OnErr};
+ghost use Rattle.std.specs.Prelude.{◌≡◌, ◌++◌, ◌+◌, ◌≤◌, length, IfOk, IfSome, IfNone};
 ghost use Rattle.lsn_space.specs.declared.lsn.TheConstants.{LAST};
 ghost use Rattle.log_record.specs.Spelling.{spelling};
 ghost use Rattle.log_rule.specs.declared.group_view.MemberStep.TheVariants.{Waits};
 ghost use Rattle.log_rule.specs.declared.group_view.Piece.{Piece};
-ghost use Rattle.log_rule.specs.Books.{next_of, placing};
+ghost use Rattle.log_rule.specs.Books.{next_of};
 ghost use Rattle.log_table.specs.Seats.{IsOf, view_of};
 ghost use Rattle.log_rule.specs.SlotViews.{step_joining};
 ghost use Rattle.log_rule.specs.Views.{run_in};
-ghost use Rattle.ring_buffer.specs.Calls.{IsReady, MayPlace, HasReserved, HasEntries, HasOnlySeen, IsRefusedNow, entry_of, filled_with};
-ghost use Rattle.consol_array.specs.Inserting.{HasComeTo, HasLostRound, WasRefused};
+ghost use Rattle.ring_buffer.specs.Calls.{IsReady, MayPlace, HasReserved, HasEntries, HasOnlySeen, SeesNoStop, filled_with};
+ghost use Rattle.ring_buffer.specs.Inserting.{Inserts};
+ghost use Rattle.consol_array.specs.Inserting.{HasComeTo, HasLostRound, TellsRefusal, WasRefused};
 ghost use Rattle.consol_array.specs.Members.{IsAtStep, IsMember};
 
 use crate::call::{Heard, Joined};
@@ -50,13 +51,7 @@ pub fn insert<R: Wait, G: Gate>(
     requires ready { IsReady (view_of seat.old) }
     requires next { MayPlace (length units.now) (view_of seat.old).books }
     requires units { units.now ≡ spelling (next_of (view_of seat.old).books) }
-    ensures inserted { IfOk result (λ at. HasEntries seat.old seat.new ((view_of seat.old).entries ++ entry_of at (next_of (view_of seat.old).books) ∷ []) (placing (at + length units.now) (next_of (view_of seat.old).books) (view_of seat.old).books)) }
-    ensures behind { IfOk result (λ at. (view_of seat.old).seen.tail ≤ at) }
-    ensures seen { IfOk result (λ at. at + length units.now ≤ (view_of seat.new).seen.tail) }
-    ensures fits { IfOk result (λ at. at + length units.now ≤ LAST) }
-    ensures kept { IfErr result (λ e. HasEntries seat.old seat.new (view_of seat.old).entries (view_of seat.old).books) }
-    ensures refused { IfErr result (WasRefused seat.old seat.new table.now.ring (length units.now)) }
-    ensures stop { (view_of seat.new).seen.stop ≡ (view_of seat.old).seen.stop }
+    ensures { Inserts (WasRefused seat.old seat.new table.now.ring (length units.now)) seat.old seat.new (length units.now) result }
 {
     let n = units.as_slice().len() as u32;
     match place_or_join(table, seat, n, gate)? {
@@ -91,9 +86,7 @@ fn place_or_join<G: Gate>(
     requires ready { IsReady (view_of seat.old) }
     requires next { MayPlace n (view_of seat.old).books }
     ensures way { IfOk result (HasComeTo table.now seat.old seat.new n) }
-    ensures kept { OnErr result (HasEntries seat.old seat.new (view_of seat.old).entries (view_of seat.old).books) }
-    ensures refused { IfErr result (IsRefusedNow seat.old seat.new table.now.ring n) }
-    ensures stop { (view_of seat.new).seen.stop ≡ (view_of seat.old).seen.stop }
+    ensures refusal { TellsRefusal seat.old seat.new table.now.ring n result }
 {
     'rounds: loop {
         if let Some(way) = try_round(table, seat, n, gate)? {
@@ -116,9 +109,7 @@ fn try_round<G: Gate>(
     requires next { MayPlace n (view_of seat.old).books }
     ensures way { IfOk result (λ o. IfSome o (HasComeTo table.now seat.old seat.new n)) }
     ensures lost { IfOk result (λ o. IfNone o (HasLostRound seat.old seat.new)) }
-    ensures kept { OnErr result (HasEntries seat.old seat.new (view_of seat.old).entries (view_of seat.old).books) }
-    ensures refused { IfErr result (IsRefusedNow seat.old seat.new table.now.ring n) }
-    ensures stop { (view_of seat.new).seen.stop ≡ (view_of seat.old).seen.stop }
+    ensures refusal { TellsRefusal seat.old seat.new table.now.ring n result }
 {
     let seen = look(table, seat);
     gate.at(seat.worker(), Place::Looked);
@@ -148,8 +139,9 @@ fn put_alone<G: Gate>(
     requires range { HasReserved range units.now (view_of seat.old) }
     ensures at { result ≡ range.start }
     ensures fits { range.start + range.size ≤ LAST }
-    ensures entries { HasEntries seat.old seat.new ((view_of seat.old).entries ++ run_in (filled_with units.now (view_of seat.old).call)) (view_of seat.old).books }
-    ensures stop { (view_of seat.new).seen.stop ≡ (view_of seat.old).seen.stop }
+    ensures entries { HasEntries seat.old seat.new
+        ((view_of seat.old).entries ++ run_in (filled_with units.now (view_of seat.old).call)) (view_of seat.old).books }
+    ensures stop { SeesNoStop seat.old seat.new }
 {
     gate.at(seat.worker(), Place::Placed);
     let at = range.start();
@@ -166,9 +158,11 @@ fn put_alone<G: Gate>(
 #[inline(always)]
 fn lead_first<G: Gate>(table: &LogTable, seat: &mut Seat, joined: &Joined, gate: &G)
     requires seat { IsOf table.now seat.old }
-    requires joined { IsMember table.now joined.now.slot joined.now.offset joined.now.n (step_joining joined.now.offset) (view_of seat.old) }
+    requires joined { IsMember table.now joined.now.slot joined.now.offset joined.now.n (step_joining joined.now.offset)
+        (view_of seat.old) }
     ensures stays { HasOnlySeen seat.old seat.new }
-    ensures waits { (piece : Piece) → IsAtStep joined.now.slot piece (step_joining joined.now.offset) (view_of seat.old) → IsAtStep joined.now.slot piece Waits (view_of seat.new) }
+    ensures waits { (piece : Piece) → IsAtStep joined.now.slot piece (step_joining joined.now.offset) (view_of seat.old)
+        → IsAtStep joined.now.slot piece Waits (view_of seat.new) }
 {
     gate.at(seat.worker(), Place::Joined);
     if joined.offset != 0 {

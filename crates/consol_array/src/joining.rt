@@ -1,10 +1,10 @@
 //! A seat joins the group at its slot.
-ghost use Rattle.std.specs.Prelude.{◌≡◌, ◌≤◌, false, IfOk, IfErr, IfSome, IfNone};
+ghost use Rattle.std.specs.Prelude.{◌≤◌, IfSome, IfNone};
 ghost use Rattle.lsn_space.specs.declared.lsn.TheConstants.{GREATEST_RING};
 ghost use Rattle.log_rule.specs.May.{IsAtRest};
 ghost use Rattle.log_table.specs.Seats.{IsOf, view_of};
 ghost use Rattle.ring_buffer.specs.Calls.{MayPlace};
-ghost use Rattle.consol_array.specs.Joining.{LacksSlotRoom, IsStateJoined, HasJoined, HasNotJoined, IsBackAtRest};
+ghost use Rattle.consol_array.specs.Joining.{LacksSlotRoom, IsStateJoined, TriesJoin};
 
 use crate::call::{Joined, NotJoined};
 use log_table::{LogTable, Seat};
@@ -36,11 +36,7 @@ pub fn try_join(table: &LogTable, seat: &mut Seat, n: u32) -> Result<Joined, Not
     requires slots { 1 ≤ table.now.slots }
     requires rests { IsAtRest (view_of seat.old) }
     requires next { MayPlace n (view_of seat.old).books }
-    ensures joined { IfOk result (HasJoined table.now seat.old seat.new n) }
-    ensures not_joined { IfErr result (HasNotJoined table.now seat.old seat.new n) }
-    ensures back { IfErr result (λ answer. IsBackAtRest seat.old seat.new) }
-    ensures alone { (view_of seat.new).contended ≡ false }
-    ensures stop { (view_of seat.new).seen.stop ≡ (view_of seat.old).seen.stop }
+    ensures { TriesJoin table.now seat.old seat.new n result }
 {
     let slot = seat.worker() % table.slots();
     let loaded = table.load_slot(seat, slot);

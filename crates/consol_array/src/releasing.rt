@@ -4,7 +4,7 @@ ghost use Rattle.lsn_space.specs.declared.lsn.TheConstants.{LAST};
 ghost use Rattle.log_rule.specs.declared.view.Call.TheVariants.{Emptying};
 ghost use Rattle.log_table.specs.Seats.{IsOf, view_of};
 ghost use Rattle.log_rule.specs.SlotViews.{piece_in};
-ghost use Rattle.ring_buffer.specs.Calls.{HasEntries};
+ghost use Rattle.ring_buffer.specs.Calls.{HasEntries, KeepsEntries, SeesNoStop};
 ghost use Rattle.consol_array.specs.Members.{HasFilledPiece, MayLeaveGroup};
 ghost use Rattle.consol_array.specs.Releasing.{HasEmptied, HasReleased, HasLeft, SeesTheSame};
 
@@ -20,9 +20,10 @@ pub fn release(table: &LogTable, seat: &mut Seat, filled: FilledMember) -> Relea
     requires seat { IsOf table.now seat.old }
     requires filled { HasFilledPiece table.now filled (view_of seat.old) }
     ensures at { result.at ≡ filled.at }
-    ensures entries { HasEntries seat.old seat.new ((view_of seat.old).entries ++ piece_in (view_of seat.old).call) (view_of seat.old).books }
+    ensures entries { HasEntries seat.old seat.new ((view_of seat.old).entries ++ piece_in (view_of seat.old).call)
+        (view_of seat.old).books }
     ensures released { HasReleased table.now filled.n seat.old seat.new result.last }
-    ensures stop { (view_of seat.new).seen.stop ≡ (view_of seat.old).seen.stop }
+    ensures stop { SeesNoStop seat.old seat.new }
 {
     let state = table.release_slot(seat, filled.slot, filled.n);
     if state.remaining() != filled.n {
@@ -46,9 +47,9 @@ fn empty(table: &LogTable, seat: &mut Seat, slot: u32, base: Lsn, total: u32)
     requires slot { slot < table.now.slots }
     requires emptying { (view_of seat.old).call ≡ Emptying slot base total }
     requires within { base + total ≤ LAST }
-    ensures entries { HasEntries seat.old seat.new (view_of seat.old).entries (view_of seat.old).books }
+    ensures entries { KeepsEntries seat.old seat.new }
     ensures emptied { HasEmptied seat.old seat.new }
-    ensures stop { (view_of seat.new).seen.stop ≡ (view_of seat.old).seen.stop }
+    ensures stop { SeesNoStop seat.old seat.new }
 {
     let end = Lsn::new(base.units() + total);
     table.store_mark(seat, base, end);
@@ -62,10 +63,10 @@ fn empty(table: &LogTable, seat: &mut Seat, slot: u32, base: Lsn, total: u32)
 pub fn leave_group(table: &LogTable, seat: &mut Seat, leaver: Leaver) -> bool
     requires seat { IsOf table.now seat.old }
     requires leaves { MayLeaveGroup table.now leaver (view_of seat.old) }
-    ensures entries { HasEntries seat.old seat.new (view_of seat.old).entries (view_of seat.old).books }
+    ensures entries { KeepsEntries seat.old seat.new }
     ensures left { HasLeft table.now leaver.n seat.old seat.new result }
     ensures seen { SeesTheSame (view_of seat.old).seen (view_of seat.new).seen }
-    ensures stop { (view_of seat.new).seen.stop ≡ (view_of seat.old).seen.stop }
+    ensures stop { SeesNoStop seat.old seat.new }
 {
     let state = table.release_slot(seat, leaver.slot, leaver.n);
     if state.remaining() != leaver.n {
