@@ -12,7 +12,7 @@ use Rattle.log_rule.specs.declared.view.View.{View}
 use Rattle.log_rule.specs.Accounts.{FollowsJob}
 use Rattle.log_rule.specs.Books.{times_held, balance_taken, mark_taken, taking}
 use Rattle.log_table.specs.Seats.{Becomes, view_of}
-use Rattle.log_rule.specs.AccountViews.{saw_account, took_account}
+use Rattle.log_rule.specs.AccountViews.{saw_account, took_account, gave_account}
 use Rattle.early_locks.specs.declared.taking.Taken.{Taken}
 use Rattle.early_locks.specs.declared.taking.Held.{Held}
 
@@ -58,6 +58,10 @@ pub record HoldsTaken (taken : Taken) (books : Books) : Type 0 where
 -- these are the balance and the last Commit with which the account has to go back
 abbrev pub GivesBack : Taken → ℕ → ℕ → Books → Type 0
 GivesBack taken balance mark books = FollowsJob taken.account balance mark taken.balance taken.mark books.placed
+
+-- the account is among those given back, and the seat is else as it was
+abbrev pub HasGivenBack : Taken → Seat → Seat → Type 0
+HasGivenBack taken old new = Becomes old new (gave_account taken.account (view_of old))
 
 -- the seat's last job has its end record, and the seat saw a durable LSN at or above its end
 pub record HasSeenDurable (view : View) : Type 0 where

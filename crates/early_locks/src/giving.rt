@@ -2,9 +2,8 @@
 ghost use Rattle.std.specs.Prelude.{◌≡◌, ◌<◌, ◌≤◌};
 ghost use Rattle.log_record.specs.declared.limits.TheConstants.{MOST_BALANCE};
 ghost use Rattle.log_rule.specs.May.{IsAtRest};
-ghost use Rattle.log_table.specs.Seats.{IsOf, Becomes, view_of};
-ghost use Rattle.log_rule.specs.AccountViews.{gave_account};
-ghost use Rattle.early_locks.specs.Locks.{HoldsTaken, GivesBack, HasSeenDurable};
+ghost use Rattle.log_table.specs.Seats.{IsOf, view_of};
+ghost use Rattle.early_locks.specs.Locks.{HoldsTaken, GivesBack, HasGivenBack, HasSeenDurable};
 
 use crate::taking::Taken;
 use log_table::{LogTable, Seat};
@@ -19,7 +18,7 @@ pub fn give(table: &LogTable, seat: &mut Seat, taken: Taken, balance: u32, mark:
     requires holds { HoldsTaken taken (view_of seat.old).books }
     requires balance { balance ≤ MOST_BALANCE }
     requires values { GivesBack taken balance mark (view_of seat.old).books }
-    ensures { Becomes seat.old seat.new (gave_account taken.account (view_of seat.old)) }
+    ensures { HasGivenBack taken seat.old seat.new }
 {
     table.store_account(seat, taken.account, AccountWord::free(balance, mark));
 }
@@ -33,7 +32,7 @@ pub fn give_durable(table: &LogTable, seat: &mut Seat, taken: Taken, balance: u3
     requires balance { balance ≤ MOST_BALANCE }
     requires values { GivesBack taken balance mark (view_of seat.old).books }
     requires durable { HasSeenDurable (view_of seat.old) }
-    ensures { Becomes seat.old seat.new (gave_account taken.account (view_of seat.old)) }
+    ensures { HasGivenBack taken seat.old seat.new }
 {
     give(table, seat, taken, balance, mark);
 }
