@@ -1,2 +1,3 @@
 pub mod Hiring
 pub mod Seats
+pub mod Steps

@@ -5,10 +5,11 @@ ghost use Rattle.log_rule.specs.declared.layout.TheConstants.{MOST_SLOTS};
 ghost use Rattle.log_rule.specs.May.{MaySplit, MayMerge};
 ghost use Rattle.log_rule.specs.Opening.{HasAccounts};
 ghost use Rattle.log_table.specs.Seats.{IsOf, Becomes, view_of, key_of};
+ghost use Rattle.log_table.specs.Steps.{Splits};
 ghost use Rattle.log_rule.specs.Sound.{HasReadStop};
 ghost use Rattle.log_rule.specs.Roles.{is_spent};
 ghost use Rattle.log_rule.specs.Views.{flusher};
-ghost use Rattle.log_rule.specs.CrewViews.{hires, hired, noted, takes_in};
+ghost use Rattle.log_rule.specs.CrewViews.{noted, takes_in};
 
 use crate::plays::{Hire, MakeNote, Number, TakeIn, TellStop};
 use crate::table::{LogTable, Seat};
@@ -23,10 +24,7 @@ fn split_as<N: Number>(table: &LogTable, seat: &mut Seat, worker: u32) -> Seat
     requires seat { IsOf table.now seat.old }
     requires may { MaySplit worker (view_of seat.old) }
     requires named { N.number ≡ worker }
-    ensures old { Becomes seat.old seat.new (hires worker (view_of seat.old)) }
-    ensures new { IsOf table.now result }
-    ensures view { view_of result ≡ hired worker (view_of seat.old) }
-    ensures worker { result.worker ≡ worker }
+    ensures { Splits table.now worker seat.old seat.new result }
 {
     let base = table.table.shared.split_seat::<Hire<N>>(&mut seat.base);
     Seat { base, worker }
@@ -79,10 +77,7 @@ impl LogTable {
     pub fn split(&self, seat: &mut Seat, worker: u32) -> Seat
         requires seat { IsOf self.now seat.old }
         requires may { MaySplit worker (view_of seat.old) }
-        ensures old { Becomes seat.old seat.new (hires worker (view_of seat.old)) }
-        ensures new { IsOf self.now result }
-        ensures view { view_of result ≡ hired worker (view_of seat.old) }
-        ensures worker { result.worker ≡ worker }
+        ensures { Splits self.now worker seat.old seat.new result }
     {
         split_as::<Brand>(self, seat, worker)
     }

@@ -1,11 +1,8 @@
 //! The accounts: who holds them, and with which balance and last commit.
-ghost use Rattle.std.specs.Prelude.{◌≡◌, ◌≢◌, ◌<◌, OnOk, IfErr, ℕ};
-ghost use Rattle.slot_word.specs.AccountWord.{word_of};
-ghost use Rattle.log_rule.specs.Events.{IsStep, none};
-ghost use Rattle.log_rule.specs.Layout.{Account};
-ghost use Rattle.log_rule.specs.May.{IsOwnWord, MayTake, MayGiveBack};
-ghost use Rattle.log_table.specs.Seats.{IsOf, Becomes, view_of, number_of, key_of};
-ghost use Rattle.log_rule.specs.AccountViews.{saw_account, took_account, gave_account};
+ghost use Rattle.std.specs.Prelude.{◌≡◌, ◌<◌};
+ghost use Rattle.log_rule.specs.May.{MayTake, MayGiveBack};
+ghost use Rattle.log_table.specs.Seats.{IsOf, view_of};
+ghost use Rattle.log_table.specs.Steps.{LoadsAccount, ExchangesAccount, StoresAccount};
 
 use crate::plays::{ExchangeAccount, LoadAccount, Number, StoreAccount};
 use crate::table::{LogTable, Seat};
@@ -18,8 +15,7 @@ fn load_account_as<N: Number>(table: &LogTable, seat: &mut Seat, account: u32) -
     requires seat { IsOf table.now seat.old }
     requires account { account < table.now.accounts }
     requires named { N.number ≡ account }
-    ensures view { Becomes seat.old seat.new (saw_account account (word_of result) (view_of seat.old)) }
-    ensures own { IsOwnWord account (word_of result) (view_of seat.old).books }
+    ensures { LoadsAccount table.now account seat.old seat.new result }
 {
     let place = account_place(table.ring, table.slots, account);
     AccountWord::unpack(
@@ -41,10 +37,7 @@ fn exchange_account_as<N: Number>(
     requires account { account < table.now.accounts }
     requires next { MayTake account from to (view_of seat.old) }
     requires named { N.number ≡ account }
-    ensures ok { OnOk result (Becomes seat.old seat.new (took_account account (word_of from) (view_of seat.old))) }
-    ensures err { IfErr result (λ found.
-        (found ≢ from) × Becomes seat.old seat.new (saw_account account (word_of found) (view_of seat.old))) }
-    ensures own { IfErr result (λ found. IsOwnWord account (word_of found) (view_of seat.old).books) }
+    ensures { ExchangesAccount table.now account from to seat.old seat.new result }
 {
     let place = account_place(table.ring, table.slots, account);
     let found = table
@@ -63,7 +56,7 @@ fn store_account_as<N: Number>(table: &LogTable, seat: &mut Seat, account: u32, 
     requires account { account < table.now.accounts }
     requires next { MayGiveBack account word (view_of seat.old) }
     requires named { N.number ≡ account }
-    ensures view { Becomes seat.old seat.new (gave_account account (view_of seat.old)) }
+    ensures { StoresAccount table.now account word seat.old seat.new }
 {
     let place = account_place(table.ring, table.slots, account);
     table
@@ -76,10 +69,7 @@ impl LogTable {
     pub fn load_account(&self, seat: &mut Seat, account: u32) -> AccountWord
         requires seat { IsOf self.now seat.old }
         requires account { account < self.now.accounts }
-        ensures view { Becomes seat.old seat.new (saw_account account (word_of result) (view_of seat.old)) }
-        ensures own { IsOwnWord account (word_of result) (view_of seat.old).books }
-        ensures event { IsStep (key_of self.now) (number_of seat.old) (Account account) (word_of result) (word_of result)
-            (view_of seat.old) (saw_account account (word_of result) (view_of seat.old)) none }
+        ensures { LoadsAccount self.now account seat.old seat.new result }
     {
         load_account_as::<Brand>(self, seat, account)
     }
@@ -96,15 +86,7 @@ impl LogTable {
         requires seat { IsOf self.now seat.old }
         requires account { account < self.now.accounts }
         requires next { MayTake account from to (view_of seat.old) }
-        ensures ok { OnOk result (Becomes seat.old seat.new (took_account account (word_of from) (view_of seat.old))) }
-        ensures ok_event { OnOk result (IsStep (key_of self.now) (number_of seat.old) (Account account) (word_of from) (word_of to)
-            (view_of seat.old) (took_account account (word_of from) (view_of seat.old)) none) }
-        ensures err { IfErr result (λ found.
-            (found ≢ from) × Becomes seat.old seat.new (saw_account account (word_of found) (view_of seat.old))) }
-        ensures own { IfErr result (λ found. IsOwnWord account (word_of found) (view_of seat.old).books) }
-        ensures err_event { IfErr result (λ found.
-            IsStep (key_of self.now) (number_of seat.old) (Account account) (word_of found) (word_of found)
-            (view_of seat.old) (saw_account account (word_of found) (view_of seat.old)) none) }
+        ensures { ExchangesAccount self.now account from to seat.old seat.new result }
     {
         exchange_account_as::<Brand>(self, seat, account, from, to)
     }
@@ -115,9 +97,7 @@ impl LogTable {
         requires seat { IsOf self.now seat.old }
         requires account { account < self.now.accounts }
         requires next { MayGiveBack account word (view_of seat.old) }
-        ensures view { Becomes seat.old seat.new (gave_account account (view_of seat.old)) }
-        ensures event { (found : ℕ) → IsStep (key_of self.now) (number_of seat.old) (Account account) found (word_of word)
-            (view_of seat.old) (gave_account account (view_of seat.old)) none }
+        ensures { StoresAccount self.now account word seat.old seat.new }
     {
         store_account_as::<Brand>(self, seat, account, word);
     }

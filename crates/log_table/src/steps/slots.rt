@@ -8,7 +8,8 @@ ghost use Rattle.log_rule.specs.Events.{IsStep, closes, hears, joins, none, refu
 ghost use Rattle.log_rule.specs.Layout.{Slot, Base};
 ghost use Rattle.log_rule.specs.May.{MayJoinSlot, MayCloseSlot, MayStoreBase, MayStoreGranted, MayStoreRefused, MayPublish, MayLoadBase, MayReopen, MayReleaseSlot};
 ghost use Rattle.log_table.specs.Seats.{IsOf, Becomes, view_of, number_of, key_of};
-ghost use Rattle.log_rule.specs.SlotViews.{saw_slot, joined_slot, lost_join, closed_slot, stored_base, published, heard_base, reopened, IsGatheringWord, TellsMember, TellsWaiting, released_piece, HasToRelease};
+ghost use Rattle.log_table.specs.Steps.{LoadsSlot};
+ghost use Rattle.log_rule.specs.SlotViews.{joined_slot, lost_join, closed_slot, stored_base, published, heard_base, reopened, IsGatheringWord, TellsMember, released_piece, HasToRelease};
 
 use crate::plays::{
     CloseSlot, JoinSlot, LoadBase, LoadSlot, Number, Publish, ReleaseSlot, Reopen, StoreBase,
@@ -23,8 +24,7 @@ fn load_slot_as<N: Number>(table: &LogTable, seat: &mut Seat, slot: u32) -> Slot
     requires seat { IsOf table.now seat.old }
     requires slot { slot < table.now.slots }
     requires named { N.number ≡ slot }
-    ensures view { Becomes seat.old seat.new (saw_slot slot (word_of result) (view_of seat.old)) }
-    ensures tells { TellsWaiting slot (word_of result) (view_of seat.old) }
+    ensures { LoadsSlot table.now slot seat.old seat.new result }
 {
     let place = slot_place(table.ring, slot);
     let word = table
@@ -41,10 +41,7 @@ impl LogTable {
     pub fn load_slot(&self, seat: &mut Seat, slot: u32) -> SlotWord
         requires seat { IsOf self.now seat.old }
         requires slot { slot < self.now.slots }
-        ensures view { Becomes seat.old seat.new (saw_slot slot (word_of result) (view_of seat.old)) }
-        ensures tells { TellsWaiting slot (word_of result) (view_of seat.old) }
-        ensures event { IsStep (key_of self.now) (number_of seat.old) (Slot slot) (word_of result) (word_of result)
-            (view_of seat.old) (saw_slot slot (word_of result) (view_of seat.old)) none }
+        ensures { LoadsSlot self.now slot seat.old seat.new result }
     {
         load_slot_as::<Brand>(self, seat, slot)
     }

@@ -1,6 +1,6 @@
 use Rattle.std.proofs.Common.{rules, arith}
 use Rattle.log_rule.proofs.Allowing.{exchange_account-allowed}
-use Rattle.log_rule.proofs.Owing.{FitsWord}
+use Rattle.log_rule.proofs.Owing.{FitsWord, account-takes, account-looks}
 use Rattle.log_table.proofs.steps.accounts.exchange_account_as.Goals as goal
 
 pub compare_exchange-found-requires : goal.compare_exchange-found-requires
@@ -13,8 +13,23 @@ compare_exchange-found-requires g c =
           c.requires.named _ _ _ _ c.pack.ensures c.pack-2.ensures from-fits to-fits c.requires.next,
     )
 
-pub returns-else-found-pack-clause-ok : goal.returns-else-found-pack-clause-ok
-returns-else-found-pack-clause-ok g c = search rules steps 100000
+pub returns-then-found-pack : goal.returns-then-found-pack
+returns-then-found-pack g c =
+    let table = c.args.table.now in
+    let fits : FitsWord c.args.from = search rules in
+    let fits_to : FitsWord c.args.to = search rules in record {
+      ok = search rules steps 2000000;
+      ok_event = account-takes _ _ _ _ _ table.counted c.requires.account _ _ fits fits_to c.requires.next;
+      err = tt;
+      own = tt;
+      err_event = tt;
+    }
 
-pub returns-then-found-pack-clause-ok : goal.returns-then-found-pack-clause-ok
-returns-then-found-pack-clause-ok g c = search rules steps 900000
+pub returns-else-found-pack : goal.returns-else-found-pack
+returns-else-found-pack g c = record {
+  ok = tt;
+  ok_event = tt;
+  err = search rules steps 2000000;
+  own = search rules steps 2000000;
+  err_event = account-looks _ _ _ _ _;
+}

@@ -1,8 +1,9 @@
-use Rattle.std.proofs.Common.{rules, arith, ◌∙◌, refl, ap}
+use Rattle.std.proofs.Common.{rules, arith, ap}
 use Rattle.log_rule.specs.AccountViews.{gave_account}
 use Rattle.log_table.specs.Seats.{view_of}
 use Rattle.log_rule.proofs.Allowing.{store_account-allowed}
-use Rattle.log_rule.proofs.Owing.{FitsWord}
+use Rattle.log_rule.proofs.Owing.{FitsWord, give-step}
+use Rattle.log_table.proofs.Stepping.{becomes_as}
 use Rattle.log_table.proofs.steps.accounts.store_account_as.Goals as goal
 
 pub store-requires : goal.store-requires
@@ -15,11 +16,8 @@ store-requires g c =
     )
 
 pub returns : goal.returns
-returns g c = let step = c.store.ensures in record {
-  view = record {
-    table_is = step.0;
-    number = step.1;
-    me = step.2.0 ∙ ap (λ account. (gave_account account (view_of c.args.seat.now), c.args.seat.now.base.me.1)) c.requires.named;
-    worker = refl;
-  };
-}
+returns g c =
+    let fits : FitsWord c.args.word = search rules in record {
+      view = becomes_as _ (ap (λ account. gave_account account (view_of c.args.seat.now)) c.requires.named) c.store.ensures;
+      event = give-step _ _ _ _ _ fits c.requires.next;
+    }

@@ -1,4 +1,4 @@
-use Rattle.std.proofs.Common.{arith, ◌≡◌, ℕ, refl, sym, subst}
+use Rattle.std.proofs.Common.{arith, ◌≡◌, ℕ, sym, subst}
 use Rattle.atomic_table.specs.Table.{Allows}
 use Rattle.log_rule.specs.declared.layout.TheConstants.{STOP}
 use Rattle.log_rule.specs.declared.start.Start.{Start}
@@ -6,6 +6,7 @@ use Rattle.log_rule.specs.Moments.{HoldsAtOnce}
 use Rattle.log_rule.specs.Sound.{Ruled}
 use Rattle.log_table.specs.Seats.{view_of, number_of, key_of}
 use Rattle.log_rule.proofs.Allowing.{look-allowed}
+use Rattle.log_table.proofs.Stepping.{becomes}
 use Rattle.log_table.proofs.steps.look.look_as.Goals as goal
 
 pub load-requires : goal.load-requires
@@ -21,7 +22,7 @@ load-requires g c = (
 )
 
 pub returns-clause-view : goal.returns-clause-view
-returns-clause-view g c = let step = c.load.ensures in record { table_is = step.0; number = step.1; me = step.2.0; worker = refl }
+returns-clause-view g c = becomes c.load.ensures
 
 pub returns-clause-at_once : goal.returns-clause-at_once
 returns-clause-at_once g c = subst (λ (who : Start × ℕ). HoldsAtOnce who.0 who.1 (view_of c.args.seat.now))

@@ -1,11 +1,11 @@
-use Rattle.std.proofs.Common.{rules, arith, ◌≡◌, ◌^◌, ◌<◌, ◌/◌, ◌∙◌, refl, sym, ap, subst}
+use Rattle.std.proofs.Common.{arith, ◌≡◌, ◌/◌, ◌∙◌, ap, subst}
 use Rattle.slot_word.specs.declared.phase.Phase.TheVariants as kind
-use Rattle.slot_word.specs.SlotWord.{packed, word_of}
-use Rattle.slot_word.proofs.SlotWordLemmas.{word_back}
+use Rattle.slot_word.specs.SlotWord.{packed}
 use Rattle.log_table.specs.Seats.{view_of, number_of, key_of}
 use Rattle.log_rule.specs.SlotViews.{closed_slot, IsGatheringWord}
 use Rattle.log_rule.proofs.SlotAllowing.{close_slot-allowed}
 use Rattle.log_rule.proofs.SlotClosing.{close-step}
+use Rattle.log_table.proofs.Stepping.{becomes_as, word-of_state}
 use Rattle.log_table.proofs.table.LogTable.close_slot.Goals as goal
 
 pub swap-word-requires : goal.swap-word-requires
@@ -23,23 +23,14 @@ unpack-requires c = c.swap-word.ensures.2.1.slot_word
 
 pub returns-clause-view : goal.returns-clause-view
 returns-clause-view c =
-    let step = c.swap-word.ensures in
-    let small : c.swap-word.result < 2 ^ 64 = search rules in
-    let is : c.swap-word.result ≡ word_of c.unpack.result =
-    sym (word_back c.swap-word.result small)
-    ∙ (λ i. packed (sym c.unpack.ensures.phase i) (sym c.unpack.ensures.total i) (sym c.unpack.ensures.remaining i)) in record {
-      table_is = step.0;
-      number = step.1;
-      me = step.2.0 ∙ ap (λ word. (closed_slot word (view_of c.args.seat.now), c.args.seat.now.base.me.1)) is;
-      worker = refl;
-    }
+    let state = c.unpack.ensures in
+    let is = word-of_state _ c.unpack.result c.swap-word.type_inv state.phase state.total state.remaining in
+    becomes_as _ (ap (λ word. closed_slot word (view_of c.args.seat.now)) is) c.swap-word.ensures
 
 pub returns-clause-gathers : goal.returns-clause-gathers
 returns-clause-gathers c =
-    let small : c.swap-word.result < 2 ^ 64 = search rules in
-    let is : c.swap-word.result ≡ word_of c.unpack.result =
-    sym (word_back c.swap-word.result small)
-    ∙ (λ i. packed (sym c.unpack.ensures.phase i) (sym c.unpack.ensures.total i) (sym c.unpack.ensures.remaining i)) in
+    let state = c.unpack.ensures in
+    let is = word-of_state _ c.unpack.result c.swap-word.type_inv state.phase state.total state.remaining in
     subst (IsGatheringWord ((view_of c.args.seat.now).constants.ring / 4)) is c.swap-word.ensures.2.1
 
 pub returns-clause-event : goal.returns-clause-event

@@ -1,5 +1,4 @@
-use Rattle.std.proofs.Common.{arith, ◌≡◌, ◌≢◌, ℕ, cond, refl, sym, ap, ◌∙◌, subst, ne_eqb}
-use Rattle.log_rule.specs.declared.view.View.{View}
+use Rattle.std.proofs.Common.{arith, ◌≢◌, ℕ, sym, ap, ◌∙◌, subst}
 use Rattle.log_rule.specs.May.{MayExchangeTail}
 use Rattle.log_table.specs.Seats.{view_of, number_of, key_of}
 use Rattle.log_rule.proofs.Allowing.{exchange_tail-allowed}
@@ -7,8 +6,9 @@ use Rattle.log_rule.proofs.LeaderPlacing.{place-step}
 use Rattle.log_rule.proofs.Looking.{tail-looks_as}
 use Rattle.log_rule.proofs.Reserving.{reserve-step}
 use Rattle.log_rule.proofs.TailMoving.{exchange-made}
-use Rattle.log_rule.specs.SlotViews.{exchanged, reserved_group, after_exchange, lost_exchange, contended_losing}
+use Rattle.log_rule.specs.SlotViews.{exchanged, reserved_group, contended_losing}
 use Rattle.log_rule.specs.Views.{reserved, seen_tail, lost_alone, saw_tail}
+use Rattle.log_table.proofs.Stepping.{becomes_as, exchange-lost}
 use Rattle.log_table.proofs.table.LogTable.exchange_tail.Goals as goal
 
 pub compare_exchange-found-requires : goal.compare_exchange-found-requires
@@ -31,33 +31,21 @@ returns-else-found-units-clause-err_event c = λ _. tail-looks_as _ _ _ _ _
 pub returns-else-found-units-clause-group_err_event : goal.returns-else-found-units-clause-group_err_event
 returns-else-found-units-clause-group_err_event c = λ _. tail-looks_as _ _ _ _ _
 
--- an exchange that is lost leaves this view
-exchange-lost : (from to found : ℕ) (view : View) → found ≢ from → after_exchange from to found view ≡ lost_exchange found view
-exchange-lost from to found view differs = ap (λ b. cond b (exchanged from to view view.call) (lost_exchange found view)) (ne_eqb found from differs)
-
 pub returns-then-found-units-clause-ok : goal.returns-then-found-units-clause-ok
-returns-then-found-units-clause-ok c = λ may. let step = c.compare_exchange-found.ensures in record {
-  table_is = step.0;
-  number = step.1;
-  me = step.2.0
-      ∙ ap (λ view. (view, c.args.seat.now.base.me.1)) (exchange-made c.units.result c.units-2.result c.compare_exchange-found.result (view_of c.args.seat.now)
-      (reserved c.args.from c.args.to (view_of c.args.seat.now)) (c.if-found-units.true ∙ c.units-3.ensures ∙ sym c.units.ensures)
-      (ap (exchanged c.units.result c.units-2.result (view_of c.args.seat.now)) may.rests.idle
-      ∙ (λ i. reserved (c.units.ensures i) (c.units-2.ensures i) (view_of c.args.seat.now))));
-  worker = refl;
-}
+returns-then-found-units-clause-ok c = λ may.
+    let view = view_of c.args.seat.now in
+    let same = c.if-found-units.true ∙ c.units-3.ensures ∙ sym c.units.ensures in
+    let reserves = ap (exchanged c.units.result c.units-2.result view) may.rests.idle in
+    becomes_as _ (exchange-made _ _ _ view _ same (reserves ∙ (λ i. reserved (c.units.ensures i) (c.units-2.ensures i) view)))
+    c.compare_exchange-found.ensures
 
 pub returns-then-found-units-clause-group : goal.returns-then-found-units-clause-group
-returns-then-found-units-clause-group c = λ may. let step = c.compare_exchange-found.ensures in record {
-  table_is = step.0;
-  number = step.1;
-  me = step.2.0
-      ∙ ap (λ view. (view, c.args.seat.now.base.me.1)) (exchange-made c.units.result c.units-2.result c.compare_exchange-found.result (view_of c.args.seat.now)
-      (reserved_group c.args.from c.args.to (view_of c.args.seat.now)) (c.if-found-units.true ∙ c.units-3.ensures ∙ sym c.units.ensures)
-      (ap (exchanged c.units.result c.units-2.result (view_of c.args.seat.now)) may.places
-      ∙ (λ i. reserved_group (c.units.ensures i) (c.units-2.ensures i) (view_of c.args.seat.now))));
-  worker = refl;
-}
+returns-then-found-units-clause-group c = λ may.
+    let view = view_of c.args.seat.now in
+    let same = c.if-found-units.true ∙ c.units-3.ensures ∙ sym c.units.ensures in
+    let places = ap (exchanged c.units.result c.units-2.result view) may.places in
+    becomes_as _ (exchange-made _ _ _ view _ same (places ∙ (λ i. reserved_group (c.units.ensures i) (c.units-2.ensures i) view)))
+    c.compare_exchange-found.ensures
 
 pub returns-else-found-units-clause-err : goal.returns-else-found-units-clause-err
 returns-else-found-units-clause-err c = λ may.
@@ -66,15 +54,9 @@ returns-else-found-units-clause-err c = λ may.
     let view = view_of c.args.seat.now in
     let differs : found ≢ c.args.from = λ same. c.if-found-units.false (same ∙ sym c.units-3.ensures) in (
       omega (arith, step.2.1.0, may.tail, c.new.ensures, differs),
-      record {
-        table_is = step.0;
-        number = step.1;
-        me = step.2.0
-            ∙ ap (λ v. (v, c.args.seat.now.base.me.1)) (exchange-lost c.units.result c.units-2.result found view (λ same. differs (same ∙ c.units.ensures))
-            ∙ ap (λ call. record view { seen = seen_tail found view.seen; contended = contended_losing view call }) may.rests.idle
-            ∙ (λ i. lost_alone (sym c.new.ensures i) view));
-        worker = refl;
-      },
+      becomes_as _ (exchange-lost _ _ found view (λ same. differs (same ∙ c.units.ensures))
+          ∙ ap (λ call. record view { seen = seen_tail found view.seen; contended = contended_losing view call }) may.rests.idle
+          ∙ (λ i. lost_alone (sym c.new.ensures i) view)) step,
     )
 
 pub returns-else-found-units-clause-group_err : goal.returns-else-found-units-clause-group_err
@@ -84,13 +66,7 @@ returns-else-found-units-clause-group_err c = λ may.
     let view = view_of c.args.seat.now in
     let differs : found ≢ c.args.from = λ same. c.if-found-units.false (same ∙ sym c.units-3.ensures) in (
       omega (arith, step.2.1.0, may.tail, c.new.ensures, differs),
-      record {
-        table_is = step.0;
-        number = step.1;
-        me = step.2.0
-            ∙ ap (λ v. (v, c.args.seat.now.base.me.1)) (exchange-lost c.units.result c.units-2.result found view (λ same. differs (same ∙ c.units.ensures))
-            ∙ ap (λ call. record view { seen = seen_tail found view.seen; contended = contended_losing view call }) may.places
-            ∙ (λ i. saw_tail (sym c.new.ensures i) view));
-        worker = refl;
-      },
+      becomes_as _ (exchange-lost _ _ found view (λ same. differs (same ∙ c.units.ensures))
+          ∙ ap (λ call. record view { seen = seen_tail found view.seen; contended = contended_losing view call }) may.places
+          ∙ (λ i. saw_tail (sym c.new.ensures i) view)) step,
     )

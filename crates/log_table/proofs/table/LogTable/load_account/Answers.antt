@@ -1,5 +1,4 @@
-use Rattle.log_rule.proofs.Owing.{account-looks}
 use Rattle.log_table.proofs.table.LogTable.load_account.Goals as goal
 
-pub returns-clause-event : goal.returns-clause-event
-returns-clause-event c = account-looks _ _ _ _ _
+pub returns : goal.returns
+returns c = c.load_account_as.ensures

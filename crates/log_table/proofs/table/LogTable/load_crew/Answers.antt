@@ -1,6 +1,7 @@
-use Rattle.std.proofs.Common.{arith, refl}
+use Rattle.std.proofs.Common.{arith}
 use Rattle.log_rule.proofs.Allowing.{load_crew-allowed}
 use Rattle.log_rule.proofs.Stopping.{crew-looks}
+use Rattle.log_table.proofs.Stepping.{becomes}
 use Rattle.log_table.proofs.table.LogTable.load_crew.Goals as goal
 
 pub load-requires : goal.load-requires
@@ -10,4 +11,4 @@ pub returns-clause-event : goal.returns-clause-event
 returns-clause-event c = crew-looks _ _ _ _
 
 pub returns-clause-view : goal.returns-clause-view
-returns-clause-view c = let step = c.load.ensures in record { table_is = step.0; number = step.1; me = step.2.0; worker = refl }
+returns-clause-view c = becomes c.load.ensures

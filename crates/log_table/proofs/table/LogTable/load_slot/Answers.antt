@@ -1,5 +1,4 @@
-use Rattle.log_rule.proofs.SlotLooks.{slot-looks}
 use Rattle.log_table.proofs.table.LogTable.load_slot.Goals as goal
 
-pub returns-clause-event : goal.returns-clause-event
-returns-clause-event c = slot-looks _ _ _ _ _
+pub returns : goal.returns
+returns c = c.load_slot_as.ensures

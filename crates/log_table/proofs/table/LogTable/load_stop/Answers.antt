@@ -1,6 +1,7 @@
-use Rattle.std.proofs.Common.{arith, refl}
+use Rattle.std.proofs.Common.{arith}
 use Rattle.log_rule.proofs.Allowing.{load_stop-allowed}
 use Rattle.log_rule.proofs.Looking.{stop-looks}
+use Rattle.log_table.proofs.Stepping.{becomes}
 use Rattle.log_table.proofs.table.LogTable.load_stop.Goals as goal
 
 pub load-requires : goal.load-requires
@@ -10,7 +11,7 @@ pub returns-clause-event : goal.returns-clause-event
 returns-clause-event c = stop-looks _ _ _ _
 
 pub returns-clause-view : goal.returns-clause-view
-returns-clause-view c = let step = c.load.ensures in record { table_is = step.0; number = step.1; me = step.2.0; worker = refl }
+returns-clause-view c = becomes c.load.ensures
 
 pub returns-clause-stays : goal.returns-clause-stays
 returns-clause-stays c = c.load.ensures.2.1

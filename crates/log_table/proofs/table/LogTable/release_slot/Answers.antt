@@ -1,9 +1,8 @@
-use Rattle.std.proofs.Common.{rules, arith, ◌≡◌, ◌^◌, ◌<◌, ◌/◌, ◌∙◌, refl, sym, ap, subst}
-use Rattle.slot_word.specs.SlotWord.{packed, word_of}
-use Rattle.slot_word.proofs.SlotWordLemmas.{word_back}
+use Rattle.std.proofs.Common.{arith, ◌/◌, ap, subst}
 use Rattle.log_table.specs.Seats.{view_of, number_of, key_of}
 use Rattle.log_rule.specs.SlotViews.{released_piece, HasToRelease}
 use Rattle.log_rule.proofs.SlotReleased.{release_slot-allowed, release-step, less-minus}
+use Rattle.log_table.proofs.Stepping.{becomes_as, word-of_state}
 use Rattle.log_table.proofs.table.LogTable.release_slot.Goals as goal
 
 pub fetch_sub-word-requires : goal.fetch_sub-word-requires
@@ -19,23 +18,14 @@ unpack-requires c = c.fetch_sub-word.ensures.2.1.slot_word
 
 pub returns-clause-view : goal.returns-clause-view
 returns-clause-view c =
-    let step = c.fetch_sub-word.ensures in
-    let small : c.fetch_sub-word.result < 2 ^ 64 = search rules in
-    let is : c.fetch_sub-word.result ≡ word_of c.unpack.result =
-    sym (word_back c.fetch_sub-word.result small)
-    ∙ (λ i. packed (sym c.unpack.ensures.phase i) (sym c.unpack.ensures.total i) (sym c.unpack.ensures.remaining i)) in record {
-      table_is = step.0;
-      number = step.1;
-      me = step.2.0 ∙ ap (λ word. (released_piece word (view_of c.args.seat.now), c.args.seat.now.base.me.1)) is;
-      worker = refl;
-    }
+    let state = c.unpack.ensures in
+    let is = word-of_state _ c.unpack.result c.fetch_sub-word.type_inv state.phase state.total state.remaining in
+    becomes_as _ (ap (λ word. released_piece word (view_of c.args.seat.now)) is) c.fetch_sub-word.ensures
 
 pub returns-clause-told : goal.returns-clause-told
 returns-clause-told c =
-    let small : c.fetch_sub-word.result < 2 ^ 64 = search rules in
-    let is : c.fetch_sub-word.result ≡ word_of c.unpack.result =
-    sym (word_back c.fetch_sub-word.result small)
-    ∙ (λ i. packed (sym c.unpack.ensures.phase i) (sym c.unpack.ensures.total i) (sym c.unpack.ensures.remaining i)) in
+    let state = c.unpack.ensures in
+    let is = word-of_state _ c.unpack.result c.fetch_sub-word.type_inv state.phase state.total state.remaining in
     subst (HasToRelease ((view_of c.args.seat.now).constants.ring / 4) c.args.n (view_of c.args.seat.now).call) is c.fetch_sub-word.ensures.2.1
 
 pub returns-clause-event : goal.returns-clause-event

@@ -1,7 +1,8 @@
-use Rattle.std.proofs.Common.{arith, refl}
+use Rattle.std.proofs.Common.{arith}
 use Rattle.log_table.specs.Seats.{number_of, key_of}
 use Rattle.log_rule.proofs.SlotAllowing.{store_base-allowed}
 use Rattle.log_rule.proofs.SlotStoring.{granted-step, refused-step}
+use Rattle.log_table.proofs.Stepping.{becomes}
 use Rattle.log_table.proofs.table.LogTable.store_base.Goals as goal
 
 pub store-requires : goal.store-requires
@@ -13,7 +14,7 @@ store-requires c = (
 )
 
 pub returns-clause-view : goal.returns-clause-view
-returns-clause-view c = let step = c.store.ensures in record { table_is = step.0; number = step.1; me = step.2.0; worker = refl }
+returns-clause-view c = becomes c.store.ensures
 
 pub returns-clause-granted : goal.returns-clause-granted
 returns-clause-granted c = granted-step _ _ _ _ _ _ c.args.self.now.slotted c.requires.slot

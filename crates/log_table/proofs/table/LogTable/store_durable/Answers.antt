@@ -1,13 +1,9 @@
-use Rattle.std.proofs.Common.{sym, ap, subst, ℕ}
-use Rattle.log_rule.specs.declared.view.View.{View}
-use Rattle.log_rule.specs.Moments.{HoldsAtOnce}
 use Rattle.log_rule.proofs.Flushing.{send-step}
-use Rattle.log_table.specs.Seats.{key_of}
+use Rattle.log_table.proofs.Stepping.{at_once-becomes}
 use Rattle.log_table.proofs.table.LogTable.store_durable.Goals as goal
 
 pub returns-clause-event : goal.returns-clause-event
 returns-clause-event c = send-step _ _ _ _ c.requires.next
 
 pub returns-clause-at_once : goal.returns-clause-at_once
-returns-clause-at_once c = subst (λ (who : ℕ × View). HoldsAtOnce (key_of c.args.self.now) who.0 who.1)
-    (λ i. (sym c.store_durable_as.ensures.view.number i, sym (ap (λ m. m.0) c.store_durable_as.ensures.view.me) i)) c.store_durable_as.ensures.at_once
+returns-clause-at_once c = at_once-becomes _ _ _ _ c.store_durable_as.ensures.view c.store_durable_as.ensures.at_once

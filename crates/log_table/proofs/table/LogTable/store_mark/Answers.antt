@@ -1,8 +1,9 @@
-use Rattle.std.proofs.Common.{arith, ℕ, ◌%◌, ◌<◌, mod-lt, refl, sym, subst}
+use Rattle.std.proofs.Common.{arith, ℕ, ◌%◌, ◌<◌, mod-lt, sym, subst}
 use Rattle.log_rule.specs.May.{MayMark}
 use Rattle.log_table.specs.Seats.{view_of, number_of, key_of}
 use Rattle.log_rule.proofs.Allowing.{store_mark-allowed}
 use Rattle.log_rule.proofs.GroupMarking.{mark-step}
+use Rattle.log_table.proofs.Stepping.{becomes}
 use Rattle.log_table.proofs.table.LogTable.store_mark.Goals as goal
 
 pub store-requires : goal.store-requires
@@ -20,4 +21,4 @@ pub returns-clause-event : goal.returns-clause-event
 returns-clause-event c = mark-step _ _ _ _ _ _ c.args.self.now.keyed c.requires.next
 
 pub returns-clause-view : goal.returns-clause-view
-returns-clause-view c = let step = c.store.ensures in record { table_is = step.0; number = step.1; me = step.2.0; worker = refl }
+returns-clause-view c = becomes c.store.ensures

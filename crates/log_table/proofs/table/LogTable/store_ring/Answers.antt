@@ -1,4 +1,4 @@
-use Rattle.std.proofs.Common.{◌≡◌, arith, ℕ, ◌+◌, ◌%◌, ◌<◌, mod-lt, refl, sym, subst}
+use Rattle.std.proofs.Common.{◌≡◌, arith, ℕ, ◌+◌, ◌%◌, ◌<◌, mod-lt, sym, subst}
 use Rattle.atomic_table.specs.Table.{Allows}
 use Rattle.log_rule.specs.declared.layout.TheConstants.{RING}
 use Rattle.log_table.specs.Seats.{number_of, key_of}
@@ -6,6 +6,7 @@ use Rattle.log_rule.specs.Sound.{Ruled}
 use Rattle.log_rule.specs.Views.{filled}
 use Rattle.log_rule.proofs.Allowing.{store_ring-allowed}
 use Rattle.log_rule.proofs.PieceFilling.{fill-step}
+use Rattle.log_table.proofs.Stepping.{becomes}
 use Rattle.log_table.proofs.table.LogTable.store_ring.Goals as goal
 
 pub store-requires : goal.store-requires
@@ -27,4 +28,4 @@ pub returns-clause-event : goal.returns-clause-event
 returns-clause-event c = fill-step _ _ _ _ _ _ _ c.args.self.now.keyed c.args.self.now.slotted c.requires.next
 
 pub returns-clause-view : goal.returns-clause-view
-returns-clause-view c = let step = c.store.ensures in record { table_is = step.0; number = step.1; me = step.2.0; worker = refl }
+returns-clause-view c = becomes c.store.ensures

@@ -1,6 +1,7 @@
-use Rattle.std.proofs.Common.{arith, refl}
+use Rattle.std.proofs.Common.{arith}
 use Rattle.log_rule.proofs.Allowing.{store_stop-allowed}
 use Rattle.log_rule.proofs.Stopping.{stop-step}
+use Rattle.log_table.proofs.Stepping.{becomes}
 use Rattle.log_table.proofs.table.LogTable.store_stop.Goals as goal
 
 pub store-requires : goal.store-requires
@@ -10,4 +11,4 @@ pub returns-clause-event : goal.returns-clause-event
 returns-clause-event c = stop-step _ _ _ _ c.requires.may
 
 pub returns-clause-view : goal.returns-clause-view
-returns-clause-view c = let step = c.store.ensures in record { table_is = step.0; number = step.1; me = step.2.0; worker = refl }
+returns-clause-view c = becomes c.store.ensures

@@ -1,0 +1,53 @@
+-- What a step makes of the seat, and which event it is.
+use Rattle.std.specs.Prelude.{◌≡◌, ◌≢◌, ℕ, Result, OnOk, IfErr}
+use Rattle.slot_word.specs.declared.account_word.AccountWord.{AccountWord}
+use Rattle.slot_word.specs.declared.slot_word.SlotWord.{SlotWord}
+use Rattle.slot_word.specs.AccountWord.{word_of}
+use Rattle.slot_word.specs.SlotWord.{word_of as state_word}
+use Rattle.log_rule.specs.AccountViews.{saw_account, took_account, gave_account}
+use Rattle.log_rule.specs.CrewViews.{hires, hired}
+use Rattle.log_rule.specs.Events.{IsStep, none}
+use Rattle.log_rule.specs.Layout.{Account, Slot}
+use Rattle.log_rule.specs.May.{IsOwnWord}
+use Rattle.log_rule.specs.SlotViews.{saw_slot, TellsWaiting}
+use Rattle.log_table.specs.declared.table.LogTable.{LogTable}
+use Rattle.log_table.specs.declared.table.Seat.{Seat}
+use Rattle.log_table.specs.Seats.{IsOf, Becomes, view_of, number_of, key_of}
+
+-- the account's word is loaded; that of an account which the seat holds is as it was taken
+pub record LoadsAccount (table : LogTable) (account : ℕ) (old new : Seat) (word : AccountWord) : Type 0 where
+  pub view : Becomes old new (saw_account account (word_of word) (view_of old))
+  pub own : IsOwnWord account (word_of word) (view_of old).books
+  pub event : IsStep (key_of table) (number_of old) (Account account) (word_of word) (word_of word)
+      (view_of old) (saw_account account (word_of word) (view_of old)) none
+
+-- the account is taken by an exchange of the first word for the second, or another word is found
+pub record ExchangesAccount {T : Type 0} (table : LogTable) (account : ℕ) (from to : AccountWord) (old new : Seat)
+    (result : Result T AccountWord) : Type 0 where
+  pub ok : OnOk result (Becomes old new (took_account account (word_of from) (view_of old)))
+  pub ok_event : OnOk result (IsStep (key_of table) (number_of old) (Account account) (word_of from) (word_of to)
+      (view_of old) (took_account account (word_of from) (view_of old)) none)
+  pub err : IfErr result (λ found. (found ≢ from) × Becomes old new (saw_account account (word_of found) (view_of old)))
+  pub own : IfErr result (λ found. IsOwnWord account (word_of found) (view_of old).books)
+  pub err_event : IfErr result (λ found. IsStep (key_of table) (number_of old) (Account account) (word_of found) (word_of found)
+      (view_of old) (saw_account account (word_of found) (view_of old)) none)
+
+-- the account is given back by this word, whatever the word before is
+pub record StoresAccount (table : LogTable) (account : ℕ) (word : AccountWord) (old new : Seat) : Type 0 where
+  pub view : Becomes old new (gave_account account (view_of old))
+  pub event : (found : ℕ) → IsStep (key_of table) (number_of old) (Account account) found (word_of word)
+      (view_of old) (gave_account account (view_of old)) none
+
+-- the slot's state is loaded
+pub record LoadsSlot (table : LogTable) (slot : ℕ) (old new : Seat) (state : SlotWord) : Type 0 where
+  pub view : Becomes old new (saw_slot slot (state_word state) (view_of old))
+  pub tells : TellsWaiting slot (state_word state) (view_of old)
+  pub event : IsStep (key_of table) (number_of old) (Slot slot) (state_word state) (state_word state)
+      (view_of old) (saw_slot slot (state_word state) (view_of old)) none
+
+-- a seat for the worker of this number is made
+pub record Splits (table : LogTable) (number : ℕ) (before after made : Seat) : Type 0 where
+  pub old : Becomes before after (hires number (view_of before))
+  pub new : IsOf table made
+  pub view : view_of made ≡ hired number (view_of before)
+  pub worker : made.worker ≡ number
