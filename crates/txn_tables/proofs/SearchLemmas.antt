@@ -1,5 +1,5 @@
 -- What a search finds, and what is kept after a put.
-use Rattle.std.proofs.Common.{◌≡◌, ◌≢◌, ◌<◌, ◌≤◌, ◌==◌, ◌/◌, ◌%◌, ◌+◌, ◌-◌, ℕ, suc, cond, Some, None, List, [], ◌∷◌, ◌++◌, length, set, get_or, refl, ap, ◌∙◌, sym, subst, arith, eq-eqb, ne_eqb, length-append}
+use Rattle.std.proofs.Common.{◌≡◌, ◌≢◌, ◌<◌, ◌≤◌, ◌==◌, ◌/◌, ◌%◌, ◌+◌, ◌-◌, ℕ, suc, Bool, cond, Option, Some, None, List, [], ◌∷◌, ◌++◌, length, set, get_or, refl, ap, ◌∙◌, sym, subst, arith, eq-eqb, ne_eqb, length-append}
 use Rattle.std.proofs.lemmas.List.{get_or_default, get_or_append_left}
 use mathlib.Core.Logic.{dite}
 use native.Mathlib.Decide.{ℕ_discrete}
@@ -86,31 +86,44 @@ module _ (nodes : List Node) (root : ℕ → ℕ) (txn places : ℕ) (end : End)
   pub put-linked : (number : ℕ) → node_value (set (nodes ++ last ∷ []) end.at new) (root number) (number / ROOTS) number ≡ cond (txn == number) (Some last.value) (node_value nodes (root number) (number / ROOTS) number)
   put-linked number = dite (ℕ_discrete txn number)
       (λ same. subst (λ n. node_value (set (nodes ++ last ∷ []) end.at new) (root n) (n / ROOTS) n ≡ cond (txn == n) (Some last.value) (node_value nodes (root n) (n / ROOTS) n)) same
-      (value-linked-own nodes end.at (root txn) (txn / ROOTS) txn end.path new last ends.comes (λ same. other (ap (λ (n : Node). n.txn) (sym here) ∙ sym links.txn ∙ same))
-      (links.here end.path refl ∙ led) none own
+      (value-linked-own new last none nodes end.at (root txn) (txn / ROOTS) txn end.path ends.comes
+      (λ same. other (ap (λ (n : Node). n.txn) (sym here) ∙ sym links.txn ∙ same)) (links.here end.path refl ∙ led) own
       ∙ sym (ap (λ b. cond b (Some last.value) (node_value nodes (root txn) (txn / ROOTS) txn)) (eq-eqb txn txn refl))))
-      (λ apart. value-linked-other nodes end.at (root number) (number / ROOTS) number new last (each-leads nodes inside) (begin number) ends.inside
-      (links.txn ∙ ap (λ (n : Node). n.txn) here) (links.value ∙ ap (λ (n : Node). n.value) here) to-last none (λ same. apart (sym own ∙ same))
+      (λ apart. value-linked-other new last none number (λ same. apart (sym own ∙ same)) nodes end.at (root number) (number / ROOTS)
+      (each-leads nodes inside) (begin number) ends.inside
+      (links.txn ∙ ap (λ (n : Node). n.txn) here) (links.value ∙ ap (λ (n : Node). n.value) here) to-last
       ∙ sym (ap (λ b. cond b (Some last.value) (node_value nodes (root number) (number / ROOTS) number)) (ne_eqb txn number apart)))
 
 -- a last node, at which searches begin that began nowhere
-pub put-root : (nodes : List Node) (old new : Row) (txn : ℕ) (last : Node) → LeadInside nodes → BeginInside old nodes
-    → root_of old txn ≡ 0 → PutsNumber old new (txn % ROOTS) (length nodes + 1) → ((path : ℕ) → ahead last path ≡ 0) → last.txn ≡ txn
-    → (number : ℕ) → node_value (nodes ++ last ∷ []) (root_of new number) (number / ROOTS) number
-    ≡ cond (txn == number) (Some last.value) (node_value nodes (root_of old number) (number / ROOTS) number)
-put-root nodes old new txn last inside begin nowhere puts none own number =
-    let old_value = node_value nodes (root_of old number) (number / ROOTS) number in
-    dite (ℕ_discrete (txn % ROOTS) (number % ROOTS))
-    (λ same.
-    let to : root_of new number ≡ suc (length nodes) =
-    puts (number % ROOTS) ∙ ap (λ b. cond b (length nodes + 1) (root_of old number)) (eq-eqb (txn % ROOTS) (number % ROOTS) same) ∙ omega arith in
-    let from : root_of old number ≡ 0 = ap (number_at old) (sym same) ∙ nowhere in
-    ap (λ places. node_value (nodes ++ last ∷ []) places (number / ROOTS) number) to ∙ value-last nodes last (number / ROOTS) number none
-    ∙ ap (λ n. cond (n == number) (Some last.value) None) own
-    ∙ ap (λ rest. cond (txn == number) (Some last.value) rest) (sym (ap (λ places. node_value nodes places (number / ROOTS) number) from ∙ value-nowhere nodes (number / ROOTS) number)))
-    (λ apart.
-    let to : root_of new number ≡ root_of old number =
-    puts (number % ROOTS) ∙ ap (λ b. cond b (length nodes + 1) (root_of old number)) (ne_eqb (txn % ROOTS) (number % ROOTS) apart) in
-    ap (λ places. node_value (nodes ++ last ∷ []) places (number / ROOTS) number) to
-    ∙ value-more nodes last (root_of old number) (number / ROOTS) number (each-leads nodes inside) (begin number)
-    ∙ sym (ap (λ b. cond b (Some last.value) old_value) (ne_eqb txn number (λ same. apart (ap (λ n. n % ROOTS) same)))))
+module _ (nodes : List Node) (old new : Row) (txn : ℕ) (last : Node) (inside : LeadInside nodes) (begin : BeginInside old nodes)
+    (nowhere : root_of old txn ≡ 0) (puts : PutsNumber old new (txn % ROOTS) (length nodes + 1))
+    (none : (path : ℕ) → ahead last path ≡ 0) (own : last.txn ≡ txn) (number : ℕ) where
+  abbrev old_value : Option ℕ
+  old_value = node_value nodes (root_of old number) (number / ROOTS) number
+
+  abbrev new_value : Option ℕ
+  new_value = node_value (nodes ++ last ∷ []) (root_of new number) (number / ROOTS) number
+
+  root-put : (same : Bool) → (txn % ROOTS == number % ROOTS) ≡ same
+      → root_of new number ≡ cond same (length nodes + 1) (root_of old number)
+  root-put same is = puts (number % ROOTS) ∙ ap (λ b. cond b (length nodes + 1) (root_of old number)) is
+
+  -- a search that began nowhere
+  put-root-same : txn % ROOTS ≡ number % ROOTS → new_value ≡ cond (txn == number) (Some last.value) old_value
+  put-root-same same =
+      let from : root_of old number ≡ 0 = ap (number_at old) (sym same) ∙ nowhere in
+      ap (λ places. node_value (nodes ++ last ∷ []) places (number / ROOTS) number) (root-put _ (eq-eqb _ _ same) ∙ omega arith)
+      ∙ value-last nodes last (number / ROOTS) number none
+      ∙ ap (λ n. cond (n == number) (Some last.value) None) own
+      ∙ ap (λ rest. cond (txn == number) (Some last.value) rest)
+      (sym (ap (λ places. node_value nodes places (number / ROOTS) number) from ∙ value-nowhere nodes (number / ROOTS) number))
+
+  -- another
+  put-root-apart : txn % ROOTS ≢ number % ROOTS → new_value ≡ cond (txn == number) (Some last.value) old_value
+  put-root-apart apart =
+      ap (λ places. node_value (nodes ++ last ∷ []) places (number / ROOTS) number) (root-put _ (ne_eqb _ _ apart))
+      ∙ value-more nodes last (root_of old number) (number / ROOTS) number (each-leads nodes inside) (begin number)
+      ∙ sym (ap (λ b. cond b (Some last.value) old_value) (ne_eqb txn number (λ same. apart (ap (λ n. n % ROOTS) same))))
+
+  pub put-root : new_value ≡ cond (txn == number) (Some last.value) old_value
+  put-root = dite (ℕ_discrete (txn % ROOTS) (number % ROOTS)) put-root-same put-root-apart

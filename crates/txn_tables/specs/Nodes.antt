@@ -26,7 +26,8 @@ LeadInside nodes = (at path : ℕ) → at < length nodes → at + ahead (slice_i
 abbrev pub node_value : List Node → ℕ → ℕ → ℕ → Option ℕ
 node_value [] places path txn = None
 node_value (node ∷ nodes) zero path txn = None
-node_value (node ∷ nodes) (suc zero) path txn = if node.txn == txn then Some node.value else node_value nodes (ahead node path) (path / WAYS) txn
+node_value (node ∷ nodes) (suc zero) path txn =
+    if node.txn == txn then Some node.value else node_value nodes (ahead node path) (path / WAYS) txn
 node_value (node ∷ nodes) (suc (suc places)) path txn = node_value nodes (suc places) path txn
 
 -- where the search for the transaction goes on so many places with this path left, it comes to the node at this place with that path left

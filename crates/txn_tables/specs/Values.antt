@@ -1,5 +1,5 @@
 -- What a table says of transactions.
-use Rattle.std.specs.Prelude.{◌≡◌, ◌==◌, ◌<◌, ◌≤◌, ◌+◌, ◌*◌, ◌-◌, ℕ, nat_lt, if◌then◌else◌, unwrap_or}
+use Rattle.std.specs.Prelude.{◌≡◌, ◌==◌, ◌<◌, ◌≤◌, ◌+◌, ◌*◌, ◌-◌, ℕ, nat_lt, if◌then◌else◌, unwrap_or, Result, IfOk, OnOk}
 use Rattle.txn_tables.specs.declared.txn_table.TxnTable.{TxnTable}
 use Rattle.txn_tables.specs.declared.txn_table.TheConstants.{FIRST_PLACES}
 use Rattle.txn_tables.specs.Rows.{number_at}
@@ -16,6 +16,11 @@ value_at table txn = unwrap_or (scattered_value table.scattered txn) (placed_val
 -- the table after a number was put for one transaction
 abbrev pub PutsValue : TxnTable → TxnTable → ℕ → ℕ → Type 0
 PutsValue old new txn value = (other : ℕ) → value_at new other ≡ (if txn == other then value else value_at old other)
+
+-- the number of a transaction is put, and the one before it answered
+pub record Puts {E : Type 0} (old new : TxnTable) (txn value : ℕ) (result : Result ℕ E) : Type 0 where
+  pub put : OnOk result (PutsValue old new txn value)
+  pub before : IfOk result (λ before. before ≡ value_at old txn)
 
 -- the row may have a place for the transaction
 abbrev pub IsPlaced : TxnTable → ℕ → Type 0

@@ -1,3 +1,5 @@
+//! The node of one transaction, and the ways that lead on from it.
+
 ghost use Rattle.std.specs.Prelude.{◌≡◌, ℕ};
 ghost use Rattle.txn_tables.specs.Nodes.{ahead, Links};
 

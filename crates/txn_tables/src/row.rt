@@ -1,3 +1,5 @@
+//! A row of numbers, each at its place.
+
 ghost use Rattle.std.specs.Prelude.{◌≡◌, ◌<◌, ◌≤◌, ◌↔◌, ℕ, length, IsTrue, OnOk, OnErr};
 
 use lsn_space::NoMemory;

@@ -1,3 +1,5 @@
+//! The nodes of transactions whose numbers may lie anywhere, and the search for one of them.
+
 ghost use Rattle.std.specs.Prelude.{◌≡◌, ◌≢◌, ◌<◌, ◌≤◌, ◌+◌, ◌^◌, ◌-◌, ℕ, None, length, slice_index_or, IfOk, OnOk, MatchOption};
 ghost use Rattle.txn_tables.specs.Nodes.{no_node, LeadInside};
 ghost use Rattle.txn_tables.specs.Roots.{root_of, BeginInside};
@@ -57,7 +59,8 @@ impl Scattered {
 
     /// Goes to the transaction's node, or as far as a way leads; nowhere where there is no root.
     fn search(&self, txn: u32) -> Option<End>
-        ensures { MatchOption result (root_of self.now.roots txn ≡ 0) (λ end. IsEnd self.now.nodes.items (root_of self.now.roots txn) txn end) }
+        ensures { MatchOption result (root_of self.now.roots txn ≡ 0)
+            (λ end. IsEnd self.now.nodes.items (root_of self.now.roots txn) txn end) }
     {
         let root = self.roots.at(txn % ROOTS) as usize;
         if root == 0 {

@@ -1,4 +1,6 @@
-ghost use Rattle.std.specs.Prelude.{◌≡◌, ◌<◌, ◌≤◌, ◌+◌, ◌*◌, ◌↔◌, ℕ, None, length, IsTrue, IfOk, OnOk};
+//! The table itself: places in a row, and scattered nodes for the transactions that have none.
+
+ghost use Rattle.std.specs.Prelude.{◌≡◌, ◌<◌, ◌≤◌, ◌+◌, ◌*◌, ◌↔◌, ℕ, None, length, IsTrue};
 ghost use Rattle.txn_tables.specs.declared.txn_table.TheConstants.{FIRST_PLACES};
 
 use crate::row::Row;
@@ -25,7 +27,7 @@ pub struct TxnTable {
 
 impl TxnTable {
     ghost use Rattle.txn_tables.specs.Searches.{scattered_value};
-    ghost use Rattle.txn_tables.specs.Values.{placed_value, value_at, PutsValue, IsPlaced};
+    ghost use Rattle.txn_tables.specs.Values.{placed_value, value_at, Puts, IsPlaced};
 
     pub fn new(alloc: Global) -> TxnTable
         ensures { (txn : ℕ) → value_at result txn ≡ 0 }
@@ -60,8 +62,7 @@ impl TxnTable {
 
     /// Puts a number, and answers the one before it.
     pub fn put(&mut self, txn: u32, value: u32) -> Result<u32, NoMemory>
-        ensures put { OnOk result (PutsValue self.old self.new txn value) }
-        ensures before { IfOk result (λ before. before ≡ value_at self.old txn) }
+        ensures { Puts self.old self.new txn value result }
     {
         if self.row.is_empty() {
             self.begin_near(txn);
@@ -92,8 +93,7 @@ impl TxnTable {
     fn put_in_place(&mut self, txn: u32, value: u32) -> Result<u32, NoMemory>
         requires placed { IsPlaced self.old txn }
         requires alone { scattered_value self.old.scattered txn ≡ None }
-        ensures put { OnOk result (PutsValue self.old self.new txn value) }
-        ensures before { IfOk result (λ before. before ≡ value_at self.old txn) }
+        ensures { Puts self.old self.new txn value result }
     {
         let before = self.in_row(txn);
         let Ok(()) = self.row.put(txn - self.first, value) else {
@@ -104,8 +104,7 @@ impl TxnTable {
     }
 
     fn put_scattered(&mut self, txn: u32, value: u32) -> Result<u32, NoMemory>
-        ensures put { OnOk result (PutsValue self.old self.new txn value) }
-        ensures before { IfOk result (λ before. before ≡ value_at self.old txn) }
+        ensures { Puts self.old self.new txn value result }
     {
         match self.scattered.put(txn, value) {
             Ok(Some(before)) => Ok(before),
