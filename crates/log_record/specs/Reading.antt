@@ -1,5 +1,5 @@
 -- What a header and the units after it spell.
-use Rattle.std.specs.Prelude.{◌≡◌, ℕ, List, ◌∷◌}
+use Rattle.std.specs.Prelude.{◌≡◌, ℕ, List, ◌∷◌, Result, IfOk, OnErr}
 use Rattle.log_record.specs.declared.header.Header.{Header}
 use Rattle.log_record.specs.declared.rec.Rec.{Rec}
 use Rattle.log_record.specs.Spelling.{header, spelling, IsSpellable}
@@ -11,3 +11,8 @@ header_unit h = header h.kind h.units h.field h.txn
 -- the header and the units after it are the spelling of this record, and no more
 abbrev pub Spells : Header → List ℕ → Rec → Type 0
 Spells h body rec = IsSpellable rec × (spelling rec ≡ header_unit h ∷ body)
+
+-- the record that they spell is read, or they are refused, as they spell none
+pub record Reads {E : Type 0} (h : Header) (body : List ℕ) (result : Result Rec E) : Type 0 where
+  pub found : IfOk result (Spells h body)
+  pub bad : OnErr result ((r : Rec) → Spells h body r → ⊥)

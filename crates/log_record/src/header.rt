@@ -1,3 +1,5 @@
+//! The first unit of a record: its four parts, and the kinds of records.
+
 ghost use Rattle.std.specs.Prelude.{◌≡◌};
 ghost use Rattle.log_record.specs.Spelling.{header};
 

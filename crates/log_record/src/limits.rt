@@ -1,3 +1,5 @@
+//! The limits of the format.
+
 /// The most accounts of a log, so an account is below this.
 pub const MOST_ACCOUNTS: u32 = 4096;
 

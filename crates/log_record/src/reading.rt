@@ -4,7 +4,7 @@ ghost use Rattle.std.specs.Prelude.{◌≡◌, ◌↔◌, ◌+◌, ℕ, List, []
 ghost use Rattle.log_record.specs.declared.rec.Rec.{Rec};
 ghost use Rattle.log_record.specs.Spelling.{spelling, IsTxn, IsLeg, BeginsWith};
 ghost use Rattle.log_record.specs.declared.header.TheConstants.{COMMIT, GENESIS, NOTE, OVER, SHORT, UPDATE};
-ghost use Rattle.log_record.specs.Reading.{header_unit, Spells};
+ghost use Rattle.log_record.specs.Reading.{header_unit, Reads};
 
 use crate::header::{COMMIT, GENESIS, Header, NOTE, OVER, SHORT, UPDATE};
 use crate::limits::{MOST_ACCOUNTS, MOST_BALANCE, MOST_LEGS};
@@ -41,8 +41,7 @@ fn split(units: &[u64]) -> Option<(Header, &[u64])>
 /// The record of these units.
 fn read_whole(header: Header, body: &[u64]) -> Result<Rec, BadRec>
     requires { header.units ≡ 1 + length body.now }
-    ensures found { IfOk result (Spells header body.now) }
-    ensures bad { OnErr result ((r : Rec) → Spells header body.now r → ⊥) }
+    ensures { Reads header body.now result }
 {
     match header.kind {
         GENESIS => genesis(header, body),
@@ -58,8 +57,7 @@ fn read_whole(header: Header, body: &[u64]) -> Result<Rec, BadRec>
 fn genesis(header: Header, body: &[u64]) -> Result<Rec, BadRec>
     requires kind { header.kind ≡ GENESIS }
     requires count { header.units ≡ 1 + length body.now }
-    ensures found { IfOk result (Spells header body.now) }
-    ensures bad { OnErr result ((r : Rec) → Spells header body.now r → ⊥) }
+    ensures { Reads header body.now result }
 {
     let [balance] = body else {
         return Err(BadRec);
@@ -77,8 +75,7 @@ fn genesis(header: Header, body: &[u64]) -> Result<Rec, BadRec>
 fn update(header: Header, body: &[u64]) -> Result<Rec, BadRec>
     requires kind { header.kind ≡ UPDATE }
     requires count { header.units ≡ 1 + length body.now }
-    ensures found { IfOk result (Spells header body.now) }
-    ensures bad { OnErr result ((r : Rec) → Spells header body.now r → ⊥) }
+    ensures { Reads header body.now result }
 {
     let [unit] = body else {
         return Err(BadRec);
@@ -99,8 +96,7 @@ fn update(header: Header, body: &[u64]) -> Result<Rec, BadRec>
 fn commit(header: Header, body: &[u64]) -> Result<Rec, BadRec>
     requires kind { header.kind ≡ COMMIT }
     requires count { header.units ≡ 1 + length body.now }
-    ensures found { IfOk result (Spells header body.now) }
-    ensures bad { OnErr result ((r : Rec) → Spells header body.now r → ⊥) }
+    ensures { Reads header body.now result }
 {
     if !is_end(header, body) {
         return Err(BadRec);
@@ -114,8 +110,7 @@ fn commit(header: Header, body: &[u64]) -> Result<Rec, BadRec>
 fn short(header: Header, body: &[u64]) -> Result<Rec, BadRec>
     requires kind { header.kind ≡ SHORT }
     requires count { header.units ≡ 1 + length body.now }
-    ensures found { IfOk result (Spells header body.now) }
-    ensures bad { OnErr result ((r : Rec) → Spells header body.now r → ⊥) }
+    ensures { Reads header body.now result }
 {
     if !is_end(header, body) {
         return Err(BadRec);
@@ -129,8 +124,7 @@ fn short(header: Header, body: &[u64]) -> Result<Rec, BadRec>
 fn over(header: Header, body: &[u64]) -> Result<Rec, BadRec>
     requires kind { header.kind ≡ OVER }
     requires count { header.units ≡ 1 + length body.now }
-    ensures found { IfOk result (Spells header body.now) }
-    ensures bad { OnErr result ((r : Rec) → Spells header body.now r → ⊥) }
+    ensures { Reads header body.now result }
 {
     if !is_end(header, body) {
         return Err(BadRec);
@@ -151,8 +145,7 @@ fn is_end(header: Header, body: &[u64]) -> bool
 fn note(header: Header, body: &[u64]) -> Result<Rec, BadRec>
     requires kind { header.kind ≡ NOTE }
     requires count { header.units ≡ 1 + length body.now }
-    ensures found { IfOk result (Spells header body.now) }
-    ensures bad { OnErr result ((r : Rec) → Spells header body.now r → ⊥) }
+    ensures { Reads header body.now result }
 {
     let len = header.field as usize;
     if header.txn == 0 || len == 0 || len > LONGEST_NOTE || body.len() != note_units(len) {

@@ -1,3 +1,5 @@
+//! The records themselves.
+
 use crate::text::Text;
 use lsn_space::Lsn;
 

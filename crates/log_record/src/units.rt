@@ -1,3 +1,5 @@
+//! The units of one record.
+
 ghost use Rattle.std.specs.Prelude.{◌≡◌, ◌<◌, ◌≤◌, ◌++◌, ◌∷◌, [], length};
 ghost use Rattle.log_record.specs.declared.units.TheConstants.{LONGEST_RECORD};
 
