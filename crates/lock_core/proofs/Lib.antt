@@ -14,6 +14,7 @@ pub mod ListLemmas
 pub mod Meeting
 pub mod NextRecords
 pub mod OneMore
+pub mod OpenLemmas
 pub mod OwnLemmas
 pub mod Pairing
 pub mod Plainly

@@ -6,7 +6,8 @@ use Rattle.log_record.specs.declared.rec.Rec.TheVariants.{Update, Commit, Short,
 use Rattle.log_record.specs.Spelling.{IsNoteText}
 use Rattle.log_record.specs.declared.limits.TheConstants.{MOST_BALANCE, MOST_LEGS}
 
--- a transfer: its legs in order, each the account that pays, the account that receives and the amount, and the bytes of its note, none where it has no note
+-- a transfer: its legs in order, each the account that pays, the account that receives and the amount, and the bytes of its note,
+-- none where it has no note
 pub record PlainTransfer : Type 0 where
   pub legs : List (ℕ × ℕ × ℕ)
   pub note : List ℕ

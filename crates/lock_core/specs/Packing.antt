@@ -3,4 +3,8 @@ use Rattle.lock_core.specs.declared.update_links.PackedLink.{PackedLink}
 use Rattle.lock_core.specs.declared.update_links.UpdateLink.{UpdateLink}
 
 abbrev pub unpacked : PackedLink → UpdateLink
-unpacked link = record { change = record { account = link.account; delta = link.delta; prev = link.prev }; count = link.count; older = link.older }
+unpacked link = record {
+  change = record { account = link.account; delta = link.delta; prev = link.prev };
+  count = link.count;
+  older = link.older;
+}

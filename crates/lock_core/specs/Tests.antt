@@ -60,8 +60,8 @@ IsUnended h (Short txn leg) = has_end (own_records_of txn h) ≡ false
 IsUnended h (Over txn leg) = has_end (own_records_of txn h) ≡ false
 IsUnended h (Note txn text) = has_end (own_records_of txn h) ≡ false
 
--- Of a transaction there are at most two Updates for each leg that it may have; a Commit counts two Updates for each leg; a Short or Over two for
--- each leg before its own.
+-- Of a transaction there are at most two Updates for each leg that it may have; a Commit counts two Updates for each leg; a Short
+-- or Over two for each leg before its own.
 abbrev pub CountsLegs : List Placed → Rec → Type 0
 CountsLegs h (Update txn account delta prev) = length (updates_of txn h) < 2 * MOST_LEGS
 CountsLegs h (Commit txn legs) = length (updates_of txn h) ≡ 2 * legs

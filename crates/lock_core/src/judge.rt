@@ -1,3 +1,5 @@
+//! The judge: it takes a list of records, one by one.
+
 ghost use Rattle.std.specs.Prelude.{◌≡◌, ◌<◌, ◌≤◌, ◌+◌, ◌∷◌, ◌⊎◌, [], List, length, IfOk, IfErr, OnOk};
 ghost use Rattle.log_record.specs.declared.rec.Placed.{Placed};
 ghost use Rattle.log_record.specs.Spelling.{spelling, IsLeg, IsSpellable};
@@ -66,8 +68,8 @@ impl Judge {
         Ok(())
     }
 
-    /// Takes the Commit that starts at `lsn`, as `take` does. What the Updates of its transaction say, newest first, is put into the list that
-    /// is lent: what it held is lost.
+    /// Takes the Commit that starts at `lsn`, as `take` does. What the Updates of its transaction say, newest first, is put into the
+    /// list that is lent: what it held is lost.
     pub fn take_commit(
         &mut self,
         lsn: Lsn,

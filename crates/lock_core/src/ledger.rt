@@ -1,3 +1,5 @@
+//! The ledger that a judge keeps, and how it takes a record of each kind.
+
 ghost use Rattle.std.specs.Prelude.{◌≡◌, ◌<◌, ◌≤◌, ◌+◌, ◌∷◌, ◌⊎◌, ◌↔◌, [], true, false, ℕ, List, length, IfOk, IfErr, IfSome, IfNone, IsTrue, OnOk};
 ghost use Rattle.log_record.specs.declared.rec.Rec.{Rec};
 ghost use Rattle.log_record.specs.declared.rec.Placed.{Placed};
@@ -178,8 +180,8 @@ impl Ledger {
         }
     }
 
-    /// Takes a Commit that ends here. What the Updates of its transaction say, newest first, is put into the list that is lent: what it held
-    /// is lost.
+    /// Takes a Commit that ends here. What the Updates of its transaction say, newest first, is put into the list that is lent: what
+    /// it held is lost.
     pub fn take_commit(
         &mut self,
         txn: u32,

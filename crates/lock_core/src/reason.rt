@@ -1,3 +1,5 @@
+//! Why a record is not taken.
+
 /// The tests of a record, in the order in which they are made.
 #[derive(Clone, Copy, Debug, PartialEq, Eq)]
 pub enum Why {

@@ -1,3 +1,5 @@
+//! How a Commit settles the accounts that its transaction changes.
+
 ghost use Rattle.std.specs.Prelude.{◌≡◌, ◌==◌, ◌<◌, ◌≤◌, ◌*◌, ◌^◌, if◌then◌else◌, length, MatchOption};
 ghost use Rattle.std.specs.Bool.{OnTrue, OnFalse};
 ghost use Rattle.std.specs.List.{AllByRecursion};

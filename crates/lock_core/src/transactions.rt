@@ -1,3 +1,5 @@
+//! What a judge keeps of transactions.
+
 ghost use Rattle.std.specs.Prelude.{◌≡◌, ◌<◌, ◌≤◌, ◌+◌, ◌∷◌, [], true, ℕ, List, length, IfSome, IfNone, IfOk, IfErr, OnOk};
 ghost use Rattle.log_record.specs.declared.rec.Placed.{Placed};
 ghost use Rattle.log_record.specs.Spelling.{IsAccount};
@@ -93,7 +95,8 @@ impl Transactions {
         ensures inside { IfOk result (λ place. place < length self.new.updates) }
         ensures taken { OnOk result ((entry : Placed) (h : List Placed) → KeepsTransactions self.old h → txn_of entry.rec ≡ txn
             → ends entry.rec ≡ true → KeepsTransactions self.new (entry ∷ h)) }
-        ensures fault { IfErr result (IsEndFault ((h : List Placed) → KeepsTransactions self.old h → has_end (own_records_of txn h) ≡ true)) }
+        ensures fault { IfErr result (IsEndFault ((h : List Placed) → KeepsTransactions self.old h
+            → has_end (own_records_of txn h) ≡ true)) }
     {
         let Ok(place) = self.newest.put(txn, ENDED) else {
             return Err(JudgeFault::NoMemory);

@@ -1,3 +1,5 @@
+//! What an Update says, and how many Updates a transaction may have.
+
 ghost use Rattle.std.specs.Prelude.{◌≡◌};
 ghost use Rattle.lock_core.specs.Records.{txn_of};
 

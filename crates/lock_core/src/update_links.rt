@@ -1,3 +1,5 @@
+//! The Updates that a judge keeps, each linked to the one before it of its transaction.
+
 ghost use Rattle.std.specs.Prelude.{◌≡◌, ◌<◌, ◌≤◌, ◌++◌, ◌∷◌, [], List, length, IfOk, MatchOption};
 ghost use Rattle.log_record.specs.Spelling.{IsAccount};
 ghost use Rattle.lock_core.specs.declared.update.Change.{Change};
@@ -146,7 +148,8 @@ impl UpdateLinks {
         }
     }
 
-    /// What the Updates of a transaction say, the newest of which stands at this place, newest first. The list is lent: what it held is lost.
+    /// What the Updates of a transaction say, the newest of which stands at this place, newest first.
+    /// The list is lent: what it held is lost.
     pub fn chain(&self, place: u32, changes: &mut ArrayVec<Change, MOST_UPDATES>)
         requires { (found : List Change) × HasChain self.now place found × (length found ≤ MOST_UPDATES) }
         ensures { HasChain self.now place changes.new.items }

@@ -1,3 +1,5 @@
+//! The plain program, over the whole list.
+
 ghost use Rattle.std.specs.Prelude.{◌∷◌, reverse, IfOk, IfErr, OnOk};
 ghost use Rattle.std.specs.List.{AllByRecursion};
 ghost use Rattle.log_record.specs.Spelling.{IsSpellable};
@@ -56,7 +58,8 @@ fn admit(accounts: &mut Balances, front: &[Placed], entry: &Placed) -> Result<()
 pub fn plain_accounts(alloc: Global, entries: &[Placed]) -> Result<Balances, PlainFault>
     requires { AllByRecursion (λ entry. IsSpellable entry.rec) entries.now }
     ensures lawful { OnOk result (IsLawful no_opening (reverse entries.now)) }
-    ensures accounts { IfOk result (λ accounts. ShowsAccounts accounts.rows (base_with no_opening (reverse entries.now)) (reverse entries.now)) }
+    ensures accounts { IfOk result (λ accounts. ShowsAccounts accounts.rows
+        (base_with no_opening (reverse entries.now)) (reverse entries.now)) }
     ensures fault { IfErr result (IsPlainFaultOf (reverse entries.now)) }
 {
     let Ok(mut accounts) = Balances::make(alloc, MOST_ACCOUNTS) else {

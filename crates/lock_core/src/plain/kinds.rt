@@ -1,3 +1,5 @@
+//! The tests of the plain program, for a record of each kind.
+
 ghost use Rattle.std.specs.Prelude.{◌≡◌, ◌<◌, ◌↔◌, ◌∷◌, ℕ, length, reverse, IsTrue, IfOk, IfErr, OnOk};
 ghost use Rattle.std.specs.List.{AllByRecursion};
 ghost use Rattle.log_record.specs.Spelling.{IsAccount, IsBalance, IsLeg};
@@ -50,7 +52,8 @@ pub fn admit_update(
 ) -> Result<(), Why>
     requires judged { IsJudged no_opening accounts.now (reverse front.now) }
     requires number { 0 < txn }
-    ensures { (end : ℕ) → Judges no_opening (reverse front.now) (record { end = end; rec = Rec.Update txn change.account change.delta change.prev }) result }
+    ensures { (end : ℕ) → Judges no_opening (reverse front.now)
+        (record { end = end; rec = Rec.Update txn change.account change.delta change.prev }) result }
 {
     if front.is_empty() {
         return Err(Why::Genesis);
@@ -85,7 +88,8 @@ fn committed_changes(
     requires number { 0 < txn }
     requires legs { IsLeg legs }
     ensures ok { IfOk result (λ changes. IsCommitting no_opening (reverse front.now) txn legs changes.items) }
-    ensures why { IfErr result (λ why. (end : ℕ) → IsFirstFailing (Passes no_opening (reverse front.now) (record { end = end; rec = Rec.Commit txn legs })) why) }
+    ensures why { IfErr result (λ why. (end : ℕ) → IsFirstFailing
+        (Passes no_opening (reverse front.now) (record { end = end; rec = Rec.Commit txn legs })) why) }
 {
     if front.is_empty() {
         return Err(Why::Genesis);

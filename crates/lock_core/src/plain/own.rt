@@ -1,3 +1,5 @@
+//! The records of one transaction, as the plain program finds them.
+
 ghost use Rattle.std.specs.Prelude.{◌≡◌, ◌||◌, ◌+◌, ◌≤◌, ◌++◌, length, reverse};
 ghost use Rattle.lock_core.specs.Records.{ends, changes_of};
 ghost use Rattle.lock_core.specs.declared.update.TheConstants.{MOST_UPDATES};

@@ -4,14 +4,10 @@ use Rattle.std.proofs.lemmas.Result.{err_from_is_err_and}
 use Rattle.log_record.specs.declared.rec.Placed.{Placed}
 use Rattle.log_record.specs.declared.rec.Rec.TheVariants.{Commit}
 use Rattle.lock_core.specs.declared.ledger.Ledger.{Ledger}
-use Rattle.lock_core.specs.declared.update_links.UpdateLink.{UpdateLink}
 use Rattle.lock_core.specs.Transactions.{updates_of}
-use Rattle.lock_core.specs.Judging.{IsCommitting}
-use Rattle.lock_core.specs.Taking.{IsTakeFault}
-use Rattle.lock_core.specs.Keeping.{link_at}
-use Rattle.lock_core.proofs.ChainLemmas.{chain-count}
-use Rattle.lock_core.proofs.KindLemmas.{few_updates, updates-known}
-use Rattle.lock_core.proofs.TakingLemmas.{fresh, some-taken, fails-first, fails-commit-stale, fails-commit-balance, takes-commit, end-fault, keeps-accounts, keeps-parts}
+use Rattle.lock_core.proofs.KindLemmas.{few_updates}
+use Rattle.lock_core.proofs.OpenLemmas.{counts-own, own-known, commits, commit-ended, commit-stale, commit-leaves}
+use Rattle.lock_core.proofs.TakingLemmas.{fresh, some-taken, fails-first, takes-commit, keeps-accounts, keeps-parts}
 use Rattle.lock_core.proofs.ledger.Ledger.take_commit.Goals as goal
 
 pub returns-then-count-eq0-clause-taken : goal.returns-then-count-eq0-clause-taken
@@ -20,18 +16,19 @@ returns-then-count-eq0-clause-taken c = λ opening h kept. let counted = c.count
 
 pub returns-in_err-place-clause-taken : goal.returns-in_err-place-clause-taken
 returns-in_err-place-clause-taken c = λ opening h kept. let counted = c.count.ensures in
-    let entry : Placed = record { end = c.args.end; rec = Commit c.args.txn c.args.legs } in
     let failed = err_from_is_err_and c.from_residual.result c.from_residual.ensures.1 in
     let same : failed.0 ≡ c.in_err-place.field-0.0 = search rules in
-    rw (failed.1, same) (end-fault (IsTakeFault opening h entry) c.in_err-place.field-0.0 c.in_err-place.ensures.fault tt
-    (λ ended. record { passes = (some-taken opening c.args.self.now h kept (λ none. omega arith), (tt, tt)); fails = λ fresh. ended opening h kept (fresh.0 (λ never. never)) fresh.1 }))
+    rw (failed.1, same) (commit-ended opening c.args.self.now h kept c.args.end c.args.txn c.args.legs (λ none. omega arith)
+    _ c.in_err-place.ensures.fault)
 
 pub returns-then-update-legs-clause-taken : goal.returns-then-update-legs-clause-taken
-returns-then-update-legs-clause-taken c = λ opening h kept. let counted = c.count.ensures in let place = c.in_ok-place.ensures.unended h kept.transactions in
-    let links = c.end.new.self.txns.updates in let first = ap (λ links. link_at links 0) c.end.ensures.updates ∙ kept.transactions.first in
-    let same = ap (λ (l : UpdateLink). l.count) c.update.ensures ∙ chain-count links first c.in_ok-place.place (updates_of c.args.txn h) place.chain in
-    let some = some-taken opening c.args.self.now h kept (λ none. omega arith) in
-    record { passes = (some, (tt, (fresh opening c.args.self.now h kept c.args.txn c.in_ok-place.ensures.above place.unended, tt))); fails = λ legs. let other = c.if-update-legs.true in absurd (omega arith) }
+returns-then-update-legs-clause-taken c = λ opening h kept. let counted = c.count.ensures in
+    let place = c.in_ok-place.ensures.unended h kept.transactions in
+    let same = counts-own opening c.args.self.now h kept _ _ c.update.result c.args.txn c.end.ensures.updates place c.update.ensures in
+    let some = some-taken opening c.args.self.now h kept (λ none. omega arith) in record {
+      passes = (some, (tt, (fresh opening c.args.self.now h kept c.args.txn c.in_ok-place.ensures.above place.unended, tt)));
+      fails = λ legs. let other = c.if-update-legs.true in absurd (omega arith);
+    }
 
 pub changes-requires : goal.changes-requires
 changes-requires c =
@@ -39,60 +36,43 @@ changes-requires c =
     (c.args.txn, h, c.in_ok-place.ensures.unended h kept.transactions, few_updates opening h c.args.txn kept.judged.lawful)
 
 pub are_current-requires : goal.are_current-requires
-are_current-requires c =
-    let opening = c.requires.kept.0 in let h = c.requires.kept.1 in let kept = c.requires.kept.2 in
-    let judged = (keeps-accounts opening c.args.self.now c.end.new.self.accounts h c.end.ensures.accounts kept).judged in
-    updates-known opening c.end.new.self.accounts.rows h c.args.txn c.as_slice-changes.result.now judged.lawful judged.rows
-    (c.as_slice-changes.ensures.value ∙ c.changes.ensures c.args.txn h (c.in_ok-place.ensures.unended h kept.transactions))
+are_current-requires c = let kept = c.requires.kept.2 in
+    own-known _ c.args.self.now _ kept c.end.new.self.accounts c.args.txn _ _ c.end.ensures.accounts c.as_slice-changes.ensures.value
+    (c.changes.ensures c.args.txn _ (c.in_ok-place.ensures.unended _ kept.transactions))
 
 pub settle-requires-clause-known : goal.settle-requires-clause-known
-settle-requires-clause-known c =
-    let opening = c.requires.kept.0 in let h = c.requires.kept.1 in let kept = c.requires.kept.2 in
-    let judged = (keeps-accounts opening c.args.self.now c.end.new.self.accounts h c.end.ensures.accounts kept).judged in
-    updates-known opening c.end.new.self.accounts.rows h c.args.txn c.as_slice-changes.result.now judged.lawful judged.rows
-    (c.as_slice-changes.ensures.value ∙ c.changes.ensures c.args.txn h (c.in_ok-place.ensures.unended h kept.transactions))
+settle-requires-clause-known c = let kept = c.requires.kept.2 in
+    own-known _ c.args.self.now _ kept c.end.new.self.accounts c.args.txn _ _ c.end.ensures.accounts c.as_slice-changes.ensures.value
+    (c.changes.ensures c.args.txn _ (c.in_ok-place.ensures.unended _ kept.transactions))
 
 pub returns-then-not-are_current-clause-taken : goal.returns-then-not-are_current-clause-taken
-returns-then-not-are_current-clause-taken c = λ opening h kept. let counted = c.count.ensures in let place = c.in_ok-place.ensures.unended h kept.transactions in
-    let links = c.end.new.self.txns.updates in let first = ap (λ links. link_at links 0) c.end.ensures.updates ∙ kept.transactions.first in
-    let same = ap (λ (l : UpdateLink). l.count) c.update.ensures ∙ chain-count links first c.in_ok-place.place (updates_of c.args.txn h) place.chain in
-    let some = some-taken opening c.args.self.now h kept (λ none. omega arith) in
-    let ledger : Ledger = record c.args.self.now { accounts = c.end.new.self.accounts } in
-    let keeps = keeps-accounts opening c.args.self.now c.end.new.self.accounts h c.end.ensures.accounts kept in
-    let changes = c.as_slice-changes.result.now in let are = c.as_slice-changes.ensures.value ∙ c.changes.ensures c.args.txn h place in
-    let long = ap length are in
-    let on : IsCommitting opening h c.args.txn c.args.legs changes =
-    record { some = some; above = let least = kept.least in let low = c.in_ok-place.ensures.above in omega arith; unended = place.unended; are = are; legs_are = omega arith } in
-    fails-commit-stale opening ledger h keeps c.args.end c.args.txn c.args.legs changes on (λ all. true≢false (sym (c.if-not-are_current.ensures.1 all)))
+returns-then-not-are_current-clause-taken c = λ opening h kept. let counted = c.count.ensures in
+    let place = c.in_ok-place.ensures.unended h kept.transactions in
+    let on = commits opening c.args.self.now h kept _ _ c.update.result c.args.txn c.args.legs _ _ c.end.ensures.updates place c.update.ensures
+    (omega arith) c.as_slice-changes.ensures.value (c.changes.ensures c.args.txn h place) (λ none. omega arith) c.in_ok-place.ensures.above in
+    commit-stale opening c.args.self.now h kept c.end.new.self.accounts c.end.ensures.accounts c.args.end c.args.txn c.args.legs
+    c.as_slice-changes.result.now on (λ all. true≢false (sym (c.if-not-are_current.ensures.1 all)))
 
 pub returns-then-not-settle-clause-taken : goal.returns-then-not-settle-clause-taken
-returns-then-not-settle-clause-taken c = λ opening h kept. let counted = c.count.ensures in let place = c.in_ok-place.ensures.unended h kept.transactions in
-    let links = c.end.new.self.txns.updates in let first = ap (λ links. link_at links 0) c.end.ensures.updates ∙ kept.transactions.first in
-    let same = ap (λ (l : UpdateLink). l.count) c.update.ensures ∙ chain-count links first c.in_ok-place.place (updates_of c.args.txn h) place.chain in
-    let some = some-taken opening c.args.self.now h kept (λ none. omega arith) in
-    let ledger : Ledger = record c.args.self.now { accounts = c.end.new.self.accounts } in
-    let keeps = keeps-accounts opening c.args.self.now c.end.new.self.accounts h c.end.ensures.accounts kept in
-    let changes = c.as_slice-changes.result.now in let are = c.as_slice-changes.ensures.value ∙ c.changes.ensures c.args.txn h place in
-    let long = ap length are in
-    let on : IsCommitting opening h c.args.txn c.args.legs changes =
-    record { some = some; above = let least = kept.least in let low = c.in_ok-place.ensures.above in omega arith; unended = place.unended; are = are; legs_are = omega arith } in
-    fails-commit-balance opening ledger h keeps c.args.end c.args.txn c.args.legs changes on (c.if-not-are_current.ensures.0 refl) c.if-not-settle.ensures.leaves
+returns-then-not-settle-clause-taken c = λ opening h kept. let counted = c.count.ensures in
+    let place = c.in_ok-place.ensures.unended h kept.transactions in
+    let on = commits opening c.args.self.now h kept _ _ c.update.result c.args.txn c.args.legs _ _ c.end.ensures.updates place c.update.ensures
+    (omega arith) c.as_slice-changes.ensures.value (c.changes.ensures c.args.txn h place) (λ none. omega arith) c.in_ok-place.ensures.above in
+    commit-leaves opening c.args.self.now h kept c.end.new.self.accounts c.end.ensures.accounts c.args.end c.args.txn c.args.legs
+    c.as_slice-changes.result.now on (c.if-not-are_current.ensures.0 refl) c.if-not-settle.ensures.leaves
 
 pub returns-clause-taken : goal.returns-clause-taken
-returns-clause-taken c = λ opening h kept. let counted = c.count.ensures in let place = c.in_ok-place.ensures.unended h kept.transactions in
-    let links = c.end.new.self.txns.updates in let first = ap (λ links. link_at links 0) c.end.ensures.updates ∙ kept.transactions.first in
-    let same = ap (λ (l : UpdateLink). l.count) c.update.ensures ∙ chain-count links first c.in_ok-place.place (updates_of c.args.txn h) place.chain in
-    let some = some-taken opening c.args.self.now h kept (λ none. omega arith) in
+returns-clause-taken c = λ opening h kept. let counted = c.count.ensures in
+    let place = c.in_ok-place.ensures.unended h kept.transactions in
+    let on = commits opening c.args.self.now h kept _ _ c.update.result c.args.txn c.args.legs _ _ c.end.ensures.updates place c.update.ensures
+    (omega arith) c.as_slice-changes.ensures.value (c.changes.ensures c.args.txn h place) (λ none. omega arith) c.in_ok-place.ensures.above in
     let ledger : Ledger = record c.args.self.now { accounts = c.end.new.self.accounts } in
     let keeps = keeps-accounts opening c.args.self.now c.end.new.self.accounts h c.end.ensures.accounts kept in
-    let changes = c.as_slice-changes.result.now in let are = c.as_slice-changes.ensures.value ∙ c.changes.ensures c.args.txn h place in
-    let long = ap length are in
-    let on : IsCommitting opening h c.args.txn c.args.legs changes =
-    record { some = some; above = let least = kept.least in let low = c.in_ok-place.ensures.above in omega arith; unended = place.unended; are = are; legs_are = omega arith } in
     let entry : Placed = record { end = c.args.end; rec = Commit c.args.txn c.args.legs } in
     let new : Ledger = record c.end.new.self { accounts = c.settle.new.accounts } in
     keeps-parts opening new ledger c.settle.new.accounts (entry ∷ h) refl c.end.ensures.opening c.end.ensures.least
-    (takes-commit opening ledger h keeps c.args.end c.args.txn c.args.legs changes on c.settle.new.accounts c.end.new.self.txns (c.if-not-are_current.ensures.0 refl)
+    (takes-commit opening ledger h keeps c.args.end c.args.txn c.args.legs c.as_slice-changes.result.now on c.settle.new.accounts
+    c.end.new.self.txns (c.if-not-are_current.ensures.0 refl)
     c.if-not-settle.ensures.room c.if-not-settle.ensures.settled (c.in_ok-place.ensures.taken entry h kept.transactions refl refl))
 
 pub returns-clause-changes : goal.returns-clause-changes
