@@ -31,7 +31,8 @@ pub record LeadsOn (entries : List Entry) (net : ℤ) (balance : ℕ) : Type 0 w
 -- the net of some changes leads on from what is kept of each account of theirs to what it holds behind a history
 abbrev pub AllLeadOn : Opening → List Placed → List Change → List Change → List Account → Type 0
 AllLeadOn opening h changes some accounts =
-    AllByRecursion (λ change. LeadsOn (account_at accounts change.account).entries (net_of change.account changes) (balance_after opening h change.account)) some
+    AllByRecursion (λ change. LeadsOn (account_at accounts change.account).entries (net_of change.account changes)
+    (balance_after opening h change.account)) some
 
 -- Each account of some changes has an entry more, of a Commit of all these changes that ends here, with which the history ends; and the
 -- other accounts are as they were.

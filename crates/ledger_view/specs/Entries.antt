@@ -34,7 +34,8 @@ entry_of opening commit h account = record {
 abbrev pub entries_of : Opening → List Placed → ℕ → List Entry
 entries_of opening [] account = []
 entries_of opening (entry ∷ h) account =
-    if is_commit_on account entry h then entries_of opening h account ++ entry_of opening entry h account ∷ [] else entries_of opening h account
+    if is_commit_on account entry h then entries_of opening h account ++ entry_of opening entry h account ∷ []
+    else entries_of opening h account
 
 -- an entry of the history ends here
 abbrev pub EndsAt : List Placed → ℕ → Type 0

@@ -8,7 +8,8 @@ use Rattle.ledger_view.specs.declared.rows.TheConstants.{MARKED}
 pub record AreMarks (marks : List ℕ) (rows : List Row) : Type 0 where
   pub enough : length rows ≤ MARKED * length marks
   pub few : MARKED * length marks < length rows + MARKED
-  pub each : (k otherwise : ℕ) (none : Row) → k < length marks → slice_index_or marks k otherwise ≡ (slice_index_or rows (MARKED * k) none).end
+  pub each : (k otherwise : ℕ) (none : Row) → k < length marks
+      → slice_index_or marks k otherwise ≡ (slice_index_or rows (MARKED * k) none).end
 
 -- one of the entries ends here
 abbrev pub IsEndIn : List Entry → ℕ → Type 0

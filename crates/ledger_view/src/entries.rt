@@ -125,7 +125,8 @@ impl Entries {
         requires sums { (first : ℕ) × AddUp 0 first self.now × (last ≡ last_balance first self.now) }
         requires range { IsBalance last }
         ensures range { IsBalance result }
-        ensures balance { (first : ℕ) → AddUp 0 first self.now → last ≡ last_balance first self.now → result ≡ balance_to first self.now lsn }
+        ensures balance { (first : ℕ) → AddUp 0 first self.now → last ≡ last_balance first self.now
+            → result ≡ balance_to first self.now lsn }
     {
         let next = self.count_to(lsn);
         if next < self.count() {

@@ -1,3 +1,5 @@
+//! Laws of the definitions. The functions do nothing.
+
 ghost use Rattle.std.specs.Prelude.{◌≡◌, ◌≤◌, ◌-◌, [], ℕ, List, Some, None, length, reverse, IfOk, MatchOption};
 ghost use Rattle.lsn_space.specs.declared.lsn.TheConstants.{LAST};
 ghost use Rattle.log_record.specs.declared.rec.Rec.{Rec};

@@ -1,3 +1,5 @@
+//! The list of entries that the plain program finds.
+
 ghost use Rattle.std.specs.Prelude.{◌≡◌, ◌++◌, ◌∷◌, [], OnOk};
 
 use crate::entries::Entry;

@@ -1,3 +1,5 @@
+//! The view of a log: the entries of each account, and the judge that took its records.
+
 ghost use Rattle.std.specs.Prelude.{◌≡◌, ◌<◌, ◌≤◌, ◌+◌, ◌∷◌, ◌⊎◌, [], true, false, ℕ, List, length, IfOk, IfErr, IfSome, IfNone, OnOk};
 ghost use Rattle.std.specs.List.{AllByRecursion};
 ghost use Rattle.log_record.specs.declared.rec.Rec.{Rec};
@@ -141,10 +143,12 @@ impl View {
         }
     }
 
-    /// The balance of the account after the records that end at or below this LSN, or `None` where they and the opening have no such account.
+    /// The balance of the account after the records that end at or below this LSN, or `None` where they and the opening have no
+    /// such account.
     pub fn balance_at(&self, account: u32, lsn: Lsn) -> Option<u64>
         requires viewed { (opening : Opening) × (h : List Placed) × HasViewed opening self.now h }
-        ensures balance { (opening : Opening) (h : List Placed) → HasViewed opening self.now h → result ≡ balance_up_to opening h account lsn }
+        ensures balance { (opening : Opening) (h : List Placed) → HasViewed opening self.now h
+            → result ≡ balance_up_to opening h account lsn }
         ensures range { IfSome result (λ balance. IsBalance balance) }
     {
         match self.account(account) {
@@ -171,11 +175,12 @@ impl View {
         }
     }
 
-    /// Where the last Commit ends that made an entry and ends at or below this LSN: a boundary, from which on others can be sought. Where none
-    /// does, this beginning.
+    /// Where the last Commit ends that made an entry and ends at or below this LSN: a boundary, from which on others can be sought.
+    /// Where none does, this beginning.
     pub fn last_commit(&self, begin: Lsn, lsn: Lsn) -> Lsn
         requires viewed { (opening : Opening) × (h : List Placed) × HasViewed opening self.now h }
-        ensures { (result ≡ begin) ⊎ ((result ≤ lsn) × ((opening : Opening) (h : List Placed) → HasViewed opening self.now h → EndsAt h result)) }
+        ensures { (result ≡ begin)
+            ⊎ ((result ≤ lsn) × ((opening : Opening) (h : List Placed) → HasViewed opening self.now h → EndsAt h result)) }
     {
         let mut last = begin;
         'accounts: for account in 0..self.judge.accounts() {
