@@ -4,3 +4,4 @@ pub mod Lengths
 pub mod Moments
 pub mod Prefixes
 pub mod Torn
+pub mod Uses

@@ -1,4 +1,5 @@
 pub mod Attaching
+pub mod Calls
 pub mod Costs
 pub mod Disk
 pub mod Faults
