@@ -1,7 +1,9 @@
 pub mod Attaching
+pub mod Blocks
 pub mod Calls
 pub mod Costs
 pub mod Disk
 pub mod Faults
 pub mod Lengths
+pub mod OneCall
 pub mod Streams

@@ -1,6 +1,7 @@
 -- What reads and writes do to allowances and to bytes.
-use Rattle.std.specs.Prelude.{◌≡◌, ◌<◌, ℕ, ◌-◌, List, length, ◌++◌, Option, Result, MatchResult, if◌then◌else◌, ◌==◌}
+use Rattle.std.specs.Prelude.{◌≡◌, ◌<◌, ℕ, ◌-◌, List, length, ◌++◌, Option, Result, MatchResult, OnOk, OnErr, if◌then◌else◌, ◌==◌}
 use Rattle.std.specs.Io.KnownBytes.{Appends}
+use Rattle.log_disk.specs.Faults.{HasCause}
 
 -- a read that gives bytes takes one from the allowance, and no other does
 abbrev pub SpendsAllowance : {E : Type 0} → ℕ → ℕ → Result ℕ E → Type 0
@@ -13,6 +14,12 @@ AppendsPrefix old new bytes = (prefix rest : List ℕ) × (bytes ≡ prefix ++ r
 -- known bytes grow by a prefix of these, and not by all of them
 abbrev pub AppendsPart : Option (List ℕ) → Option (List ℕ) → List ℕ → Type 0
 AppendsPart old new bytes = (prefix rest : List ℕ) × (bytes ≡ prefix ++ rest) × Appends old new prefix × (0 < length rest)
+
+-- known bytes grow by these, or at a fault by a part of them; the fault is counted
+pub record AppendsAll {T E : Type 0} (old new : Option (List ℕ)) (bytes : List ℕ) (faults_old faults_new : ℕ) (result : Result T E) : Type 0 where
+  pub all : OnOk result (Appends old new bytes)
+  pub prefix : OnErr result (AppendsPart old new bytes)
+  pub cause : HasCause faults_old faults_new result
 
 -- known bytes grow by these but for the last of them, which wait in a block
 abbrev pub AppendsBut : Option (List ℕ) → Option (List ℕ) → List ℕ → List ℕ → Type 0

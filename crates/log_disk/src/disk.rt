@@ -1,7 +1,9 @@
-ghost use Rattle.std.specs.Prelude.{◌≡◌, ◌≤◌, ◌-◌, ◌↔◌, List, Option, ℕ, length, min, take, drop, IfOk, OnOk};
+//! The trait of a disk. Each call says by `MakesCall` what it does; `read_at` says it in clauses of its own.
+ghost use Rattle.std.specs.Prelude.{◌≡◌, ◌≤◌, ◌-◌, ◌↔◌, List, Option, ℕ, length, min, take, drop, IfOk};
 ghost use Rattle.log_disk.specs.Attaching.{Attached, Attaches};
 ghost use Rattle.log_disk.specs.Faults.{HasCause, raised};
-ghost use Rattle.log_disk.specs.Disk.{put, IsTorn, MayBeTorn, IsOnlyImage, Elapses, Keeps, CountsOne};
+ghost use Rattle.log_disk.specs.Disk.{Elapses, Keeps};
+ghost use Rattle.log_disk.specs.OneCall.{MakesCall, Syncs, TellsLength, WritesAt};
 
 use crate::Failed;
 use lsn_space::Word;
@@ -40,23 +42,14 @@ pub trait LogDisk {
 
     /// Opens the file of that name. A missing one is made where `make` says so, and is else a fault.
     fn attach(&mut self, name: &Word, make: bool) -> Result<(), Failed>
-        ensures keeps { Keeps honest reads images written_count self.old self.new }
-        ensures honest { honest self.old ↔ honest self.new }
-        ensures attached { honest self.old
-            → Attaches (record { name = name.now; may_make = make }) (attached self.old) (attached self.new) result }
-        ensures time { Elapses moment images images_since self.old self.new }
-        ensures calls { honest self.old → calls self.new ≡ raised (calls self.old) }
-        ensures cause { HasCause (faults self.old) (faults self.new) result };
+        ensures { MakesCall (Keeps honest reads images written_count self.old self.new)
+            (honest self.old → Attaches (record { name = name.now; may_make = make }) (attached self.old) (attached self.new) result)
+            honest moment images images_since calls faults self.old self.new result };
 
     /// The length of the file in bytes.
     fn len(&mut self) -> Result<u64, Failed>
-        ensures len { honest self.old → IfOk result (λ n. n ≡ length (reads self.old)) }
-        ensures keeps { Keeps honest reads images written_count self.old self.new }
-        ensures honest { honest self.old ↔ honest self.new }
-        ensures attached { attached self.new ≡ attached self.old }
-        ensures time { Elapses moment images images_since self.old self.new }
-        ensures calls { honest self.old → calls self.new ≡ raised (calls self.old) }
-        ensures cause { HasCause (faults self.old) (faults self.new) result };
+        ensures { MakesCall (TellsLength honest reads images written_count self.old self.new result)
+            (attached self.new ≡ attached self.old) honest moment images images_since calls faults self.old self.new result };
 
     /// Reads from that offset on into the front of the buffer, and tells how many bytes. 0 from the
     /// end of the file on.
@@ -75,27 +68,13 @@ pub trait LogDisk {
     /// bytes in its range, for reads too.
     fn write_at(&mut self, at: u64, bytes: &[u8]) -> Result<(), Failed>
         requires { honest self.old → at ≤ length (reads self.old) }
-        ensures written { honest self.old → OnOk result (reads self.new ≡ put at bytes.now (reads self.old)) }
-        ensures torn { honest self.old → IsTorn at (length bytes.now) (reads self.old) (reads self.new) }
-        ensures images { (c : List ℕ) → images self.new c → MayBeTorn at (length bytes.now) (images self.old) c }
-        ensures count { honest self.old → CountsOne (written_count self.old) (written_count self.new) result }
-        ensures honest { honest self.old ↔ honest self.new }
-        ensures attached { attached self.new ≡ attached self.old }
-        ensures time { Elapses moment images images_since self.old self.new }
-        ensures calls { honest self.old → calls self.new ≡ raised (calls self.old) }
-        ensures cause { HasCause (faults self.old) (faults self.new) result };
+        ensures { MakesCall (WritesAt honest reads images written_count self.old self.new result at bytes.now)
+            (attached self.new ≡ attached self.old) honest moment images images_since calls faults self.old self.new result };
 
     /// After it a crash leaves what a read gives. A sync that fails adds no image.
     fn sync(&mut self) -> Result<(), Failed>
-        ensures settled { honest self.old → OnOk result (IsOnlyImage (reads self.old) (images self.new)) }
-        ensures reads { honest self.old → reads self.new ≡ reads self.old }
-        ensures images { (c : List ℕ) → images self.new c → images self.old c }
-        ensures count { honest self.old → CountsOne (written_count self.old) (written_count self.new) result }
-        ensures honest { honest self.old ↔ honest self.new }
-        ensures attached { attached self.new ≡ attached self.old }
-        ensures time { Elapses moment images images_since self.old self.new }
-        ensures calls { honest self.old → calls self.new ≡ raised (calls self.old) }
-        ensures cause { HasCause (faults self.old) (faults self.new) result };
+        ensures { MakesCall (Syncs honest reads images written_count self.old self.new result)
+            (attached self.new ≡ attached self.old) honest moment images images_since calls faults self.old self.new result };
 
     /// What is read is one of the images.
     ghost read_is_image: { (disk : Self) → honest disk → images disk (reads disk) };

@@ -1,3 +1,4 @@
+//! The numbers that the clauses take from the code.
 ghost use Rattle.std.specs.Prelude.{◌≡◌};
 ghost use Rattle.log_disk.specs.declared.source.TheConstants.{READ_ALLOWANCE};
 

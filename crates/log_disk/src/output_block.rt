@@ -3,7 +3,8 @@
 ghost use Rattle.std.specs.Prelude.{◌≡◌, ◌≤◌, ◌+◌, ◌++◌, [], length, OnOk, OnErr};
 ghost use Rattle.std.specs.Io.KnownBytes.{Appends};
 ghost use Rattle.log_disk.specs.Faults.{HasCause};
-ghost use Rattle.log_disk.specs.Streams.{AppendsPart, AppendsBut};
+ghost use Rattle.log_disk.specs.Streams.{AppendsPart};
+ghost use Rattle.log_disk.specs.Blocks.{AppendsBlocks};
 ghost use Rattle.log_disk.specs.declared.output_block.TheConstants.{BLOCK_BYTES};
 
 use crate::sink::{Sink, WriteFault, put_all};
@@ -46,10 +47,8 @@ impl OutputBlock {
     /// At a fault a part of all this was written, and nothing waits.
     pub fn put<K: Sink>(&mut self, sink: &mut K, piece: &[u8]) -> Result<(), WriteFault>
         requires { length piece.now ≤ BLOCK_BYTES }
-        ensures all { OnOk result (AppendsBut (K.held_bytes sink.old) (K.held_bytes sink.new) (self.old ++ piece.now) self.new) }
-        ensures prefix { OnErr result (AppendsPart (K.held_bytes sink.old) (K.held_bytes sink.new) (self.old ++ piece.now)) }
-        ensures waits { length self.old + length piece.now ≤ BLOCK_BYTES → sink.new ≡ sink.old }
-        ensures cause { HasCause (K.faults sink.old) (K.faults sink.new) result }
+        ensures { AppendsBlocks K.Sink sink.old sink.new (self.old ++ piece.now) self.new result
+            (length self.old + length piece.now ≤ BLOCK_BYTES) }
     {
         self.make_room(sink, piece.len())?;
         self.push(piece);
@@ -59,11 +58,9 @@ impl OutputBlock {
     /// Writes out what waits, unless so many bytes more have room.
     fn make_room<K: Sink>(&mut self, sink: &mut K, count: usize) -> Result<(), WriteFault>
         requires { count ≤ BLOCK_BYTES }
-        ensures all { OnOk result (AppendsBut (K.held_bytes sink.old) (K.held_bytes sink.new) self.old self.new) }
+        ensures appends { AppendsBlocks K.Sink sink.old sink.new self.old self.new result (length self.old + count ≤ BLOCK_BYTES) }
         ensures room { OnOk result (length self.new + count ≤ BLOCK_BYTES) }
-        ensures prefix { OnErr result (AppendsPart (K.held_bytes sink.old) (K.held_bytes sink.new) self.old) }
-        ensures waits { length self.old + count ≤ BLOCK_BYTES → (sink.new ≡ sink.old) × (self.new ≡ self.old) }
-        ensures cause { HasCause (K.faults sink.old) (K.faults sink.new) result }
+        ensures stays { length self.old + count ≤ BLOCK_BYTES → self.new ≡ self.old }
     {
         if count <= BLOCK_BYTES - self.len {
             return Ok(());

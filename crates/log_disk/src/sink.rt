@@ -1,7 +1,8 @@
-ghost use Rattle.std.specs.Prelude.{◌≡◌, ◌<◌, ◌≤◌, ℕ, List, Option, length, IfOk, OnOk, OnErr};
-ghost use Rattle.std.specs.Io.KnownBytes.{WriteAppends, Appends};
+//! What bytes are written to, and the writing of a whole text.
+ghost use Rattle.std.specs.Prelude.{◌<◌, ◌≤◌, ℕ, List, Option, length, IfOk};
+ghost use Rattle.std.specs.Io.KnownBytes.{WriteAppends};
 ghost use Rattle.log_disk.specs.Faults.{HasCause};
-ghost use Rattle.log_disk.specs.Streams.{AppendsPart};
+ghost use Rattle.log_disk.specs.Streams.{AppendsAll};
 
 use crate::Failed;
 
@@ -29,9 +30,7 @@ pub struct WriteFault;
 
 /// Appends all the bytes, or a part of them at a fault: what the writes before it took. Empty bytes make no call.
 pub fn put_all<K: Sink>(sink: &mut K, bytes: &[u8]) -> Result<(), WriteFault>
-    ensures all { OnOk result (Appends (K.held_bytes sink.old) (K.held_bytes sink.new) bytes.now) }
-    ensures prefix { OnErr result (AppendsPart (K.held_bytes sink.old) (K.held_bytes sink.new) bytes.now) }
-    ensures cause { HasCause (K.faults sink.old) (K.faults sink.new) result }
+    ensures { AppendsAll (K.held_bytes sink.old) (K.held_bytes sink.new) bytes.now (K.faults sink.old) (K.faults sink.new) result }
 {
     let mut rest = bytes;
     'writes: while !rest.is_empty() {
