@@ -1,3 +1,4 @@
+//! The bytes of a head, as they go to the disk.
 ghost use Rattle.std.specs.Prelude.{◌≡◌, ◌++◌, ◌∷◌, [], IfOk, OnOk, length};
 ghost use Rattle.std.specs.List.{flat_map};
 ghost use Rattle.lsn_space.specs.Opening.{Opening, IsSnapshot};

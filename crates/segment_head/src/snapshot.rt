@@ -1,3 +1,4 @@
+//! The reading of a head: the opening that bytes begin with.
 ghost use Rattle.std.specs.Prelude.{◌≡◌, ◌+◌, ◌∷◌, ◌++◌, ◌<◌, ◌≤◌, ℕ, List, length, IfOk, IfSome, IfNone, IsErrOf};
 ghost use Rattle.std.specs.List.{flat_map, AllByRecursion};
 ghost use Rattle.std.specs.Int.{w32, w64, to_be_bytes};
@@ -131,5 +132,6 @@ pub fn first_unit(bytes: &[u8]) -> Option<(u64, &[u8])>
 
 /// A law: bytes begin with one opening at most.
 pub fn one_head()
-    ensures { (a b : Opening) (x y : List ℕ) → IsSnapshot a → IsSnapshot b → snapshot_bytes a ++ x ≡ snapshot_bytes b ++ y → (a ≡ b) × (x ≡ y) }
+    ensures { (a b : Opening) (x y : List ℕ) → IsSnapshot a → IsSnapshot b
+        → snapshot_bytes a ++ x ≡ snapshot_bytes b ++ y → (a ≡ b) × (x ≡ y) }
 {}
