@@ -47,11 +47,6 @@ CallFails d cost = (d.room < cost) ⊎ Contains d.failing (raised d.calls)
 abbrev pub AttachFails : DiskState → List ℕ → Type 0
 AttachFails d name = (LONGEST_NAME < length name) ⊎ CallFails d 0
 
--- a call is counted
-pub record CountsCall (old new : DiskState) : Type 0 where
-  pub failing : new.failing ≡ old.failing
-  pub calls : new.calls ≡ raised old.calls
-
 -- how many of the joined bytes are the steps'
 abbrev pub total_len : List Step → ℕ
 total_len [] = 0

@@ -1,7 +1,8 @@
-ghost use Rattle.std.specs.Prelude.{◌≡◌, ◌≤◌, ◌<◌, ◌+◌, ◌/◌, ◌%◌, [], take, length, vec_capacity, None};
-ghost use Rattle.log_disk.specs.Disk.{put, IsTorn, IsOnlyImage};
-ghost use Rattle.memory_disk.specs.History.{file_at_sync, Images, Lands};
-ghost use Rattle.memory_disk.specs.MemoryDisks.{file_of, ImagesOf, total_len, recorded};
+//! What a crash leaves of the disk in memory, by a number.
+ghost use Rattle.std.specs.Prelude.{◌≡◌, ◌≤◌, ◌<◌, ◌+◌, ◌/◌, ◌%◌, take, length, vec_capacity};
+ghost use Rattle.log_disk.specs.Disk.{put, IsTorn};
+ghost use Rattle.memory_disk.specs.Calls.{IsLeftByCrash, Replays};
+ghost use Rattle.memory_disk.specs.MemoryDisks.{total_len};
 
 use crate::contents::{copy_over, place};
 use crate::memory_disk::MemoryDisk;
@@ -36,17 +37,7 @@ impl MemoryDisk {
     /// first bytes landed (from none to all), how many of these hold noise, and which byte that is.
     /// So a small pick is the number of bytes that landed of the first write, and later ones did not.
     pub fn crash(self, pick: u64) -> MemoryDisk
-        ensures image { ImagesOf self (file_of result) }
-        ensures settled { IsOnlyImage (file_of result) (ImagesOf result) }
-        ensures none { pick ≡ 0 → file_of result ≡ file_at_sync self.start self.history }
-        ensures landed { Lands pick self.start self.history (file_of result) }
-        ensures history { result.history ≡ [] }
-        ensures room { result.room ≡ self.room }
-        ensures attached { result.attached ≡ None }
-        ensures failing { result.failing ≡ self.failing }
-        ensures calls { result.calls ≡ self.calls }
-        ensures count { result.written_count ≡ self.written_count }
-        ensures faults { result.faults ≡ self.faults }
+        ensures { IsLeftByCrash pick self result }
     {
         let MemoryDisk {
             mut start,
@@ -62,7 +53,9 @@ impl MemoryDisk {
             faults,
             ..
         } = self;
-        replay(&mut start, &mut held, &steps, &log, pick);
+        copy_over(&mut held, &start);
+        let digits = Digits { left: pick };
+        replay_steps(&mut start, &mut held, &steps, &log, pick, digits);
         copy_over(&mut held, &start);
         steps.clear();
         log.clear();
@@ -83,25 +76,8 @@ impl MemoryDisk {
     }
 }
 
-/// Goes through the steps again, and makes of the file at first what a crash leaves. What is read
-/// goes into `file`.
-fn replay(image: &mut Vec<u8>, file: &mut Vec<u8>, steps: &[Step], log: &[u8], pick: u64)
-    requires whole { total_len steps.now ≡ length log.now }
-    requires image_room { length image.old.items + length log.now ≤ vec_capacity image.old }
-    requires file_room { length image.old.items + length log.now ≤ vec_capacity file.old }
-    ensures image { Images image.old.items (recorded steps.now log.now []) image.new.items }
-    ensures none { pick ≡ 0 → image.new.items ≡ file_at_sync image.old.items (recorded steps.now log.now []) }
-    ensures landed { Lands pick image.old.items (recorded steps.now log.now []) image.new.items }
-    ensures length { length image.new.items ≤ length image.old.items + length log.now }
-    ensures image_capacity { vec_capacity image.old ≤ vec_capacity image.new }
-    ensures file_capacity { vec_capacity file.old ≤ vec_capacity file.new }
-{
-    copy_over(file, image);
-    let digits = Digits { left: pick };
-    replay_steps(image, file, steps, log, pick, digits);
-}
-
-/// Goes through the steps, from a file that is read as it is on the disk, with all digits of the pick.
+/// Goes through the steps again, with all digits of the pick, and makes of the file at first what a crash leaves. What is read goes into
+/// `file`, which is the same at first.
 fn replay_steps(
     image: &mut Vec<u8>,
     file: &mut Vec<u8>,
@@ -115,12 +91,8 @@ fn replay_steps(
     requires file_room { length image.old.items + length log.now ≤ vec_capacity file.old }
     requires same { file.old.items ≡ image.old.items }
     requires digits { all.left ≡ pick }
-    ensures image { Images image.old.items (recorded steps.now log.now []) image.new.items }
-    ensures none { pick ≡ 0 → image.new.items ≡ file_at_sync image.old.items (recorded steps.now log.now []) }
-    ensures landed { Lands pick image.old.items (recorded steps.now log.now []) image.new.items }
-    ensures length { length image.new.items ≤ length image.old.items + length log.now }
-    ensures image_capacity { vec_capacity image.old ≤ vec_capacity image.new }
-    ensures file_capacity { vec_capacity file.old ≤ vec_capacity file.new }
+    ensures { Replays pick steps.now log.now image.old.items image.new.items
+        (vec_capacity image.old) (vec_capacity image.new) (vec_capacity file.old) (vec_capacity file.new) }
 {
     let mut rest = log;
     let mut digits = all;

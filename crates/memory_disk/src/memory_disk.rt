@@ -1,9 +1,12 @@
-ghost use Rattle.std.specs.Prelude.{◌≡◌, ◌≤◌, ◌<◌, ◌+◌, ◌-◌, ◌/◌, ◌↔◌, ⊤, ℕ, List, [], ◌∷◌, min, take, drop, length, vec_capacity, if◌then◌else◌, is_ok, IsErr, IfOk, OnOk, Some, None};
+//! The disk in memory.
+ghost use Rattle.std.specs.Prelude.{◌≡◌, ◌≤◌, ◌<◌, ◌+◌, ◌-◌, ◌/◌, ◌↔◌, ℕ, List, ◌∷◌, min, take, drop, length, if◌then◌else◌};
+ghost use Rattle.std.specs.Prelude.{is_ok, IsErr, IfOk, OnOk, Some};
 ghost use Rattle.log_disk.specs.Attaching.{Attaches};
-ghost use Rattle.log_disk.specs.Disk.{put, IsTorn, MayBeTorn, IsOnlyImage, Elapses, Keeps, CountsOne};
+ghost use Rattle.log_disk.specs.Disk.{put, IsOnlyImage, Elapses, CountsOne};
 ghost use Rattle.log_disk.specs.Faults.{HasCause, raised};
 ghost use Rattle.memory_disk.specs.History.Event.{Wrote, Synced};
-ghost use Rattle.memory_disk.specs.MemoryDisks.{file_of, ImagesOf, ImagesSinceOf, moment_of, written_count_of, AttachFails, CallFails, CountsCall};
+ghost use Rattle.memory_disk.specs.Calls.{CountsCall, IsFresh, OnlyLooks, Tears};
+ghost use Rattle.memory_disk.specs.MemoryDisks.{file_of, ImagesOf, ImagesSinceOf, moment_of, AttachFails, CallFails};
 
 use crate::contents::{copy_from, place};
 use crate::step::Step;
@@ -71,16 +74,7 @@ impl MemoryDisk {
         room: usize,
         failing: &[u64],
     ) -> Result<MemoryDisk, NoMemory>
-        ensures settled { IfOk result (λ disk. IsOnlyImage bytes.now (ImagesOf disk)) }
-        ensures reads { IfOk result (λ disk. file_of disk ≡ bytes.now) }
-        ensures start { IfOk result (λ disk. disk.start ≡ bytes.now) }
-        ensures history { IfOk result (λ disk. disk.history ≡ []) }
-        ensures room { IfOk result (λ disk. disk.room ≡ room) }
-        ensures attached { IfOk result (λ disk. disk.attached ≡ None) }
-        ensures failing { IfOk result (λ disk. disk.failing ≡ failing.now) }
-        ensures calls { IfOk result (λ disk. disk.calls ≡ 0) }
-        ensures written { IfOk result (λ disk. disk.written_count ≡ 0) }
-        ensures faults { IfOk result (λ disk. disk.faults ≡ 0) }
+        ensures { IfOk result (IsFresh bytes.now room failing.now) }
     {
         let Some(most) = bytes.len().checked_add(room) else {
             return Err(NoMemory);
@@ -181,8 +175,7 @@ impl MemoryDisk {
             → self.new.room ≡ self.old.room - (RECORD + (length bytes.now + 1) / 2) }
         ensures no_room { self.old.room < RECORD + length bytes.now
             → (self.new.history ≡ self.old.history) × (self.new.room ≡ self.old.room) }
-        ensures torn { IsTorn at (length bytes.now) (file_of self.old) (file_of self.new) }
-        ensures images { (c : List ℕ) → ImagesOf self.new c → MayBeTorn at (length bytes.now) (ImagesOf self.old) c }
+        ensures tears { Tears at (length bytes.now) self.old self.new }
         ensures time { Elapses moment_of ImagesOf ImagesSinceOf self.old self.new }
     {
         if RECORD + bytes.len() <= self.room {
@@ -235,15 +228,11 @@ impl LogDisk for MemoryDisk {
     ghost only_now = { λ d. images-only d.start d.history };
 
     fn attach(&mut self, name: &Word, make: bool) -> Result<(), Failed>
-        ensures keeps { Keeps (λ _. ⊤) file_of ImagesOf written_count_of self.old self.new }
+        ensures looks { OnlyLooks self.old self.new }
         ensures attached { Attaches (record { name = name.now; may_make = make }) self.old.attached self.new.attached result }
-        ensures time { Elapses moment_of ImagesOf ImagesSinceOf self.old self.new }
-        ensures cause { HasCause self.old.faults self.new.faults result }
 
-        // Beside the trait's: it fails exactly where it was told to, or where the name is too long.
-        ensures fails { IsErr result ↔ AttachFails self.old name.now }
-        ensures counts { CountsCall self.old self.new }
-        ensures room { self.new.room ≡ self.old.room }
+        // It fails exactly where it was told to, or where the name is too long.
+        ensures counts { CountsCall (AttachFails self.old name.now) self.old self.new result }
     {
         let name = name.text().as_bytes();
         if name.len() > LONGEST_NAME {
@@ -256,15 +245,9 @@ impl LogDisk for MemoryDisk {
 
     fn len(&mut self) -> Result<u64, Failed>
         ensures len { IfOk result (λ n. n ≡ length (file_of self.old)) }
-        ensures keeps { Keeps (λ _. ⊤) file_of ImagesOf written_count_of self.old self.new }
+        ensures looks { OnlyLooks self.old self.new }
         ensures attached { self.new.attached ≡ self.old.attached }
-        ensures time { Elapses moment_of ImagesOf ImagesSinceOf self.old self.new }
-        ensures cause { HasCause self.old.faults self.new.faults result }
-
-        // Beside the trait's: it fails exactly where it was told to.
-        ensures fails { IsErr result ↔ CallFails self.old 0 }
-        ensures counts { CountsCall self.old self.new }
-        ensures room { self.new.room ≡ self.old.room }
+        ensures counts { CountsCall (CallFails self.old 0) self.old self.new result }
     {
         self.count_call(0)?;
         Ok(self.held.len() as u64)
@@ -274,15 +257,9 @@ impl LogDisk for MemoryDisk {
         ensures fits { IfOk result (λ n. n ≤ length buf.new) }
         ensures count { IfOk result (λ n. n ≡ min (length buf.old) (length (file_of self.old) - at)) }
         ensures bytes { IfOk result (λ n. take n buf.new ≡ take n (drop at (file_of self.old))) }
-        ensures keeps { Keeps (λ _. ⊤) file_of ImagesOf written_count_of self.old self.new }
+        ensures looks { OnlyLooks self.old self.new }
         ensures attached { self.new.attached ≡ self.old.attached }
-        ensures time { Elapses moment_of ImagesOf ImagesSinceOf self.old self.new }
-        ensures cause { HasCause self.old.faults self.new.faults result }
-
-        // Beside the trait's: it fails exactly where it was told to.
-        ensures fails { IsErr result ↔ CallFails self.old 0 }
-        ensures counts { CountsCall self.old self.new }
-        ensures room { self.new.room ≡ self.old.room }
+        ensures counts { CountsCall (CallFails self.old 0) self.old self.new result }
     {
         self.count_call(0)?;
         Ok(copy_from(&self.held, at as usize, buf))
@@ -292,16 +269,10 @@ impl LogDisk for MemoryDisk {
     fn write_at(&mut self, at: u64, bytes: &[u8]) -> Result<(), Failed>
         requires { at ≤ length (file_of self.old) }
         ensures written { OnOk result (file_of self.new ≡ put at bytes.now (file_of self.old)) }
-        ensures torn { IsTorn at (length bytes.now) (file_of self.old) (file_of self.new) }
-        ensures images { (c : List ℕ) → ImagesOf self.new c → MayBeTorn at (length bytes.now) (ImagesOf self.old) c }
+        ensures tears { Tears at (length bytes.now) self.old self.new }
         ensures count { CountsOne self.old.written_count self.new.written_count result }
         ensures attached { self.new.attached ≡ self.old.attached }
-        ensures time { Elapses moment_of ImagesOf ImagesSinceOf self.old self.new }
-        ensures cause { HasCause self.old.faults self.new.faults result }
-
-        // Beside the trait's: it fails exactly where it was told to, or where too little room is left.
-        ensures fails { IsErr result ↔ CallFails self.old (RECORD + length bytes.now) }
-        ensures counts { CountsCall self.old self.new }
+        ensures counts { CountsCall (CallFails self.old (RECORD + length bytes.now)) self.old self.new result }
 
         // What the disk keeps of the write, and what that takes of the room.
         ensures start { self.new.start ≡ self.old.start }
@@ -332,12 +303,7 @@ impl LogDisk for MemoryDisk {
         ensures images { (c : List ℕ) → ImagesOf self.new c → ImagesOf self.old c }
         ensures count { CountsOne self.old.written_count self.new.written_count result }
         ensures attached { self.new.attached ≡ self.old.attached }
-        ensures time { Elapses moment_of ImagesOf ImagesSinceOf self.old self.new }
-        ensures cause { HasCause self.old.faults self.new.faults result }
-
-        // Beside the trait's: it fails exactly where it was told to, or where too little room is left.
-        ensures fails { IsErr result ↔ CallFails self.old RECORD }
-        ensures counts { CountsCall self.old self.new }
+        ensures counts { CountsCall (CallFails self.old RECORD) self.old self.new result }
 
         // What the disk keeps of the sync, and what that takes of the room.
         ensures start { self.new.start ≡ self.old.start }

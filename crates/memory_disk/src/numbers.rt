@@ -1,3 +1,4 @@
+//! The numbers that the clauses take from the code.
 ghost use Rattle.std.specs.Prelude.{◌≡◌};
 ghost use Rattle.memory_disk.specs.declared.memory_disk.TheConstants.{LONGEST_NAME, RECORD};
 

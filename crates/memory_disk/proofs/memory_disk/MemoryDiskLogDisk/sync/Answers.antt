@@ -15,14 +15,11 @@ returns-in-Err-clause-attached c = ap (λ (d : DiskState). d.attached) c.in-Err.
 pub returns-in-Err-clause-count : goal.returns-in-Err-clause-count
 returns-in-Err-clause-count c = ap (λ (d : DiskState). d.written_count) c.in-Err.ensures.state
 
-pub returns-in-Err-clause-cause : goal.returns-in-Err-clause-cause
-returns-in-Err-clause-cause c = c.in-Err.ensures.cause
-
-pub returns-in-Err-clause-fails : goal.returns-in-Err-clause-fails
-returns-in-Err-clause-fails c = c.in-Err.ensures.fails
-
 pub returns-in-Err-clause-counts : goal.returns-in-Err-clause-counts
 returns-in-Err-clause-counts c = record {
+  fails = c.in-Err.ensures.fails;
+  cause = c.in-Err.ensures.cause;
+  time = search rules;
   failing = ap (λ (d : DiskState). d.failing) c.in-Err.ensures.state;
   calls = ap (λ (d : DiskState). d.calls) c.in-Err.ensures.state;
 }
@@ -34,4 +31,5 @@ pub returns-in-Err-clause-room : goal.returns-in-Err-clause-room
 returns-in-Err-clause-room c = tt
 
 pub returns-in-Err-clause-failed : goal.returns-in-Err-clause-failed
-returns-in-Err-clause-failed c = λ failed. (ap (λ (d : DiskState). d.history) c.in-Err.ensures.state, ap (λ (d : DiskState). d.room) c.in-Err.ensures.state)
+returns-in-Err-clause-failed c = λ failed.
+    (ap (λ (d : DiskState). d.history) c.in-Err.ensures.state, ap (λ (d : DiskState). d.room) c.in-Err.ensures.state)
