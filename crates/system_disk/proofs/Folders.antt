@@ -1,5 +1,6 @@
 -- A path has one last slash.
-use Rattle.std.proofs.Common.{◌≡◌, ◌<◌, suc, refl, [], codes, ◌+◌, ◌-◌, ◌∙◌, sym, ap, subst, ℕ, List, ◌∷◌, ◌++◌, Some, None, length, take, drop, get_or, get_or-drop, length-append, length-drop, arith}
+use Rattle.std.proofs.Common.{◌≡◌, ◌<◌, suc, refl, [], codes, ◌+◌, ◌-◌, ◌∙◌, sym, ap, subst, ℕ, List, ◌∷◌, ◌++◌, Some, None, length}
+use Rattle.std.proofs.Common.{take, drop, get_or, get_or-drop, length-append, length-drop, arith}
 use Rattle.std.specs.List.{Contains}
 use Rattle.std.specs.Str.Pattern.{RFindsChar}
 use Rattle.std.proofs.Math.Seq.{get_or-append_seam, get_or-append_right, take-append_seam}
@@ -28,23 +29,28 @@ module _ (path : List ℕ) (i j : ℕ) (found : RFindsChar SLASH path (Some (i, 
   pub found-some : Contains path SLASH
   found-some = subst (Contains path) here (Contains-get_or path i 0 within)
 
+  -- no slash is behind it, so the one before a name isn't
+  not-behind : (front name : List ℕ) → path ≡ front ++ SLASH ∷ name → i < length front → ⊥
+  not-behind front name is less =
+      let next : j ≡ i + 1 = omega (arith, found.1.ends, len_utf8_ascii SLASH (omega arith)) in
+      let back : j + (length front - j) ≡ length front = omega arith in
+      let same = get_or-drop j path (length front - j) 0 ∙ ap (λ n. get_or path n 0) back ∙ slash-at path front name is in
+      NoCharPasses-char SLASH (drop j path) (length front - j) found.0 (omega arith)
+      (omega (arith, length-drop j path, slash-within path front name is)) same
+
+  -- and in a name that has none it isn't
+  not-in-name : (front name : List ℕ) → path ≡ front ++ SLASH ∷ name → (Contains name SLASH → ⊥) → length front < i → ⊥
+  not-in-name front name is lacks more =
+      let k = (i - length front) - 1 in
+      let past : i - length front ≡ suc k = omega arith in
+      let in_name = get_or-append_right front (SLASH ∷ name) i 0 (omega arith) ∙ ap (λ n. get_or (SLASH ∷ name) n 0) past in
+      let read : get_or name k 0 ≡ SLASH = sym (ap (λ l. get_or l i 0) is ∙ in_name) ∙ here in
+      lacks (subst (Contains name) read (Contains-get_or name k 0 (omega (arith, slash-within path front name is))))
+
   -- and it is the last
   pub found-last : (front name : List ℕ) → path ≡ front ++ SLASH ∷ name → (Contains name SLASH → ⊥) → take i path ≡ front
   found-last front name is lacks =
-      let next : j ≡ i + 1 = omega (arith, found.1.ends, len_utf8_ascii SLASH (omega arith)) in
-      let size = slash-within path front name is in
-      let below : i < length front → ⊥ = λ less.
-      let back : j + (length front - j) ≡ length front = omega arith in
-      NoCharPasses-char SLASH (drop j path) (length front - j) found.0 (omega arith) (omega (arith, length-drop j path))
-      (get_or-drop j path (length front - j) 0 ∙ ap (λ n. get_or path n 0) back ∙ slash-at path front name is) in
-      let above : length front < i → ⊥ = λ more.
-      let k = (i - length front) - 1 in
-      let past : i - length front ≡ suc k = omega arith in
-      let read : get_or name k 0 ≡ SLASH = sym (
-      ap (λ l. get_or l i 0) is ∙ get_or-append_right front (SLASH ∷ name) i 0 (omega arith) ∙ ap (λ n. get_or (SLASH ∷ name) n 0) past
-      ) ∙ here in
-      lacks (subst (Contains name) read (Contains-get_or name k 0 (omega arith))) in
-      let same : i ≡ length front = omega (arith, below, above) in
+      let same : i ≡ length front = omega (arith, not-behind front name is, not-in-name front name is lacks) in
       ap (λ n. take n path) same ∙ ap (take (length front)) is ∙ take-append_seam front (SLASH ∷ name)
 
 -- a folder that isn't empty, and the root

@@ -1,3 +1,4 @@
+//! The disk over a file of the system.
 ghost use Rattle.std.specs.Prelude.{◌≡◌, ◌≤◌, ◌++◌, ◌∷◌, ℕ, List, IfSome, length, codes, Contains, true};
 ghost use Rattle.std.specs.Fs.{new_options, with_read, with_write, with_create_new};
 ghost use Rattle.log_disk.specs.Faults.{Rose};
@@ -171,7 +172,8 @@ fn log_options(anew: bool) -> OpenOptions
 
 /// The folder in which the file at this path stands: what is before the last slash.
 pub fn folder_of(path: &str) -> &str
-    ensures behind { (front name : List ℕ) → path.now ≡ front ++ SLASH ∷ name → (Contains name SLASH → ⊥) → result.now ≡ folder_before front }
+    ensures behind { (front name : List ℕ) → path.now ≡ front ++ SLASH ∷ name → (Contains name SLASH → ⊥)
+        → result.now ≡ folder_before front }
     ensures alone { (Contains path.now SLASH → ⊥) → result.now ≡ codes "." }
 {
     match path.rsplit_once('/') {

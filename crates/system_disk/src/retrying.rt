@@ -1,10 +1,10 @@
 //! Calls of the system that a signal interrupts before they moved a byte. They are made again until they
 //! end otherwise, so for a caller each is one call; the standard library does so in its longer ones, as
 //! `write_all_at`, and in a sync.
-ghost use Rattle.std.specs.Prelude.{◌≢◌, IfErr};
+ghost use Rattle.std.specs.Prelude.{IfErr};
 ghost use Rattle.std.specs.Io.{ReadsAtMost, WritesAtMost};
 ghost use Rattle.std.specs.Io.KnownBytes.{ReadConsumes, WriteAppends};
-ghost use Rattle.std.specs.IoError.{error_kind};
+ghost use Rattle.system_disk.specs.Retrying.{WasNotInterrupted};
 
 use std::fs::File;
 use std::io;
@@ -17,7 +17,7 @@ const MOST_TRIES: u64 = u64::MAX;
 pub(crate) fn read_retrying<R: Read>(reader: &mut R, buf: &mut [u8]) -> io::Result<usize>
     ensures fits { ReadsAtMost result buf.new }
     ensures bytes { ReadConsumes (R.remaining reader.old) (R.remaining reader.new) result buf.new }
-    ensures retried { IfErr result (λ error. error_kind error ≢ ErrorKind.Interrupted) }
+    ensures retried { IfErr result WasNotInterrupted }
 {
     'tries: for _ in 0..MOST_TRIES {
         match reader.read(buf) {
@@ -33,7 +33,7 @@ pub(crate) fn read_retrying<R: Read>(reader: &mut R, buf: &mut [u8]) -> io::Resu
 pub(crate) fn write_retrying<W: Write>(writer: &mut W, piece: &[u8]) -> io::Result<usize>
     ensures fits { WritesAtMost result piece.now }
     ensures bytes { WriteAppends (W.contents writer.old) (W.contents writer.new) result piece.now }
-    ensures retried { IfErr result (λ error. error_kind error ≢ ErrorKind.Interrupted) }
+    ensures retried { IfErr result WasNotInterrupted }
 {
     'tries: for _ in 0..MOST_TRIES {
         match writer.write(piece) {
@@ -47,7 +47,7 @@ pub(crate) fn write_retrying<W: Write>(writer: &mut W, piece: &[u8]) -> io::Resu
 
 /// The length of a file, asked again where that was interrupted.
 pub(crate) fn len_retrying(file: &File) -> io::Result<u64>
-    ensures retried { IfErr result (λ error. error_kind error ≢ ErrorKind.Interrupted) }
+    ensures retried { IfErr result WasNotInterrupted }
 {
     'tries: for _ in 0..MOST_TRIES {
         match file.metadata() {

@@ -1,3 +1,4 @@
+//! The source and the sink over the program's streams.
 ghost use Rattle.std.specs.Prelude.{◌≡◌};
 
 use crate::retrying::{read_retrying, write_retrying};

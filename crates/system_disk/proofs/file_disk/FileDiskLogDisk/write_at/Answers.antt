@@ -1,9 +1,23 @@
-use Rattle.std.proofs.Common.{length}
-use Rattle.log_disk.proofs.Torn.{IsTorn-refl}
+use Rattle.std.proofs.Common.{rules, refl}
+use Rattle.system_disk.proofs.Untold.{writes-untold}
 use Rattle.system_disk.proofs.file_disk.FileDiskLogDisk.write_at.Goals as goal
 
-pub returns-in-Some-clause-images : goal.returns-in-Some-clause-images
-returns-in-Some-clause-images g c = λ image any. (image, any, IsTorn-refl c.args.at (length c.args.bytes.now) image)
+pub returns-in-Some : goal.returns-in-Some
+returns-in-Some g c = record {
+  does = writes-untold _ _ _ c.args.at c.args.bytes.now;
+  attached = refl;
+  time = search rules;
+  cause = search rules;
+  calls = λ honest. absurd honest;
+  honest = search rules;
+}
 
-pub returns-in-None-clause-images : goal.returns-in-None-clause-images
-returns-in-None-clause-images g c = λ image any. (image, any, IsTorn-refl c.args.at (length c.args.bytes.now) image)
+pub returns-in-None : goal.returns-in-None
+returns-in-None g c = record {
+  does = writes-untold _ _ _ c.args.at c.args.bytes.now;
+  attached = refl;
+  time = search rules;
+  cause = search rules;
+  calls = λ honest. absurd honest;
+  honest = search rules;
+}
