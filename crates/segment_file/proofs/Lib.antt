@@ -3,7 +3,10 @@ pub mod BatchLemmas
 pub mod Creates
 pub mod FileLemmas
 pub mod FirstFormat
+pub mod GatedWrites
 pub mod GateBytes
+pub mod GateCloses
+pub mod LogGrows
 pub mod LogLemmas
 pub mod OneReading
 pub mod OpeningLemmas
@@ -14,3 +17,4 @@ pub mod Scanned
 pub mod Seams
 pub mod StableGates
 pub mod StandingLemmas
+pub mod TailSettles

@@ -127,5 +127,11 @@ module _ (bytes units : List ℕ) (room capacity : ℕ) (packed : IsPacked bytes
           let same : cut ≡ opened = cut_is ∙ ap (λ n. take n (opened ++ CLOSED ∷ [])) n_is ∙ take-append_seam opened (CLOSED ∷ []) in
           restored_is ∙ ap (λ bs. take 6 bs ++ (49 ∷ []) ++ drop 7 bs) (same ∙ opened-batch) ∙ sym counted-batch
 
+      -- so it is a batch as before
+      pub packed-again : (cut restored : List ℕ) (n now : ℕ) → n ≡ length opened → cut ≡ take n (opened ++ CLOSED ∷ [])
+          → restored ≡ take 6 cut ++ (49 ∷ []) ++ drop 7 cut → capacity ≤ now → IsPacked restored units room now
+      packed-again cut restored n now n_is cut_is restored_is grown =
+          subst (λ bs. IsPacked bs units room now) (sym (counted-again cut restored n n_is cut_is restored_is)) (packed-counted now grown)
+
 pub packed-none : (room capacity : ℕ) (bytes : List ℕ) → bytes ≡ magic ++ to_be_bytes w32 0 → room < 2 ^ 32 → 13 + 8 * room ≤ capacity → IsPacked bytes [] room capacity
 packed-none room capacity bytes is small fits = record { each = tt; number = 0; whole = is; few = omega arith; small = small; fits = fits }

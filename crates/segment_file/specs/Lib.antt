@@ -1,3 +1,5 @@
+pub mod Calls
+pub mod Changes
 pub mod File
 pub mod Gates
 pub mod Lengths

@@ -1,10 +1,12 @@
+//! Units as the bytes that go to the disk in one piece.
+
 ghost use Rattle.std.specs.Prelude.{◌≡◌, ◌<◌, ◌≤◌, ◌+◌, ◌++◌, ◌∷◌, ◌↔◌, [], IsTrue, take, drop, length, slice_index, vec_capacity, IfOk};
 ghost use Rattle.std.specs.Int.{w32, to_be_bytes};
 ghost use Rattle.lsn_space.specs.Unit.{unit_bytes};
 ghost use Rattle.segment_file.specs.declared.layout.TheConstants.{HEAD};
 ghost use Rattle.segment_file.specs.File.{magic};
 
-use crate::layout::HEAD;
+use crate::layout::{HEAD, LAST_OF_MAGIC, MAGIC, UNIT};
 use lsn_space::{NoMemory, bytes_of};
 use segment_head::first_unit;
 use std::alloc::Global;
@@ -36,7 +38,7 @@ impl Batch {
     pub fn make(alloc: Global, units: u32) -> Result<Batch, NoMemory>
         ensures { IfOk result (λ batch. (batch.units ≡ []) × (batch.room ≡ units)) }
     {
-        let bytes = head(alloc, HEAD + 2 + 8 * units as usize)?;
+        let bytes = head(alloc, HEAD + 2 + UNIT * units as usize)?;
         Ok(Batch { bytes, room: units })
     }
 
@@ -59,7 +61,7 @@ impl Batch {
     pub fn count(&self) -> u32
         ensures { result ≡ length self.now.units }
     {
-        ((self.bytes.len() - HEAD) / 8) as u32
+        ((self.bytes.len() - HEAD) / UNIT) as u32
     }
 
     /// The unit at that index, from 0.
@@ -67,7 +69,11 @@ impl Batch {
         requires { index < length self.now.units }
         ensures { result ≡ slice_index self.now.units index }
     {
-        let rest = self.bytes.as_slice().split_at(HEAD + 8 * index as usize).1;
+        let rest = self
+            .bytes
+            .as_slice()
+            .split_at(HEAD + UNIT * index as usize)
+            .1;
         match first_unit(rest) {
             Some((unit, _)) => unit,
             None => unreachable!(),
@@ -101,7 +107,7 @@ pub(crate) fn put_count(bytes: &mut Vec<u8>, count: u32)
     ensures bytes { bytes.new.items ≡ take 7 bytes.old.items ++ to_be_bytes w32 count ++ drop HEAD bytes.old.items }
     ensures capacity { vec_capacity bytes.old ≤ vec_capacity bytes.new }
 {
-    bytes[7..HEAD].copy_from_slice(&count.to_be_bytes());
+    bytes[MAGIC..HEAD].copy_from_slice(&count.to_be_bytes());
 }
 
 /// Writes a byte in front of the number of units.
@@ -110,7 +116,7 @@ pub(crate) fn put_before(bytes: &mut Vec<u8>, byte: u8)
     ensures bytes { bytes.new.items ≡ take 6 bytes.old.items ++ (byte ∷ []) ++ drop 7 bytes.old.items }
     ensures capacity { vec_capacity bytes.old ≤ vec_capacity bytes.new }
 {
-    bytes[6..7].copy_from_slice(&[byte]);
+    bytes[LAST_OF_MAGIC..MAGIC].copy_from_slice(&[byte]);
 }
 
 /// Adds the bytes of a unit.

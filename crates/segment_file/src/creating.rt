@@ -1,9 +1,9 @@
-ghost use Rattle.std.specs.Prelude.{◌≡◌, ◌≤◌, ◌<◌, ◌+◌, ◌*◌, ◌↔◌, List, ℕ, length, max, IfOk, OnOk};
-ghost use Rattle.log_disk.specs.Costs.{Costs};
-ghost use Rattle.log_disk.specs.Faults.{HasCause};
-ghost use Rattle.log_disk.specs.Disk.{IsOnlyImage, Leaves};
-ghost use Rattle.segment_file.specs.declared.layout.TheConstants.{HEAD};
-ghost use Rattle.segment_file.specs.Standing.{tail_at, AllStand, IsShut, IsStableGate, HoldsNoneOr};
+//! A log that is made on a disk without one.
+
+ghost use Rattle.std.specs.Prelude.{◌≤◌, ◌<◌, length};
+ghost use Rattle.segment_file.specs.Calls.{HasShutGate, HasStableGate};
+ghost use Rattle.segment_file.specs.Changes.{Creates};
+ghost use Rattle.segment_file.specs.Lengths.{new_tail};
 
 use crate::batch::{Batch, put_count};
 use crate::gated_write::{DiskFault, write_gated};
@@ -18,21 +18,8 @@ use lsn_space::Lsn;
 pub fn create<D: LogDisk>(disk: &mut D, batch: &mut Batch) -> Result<Tail, DiskFault>
     requires some { 0 < length batch.old.units }
     requires most { length batch.old.units ≤ MOST_UNITS }
-    requires stable { D.honest disk.old → IsStableGate 0 (D.images disk.old) }
-    ensures moments { D.honest disk.old → Leaves D.moment D.images_since (HoldsNoneOr batch.old.units) disk.old disk.new }
-    ensures created { D.honest disk.old → IfOk result (λ t. AllStand t batch.old.units (D.images disk.new)) }
-    ensures shut { D.honest disk.old → IfOk result (λ t. IsShut t.at (D.images disk.new)) }
-    ensures settled { D.honest disk.old → OnOk result (IsOnlyImage (D.reads disk.new) (D.images disk.new)) }
-    ensures place { IfOk result (λ t. t.at ≡ HEAD + 1 + 8 * length batch.old.units) }
-    ensures next { IfOk result (λ t. t.next ≡ length batch.old.units) }
-    ensures batch { batch.new ≡ batch.old }
-    ensures length { D.honest disk.old
-        → length (D.reads disk.new) ≤ max (length (D.reads disk.old)) (HEAD + 2 + 8 * length batch.old.units) }
-    ensures count { D.honest disk.old → Costs D.LogDisk 6 7 disk.old disk.new }
-    ensures later { D.moment disk.old ≤ D.moment disk.new }
-    ensures honest { D.honest disk.old ↔ D.honest disk.new }
-    ensures attached { D.attached disk.new ≡ D.attached disk.old }
-    ensures cause { HasCause (D.faults disk.old) (D.faults disk.new) result }
+    requires stable { HasStableGate D.LogDisk 0 disk.old }
+    ensures { Creates D.LogDisk (λ t. t) 6 7 batch.old batch.new disk.old disk.new result }
 {
     let count = batch.count();
     close_gate(disk, 0)?;
@@ -47,20 +34,8 @@ pub fn create<D: LogDisk>(disk: &mut D, batch: &mut Batch) -> Result<Tail, DiskF
 fn create_sealed<D: LogDisk>(disk: &mut D, batch: &mut Batch) -> Result<(), DiskFault>
     requires some { 0 < length batch.old.units }
     requires most { length batch.old.units ≤ MOST_UNITS }
-    requires shut { D.honest disk.old → IsShut 0 (D.images disk.old) }
-    ensures moments { D.honest disk.old → Leaves D.moment D.images_since (HoldsNoneOr batch.old.units) disk.old disk.new }
-    ensures created { D.honest disk.old
-        → OnOk result (AllStand (tail_at (HEAD + 1 + 8 * length batch.old.units) (length batch.old.units)) batch.old.units (D.images disk.new)) }
-    ensures shut { D.honest disk.old → OnOk result (IsShut (HEAD + 1 + 8 * length batch.old.units) (D.images disk.new)) }
-    ensures settled { D.honest disk.old → OnOk result (IsOnlyImage (D.reads disk.new) (D.images disk.new)) }
-    ensures batch { batch.new ≡ batch.old }
-    ensures length { D.honest disk.old
-        → length (D.reads disk.new) ≤ max (length (D.reads disk.old)) (HEAD + 2 + 8 * length batch.old.units) }
-    ensures count { D.honest disk.old → Costs D.LogDisk 4 4 disk.old disk.new }
-    ensures later { D.moment disk.old ≤ D.moment disk.new }
-    ensures honest { D.honest disk.old ↔ D.honest disk.new }
-    ensures attached { D.attached disk.new ≡ D.attached disk.old }
-    ensures cause { HasCause (D.faults disk.old) (D.faults disk.new) result }
+    requires shut { HasShutGate D.LogDisk 0 disk.old }
+    ensures { Creates D.LogDisk (λ _. new_tail batch.old.units) 4 4 batch.old batch.new disk.old disk.new result }
 {
     let count = batch.count();
     put_count(&mut batch.bytes, count);

@@ -1,6 +1,7 @@
-ghost use Rattle.std.specs.Prelude.{◌≡◌, ◌≤◌, ◌+◌, ◌↔◌, IsTrue, List, ℕ, length, take, IfOk, OnOk};
-ghost use Rattle.log_disk.specs.Disk.{Elapses, Keeps};
-ghost use Rattle.log_disk.specs.Faults.{HasCause};
+//! Whether the first gate of a file is open.
+
+ghost use Rattle.std.specs.Prelude.{◌≡◌, ◌↔◌, IsTrue, List, ℕ, length, take};
+ghost use Rattle.segment_file.specs.Calls.{LooksFor};
 ghost use Rattle.segment_file.specs.File.{BeginsOpen};
 
 use crate::gated_write::DiskFault;
@@ -10,13 +11,7 @@ use log_disk::LogDisk;
 /// Whether the first gate of the file is open, so that a log may be there. The length is asked for, since a read may
 /// give less than is there.
 pub fn has_open_gate<D: LogDisk>(disk: &mut D) -> Result<bool, DiskFault>
-    ensures opens { D.honest disk.old → IfOk result (λ yes. IsTrue yes ↔ BeginsOpen (D.reads disk.old)) }
-    ensures keeps { Keeps D.honest D.reads D.images D.written_count disk.old disk.new }
-    ensures time { Elapses D.moment D.images D.images_since disk.old disk.new }
-    ensures calls { D.honest disk.old → D.calls disk.new ≤ D.calls disk.old + 2 }
-    ensures honest { D.honest disk.old ↔ D.honest disk.new }
-    ensures attached { D.attached disk.new ≡ D.attached disk.old }
-    ensures cause { HasCause (D.faults disk.old) (D.faults disk.new) result }
+    ensures { LooksFor D.LogDisk (BeginsOpen (D.reads disk.old)) 2 disk.old disk.new result }
 {
     let len = disk.len()?;
     let mut first = [0];

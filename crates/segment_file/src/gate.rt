@@ -1,3 +1,5 @@
+//! What follows an open gate.
+
 ghost use Rattle.std.specs.Prelude.{◌≡◌, ◌<◌, ◌∷◌, ◌++◌, length, IfSome, IfNone};
 ghost use Rattle.segment_file.specs.File.{magic, BeginsOpen, BeginsAsFirst};
 

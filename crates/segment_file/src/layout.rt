@@ -8,6 +8,15 @@ pub const OPEN: u8 = 0x4f;
 /// The byte that the writer closes a gate with.
 pub const CLOSED: u8 = 0;
 
+/// The magic bytes that a file begins with behind its first gate.
+pub const MAGIC: usize = 7;
+
+/// The place of the last of them.
+pub const LAST_OF_MAGIC: usize = 6;
+
+/// The bytes of a unit.
+pub const UNIT: usize = 8;
+
 /// The magic bytes and a count, which stand before a file's first units.
 pub const HEAD: usize = 11;
 

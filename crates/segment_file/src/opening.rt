@@ -1,7 +1,10 @@
+//! All bytes of a disk, read after a sync.
+
 ghost use Rattle.std.specs.Prelude.{◌≡◌, ◌≤◌, ◌<◌, ◌+◌, ◌++◌, ◌↔◌, [], List, ℕ, length, take, IfOk, OnOk, IsErrOf};
-ghost use Rattle.log_disk.specs.Costs.{Costs};
-ghost use Rattle.log_disk.specs.Faults.{CountsWhere, HasCause};
-ghost use Rattle.log_disk.specs.Disk.{IsOnlyImage, Keeps, Leaves};
+ghost use Rattle.log_disk.specs.Calls.{Settles, Uses};
+ghost use Rattle.log_disk.specs.Faults.{CountsWhere};
+ghost use Rattle.log_disk.specs.Disk.{Keeps, Leaves};
+ghost use Rattle.segment_file.specs.Changes.{OpensImage};
 ghost use Rattle.segment_file.specs.Opening.{most_reads};
 ghost use Rattle.segment_file.specs.declared.opening.OpenFault.TheVariants.{DiskFault};
 
@@ -26,15 +29,7 @@ impl From<Failed> for OpenFault {
 /// All bytes of the disk, after a sync that makes them stable. Of a disk that ends before the length that it told, the
 /// bytes up to there.
 pub fn open_image<D: LogDisk>(alloc: Global, disk: &mut D) -> Result<Vec<u8>, OpenFault>
-    ensures bytes { D.honest disk.old → IfOk result (λ bytes. bytes.items ≡ D.reads disk.old) }
-    ensures settled { D.honest disk.old → OnOk result (IsOnlyImage (D.reads disk.new) (D.images disk.new)) }
-    ensures reads { D.honest disk.old → D.reads disk.new ≡ D.reads disk.old }
-    ensures images { (c : List ℕ) → D.images disk.new c → D.images disk.old c }
-    ensures moments { Leaves D.moment D.images_since (D.images disk.old) disk.old disk.new }
-    ensures count { D.honest disk.old → Costs D.LogDisk 1 (most_reads (length (D.reads disk.old)) + 2) disk.old disk.new }
-    ensures honest { D.honest disk.old ↔ D.honest disk.new }
-    ensures attached { D.attached disk.new ≡ D.attached disk.old }
-    ensures faults { CountsWhere (IsErrOf result OpenFault.DiskFault) (D.faults disk.old) (D.faults disk.new) }
+    ensures { OpensImage D.LogDisk disk.old disk.new result (λ bytes. bytes.items) }
 {
     let len = synced_len(disk)?;
     read_up_to(alloc, disk, len)
@@ -43,14 +38,8 @@ pub fn open_image<D: LogDisk>(alloc: Global, disk: &mut D) -> Result<Vec<u8>, Op
 /// Makes all bytes stable, and tells how many there are.
 fn synced_len<D: LogDisk>(disk: &mut D) -> Result<u64, Failed>
     ensures len { D.honest disk.old → IfOk result (λ len. len ≡ length (D.reads disk.old)) }
-    ensures settled { D.honest disk.old → OnOk result (IsOnlyImage (D.reads disk.new) (D.images disk.new)) }
-    ensures reads { D.honest disk.old → D.reads disk.new ≡ D.reads disk.old }
-    ensures images { (c : List ℕ) → D.images disk.new c → D.images disk.old c }
-    ensures moments { Leaves D.moment D.images_since (D.images disk.old) disk.old disk.new }
-    ensures count { D.honest disk.old → Costs D.LogDisk 1 2 disk.old disk.new }
-    ensures honest { D.honest disk.old ↔ D.honest disk.new }
-    ensures attached { D.attached disk.new ≡ D.attached disk.old }
-    ensures cause { HasCause (D.faults disk.old) (D.faults disk.new) result }
+    ensures settles { Settles D.LogDisk disk.old disk.new result }
+    ensures uses { Uses D.LogDisk 1 2 disk.old disk.new result }
 {
     disk.sync()?;
     disk.len()

@@ -1,3 +1,5 @@
+//! What a scan of a file answers.
+
 ghost use Rattle.std.specs.Prelude.{◌≡◌, ◌≤◌, ◌<◌, ◌+◌, ◌*◌, ◌^◌};
 ghost use Rattle.lsn_space.specs.declared.lsn.TheConstants.{LAST};
 

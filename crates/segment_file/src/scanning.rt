@@ -1,3 +1,5 @@
+//! The scan of a file's bytes, by the grammar of both formats.
+
 ghost use Rattle.std.specs.Prelude.{◌≡◌, ◌↔◌, IfOk, IfErr, List, ℕ};
 ghost use Rattle.segment_file.specs.File.{HoldsUnits, BeginsAsLog};
 ghost use Rattle.segment_file.specs.Log.{Log, whole_log, HoldsLog, IsBadSnapshot, IsBadBatch};

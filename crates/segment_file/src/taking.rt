@@ -1,3 +1,5 @@
+//! A batch that is taken from the bytes behind an open gate.
+
 ghost use Rattle.std.specs.Prelude.{◌≡◌, ◌++◌, ◌+◌, ◌*◌, ◌%◌, ◌<◌, ◌≤◌, ◌^◌, List, ℕ, length, IfOk, OnErr, IfSome, IfNone, IsErrOf};
 ghost use Rattle.std.specs.List.{flat_map};
 ghost use Rattle.std.specs.Int.{w32, to_be_bytes};
@@ -21,7 +23,8 @@ pub enum BatchFault {
 fn split_batch(bytes: &[u8]) -> Option<(u32, &[u8], &[u8])>
     ensures counted { IfSome result (λ b. (0 < b.0) × (b.0 ≤ MOST_UNITS) × (length b.1.now ≡ 8 * b.0)) }
     ensures whole { IfSome result (λ b. bytes.now ≡ to_be_bytes w32 b.0 ++ b.1.now ++ b.2.now) }
-    ensures only { IfSome result (λ b. (units rest : List ℕ) → IsCountedBatch units → bytes.now ≡ batch units ++ rest → b.0 ≡ length units) }
+    ensures only { IfSome result (λ b. (units rest : List ℕ) → IsCountedBatch units
+        → bytes.now ≡ batch units ++ rest → b.0 ≡ length units) }
     ensures none { IfNone result ((units rest : List ℕ) → IsCountedBatch units → bytes.now ≡ batch units ++ rest → ⊥) }
 {
     let [a, b, c, d, rest @ ..] = bytes else {

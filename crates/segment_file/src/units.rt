@@ -1,3 +1,5 @@
+//! The units of a log.
+
 ghost use Rattle.std.specs.Prelude.{◌≡◌};
 
 use std::marker::Model;

@@ -1,15 +1,19 @@
-use Rattle.std.proofs.Common.{rules, ◌≡◌, subst, arith}
-use Rattle.segment_file.specs.Log.{with_units}
-use Rattle.segment_file.specs.Standing.{tail_after, LogStands}
+use Rattle.std.proofs.Common.{◌≡◌, Ok, arith}
+use Rattle.std.proofs.lemmas.Result.{err_from_is_err_and}
+use Rattle.segment_file.specs.Standing.{tail_after}
+use Rattle.segment_file.proofs.LogGrows.{appends-failed, appends-then}
 use Rattle.segment_file.proofs.appending.append.Goals as goal
 
-pub returns-clause-appended : goal.returns-clause-appended
-returns-clause-appended g c = λ honest log stand.
-    let at : (tail_after c.args.tail c.args.batch.now.units).at ≡ c.after-after.result.at = omega arith in
-    let next : (tail_after c.args.tail c.args.batch.now.units).next ≡ c.after-after.result.next = omega arith in
-    let tail : tail_after c.args.tail c.args.batch.now.units ≡ c.after-after.result = λ i. record { at = at i; next = next i } in
-    subst (λ t. LogStands t (with_units log c.args.batch.now.units) (g.D.LogDisk.images c.append_sealed.new.disk)) tail
-    (c.in_ok-append_sealed.ensures.appended honest log stand)
+pub returns-in_err-append_sealed : goal.returns-in_err-append_sealed
+returns-in_err-append_sealed g c =
+    let failed = err_from_is_err_and c.from_residual.result c.from_residual.ensures.1 in
+    appends-failed g.D.LogDisk _ _ _ _ _ _ c.append_sealed.ensures c.in_err-append_sealed.ensures.cause.failed _ failed.0 failed.1
 
-pub returns-clause-cause : goal.returns-clause-cause
-returns-clause-cause g c = search rules steps 1000000
+pub returns : goal.returns
+returns g c =
+    let done = c.in_ok-append_sealed.ensures in
+    let end = tail_after c.args.tail c.args.batch.now.units in
+    let at : c.after-after.result.at ≡ end.at = omega arith in
+    let next : c.after-after.result.next ≡ end.next = omega arith in
+    appends-then g.D.LogDisk _ _ _ _ _ _ c.append_sealed.ensures done.appended done.shut done.settled done.cause.fine _
+    (λ i. Ok (record { at = at i; next = next i }))

@@ -1,31 +1,25 @@
-use Rattle.std.proofs.Common.{◌∙◌, arith}
-use Rattle.log_disk.proofs.Moments.{Leaves-trans, Leaves-weaken}
-use Rattle.segment_file.proofs.StableGates.{stays-none}
+use Rattle.std.proofs.Common.{◌≡◌, ◌+◌, ◌*◌, Ok, arith}
+use Rattle.std.proofs.lemmas.Result.{err_from_is_err_and}
+use Rattle.segment_file.specs.Lengths.{new_tail}
+use Rattle.segment_file.proofs.GateCloses.{creates-failed, creates-cut, creates-then}
 use Rattle.segment_file.proofs.creating.create.Goals as goal
 
-pub returns-in_err-close_gate-clause-moments : goal.returns-in_err-close_gate-clause-moments
-returns-in_err-close_gate-clause-moments g c = λ honest.
-    Leaves-weaken g.D.LogDisk.moment g.D.LogDisk.images_since _ _ _ _ (stays-none c.args.batch.now.units _) (c.close_gate.ensures.moments honest)
+pub returns-in_err-close_gate : goal.returns-in_err-close_gate
+returns-in_err-close_gate g c =
+    let failed = err_from_is_err_and c.from_residual.result c.from_residual.ensures.1 in
+    creates-failed g.D.LogDisk _ _ _ _ c.close_gate.ensures c.in_err-close_gate.ensures.cause.failed _ failed.0 failed.1
 
-pub returns-in_err-create_sealed-clause-moments : goal.returns-in_err-create_sealed-clause-moments
-returns-in_err-create_sealed-clause-moments g c = λ honest.
-    let closed = Leaves-weaken g.D.LogDisk.moment g.D.LogDisk.images_since _ _ _ _ (stays-none c.args.batch.now.units _) (c.close_gate.ensures.moments honest) in
-    Leaves-trans g.D.LogDisk.moment g.D.LogDisk.images_since _ _ _ _ closed (c.create_sealed.ensures.moments (c.close_gate.ensures.honest.0 honest))
+pub returns-in_err-create_sealed : goal.returns-in_err-create_sealed
+returns-in_err-create_sealed g c =
+    let failed = err_from_is_err_and c.from_residual-in_err-create_sealed.result c.from_residual-in_err-create_sealed.ensures.1 in
+    creates-cut g.D.LogDisk _ _ _ _ c.close_gate.ensures c.in_ok-close_gate.ensures.cause.fine _ _ _ c.create_sealed.ensures
+    c.in_err-create_sealed.ensures.cause.failed _ failed.0 failed.1
 
-pub returns-clause-moments : goal.returns-clause-moments
-returns-clause-moments g c = λ honest.
-    let closed = Leaves-weaken g.D.LogDisk.moment g.D.LogDisk.images_since _ _ _ _ (stays-none c.args.batch.now.units _) (c.close_gate.ensures.moments honest) in
-    Leaves-trans g.D.LogDisk.moment g.D.LogDisk.images_since _ _ _ _ closed (c.create_sealed.ensures.moments (c.close_gate.ensures.honest.0 honest))
-
-pub returns-clause-count : goal.returns-clause-count
-returns-clause-count g c = λ honest.
-    let closed = c.close_gate.ensures.count honest in
-    let sealed = c.create_sealed.ensures.count (c.close_gate.ensures.honest.0 honest) in
-    record { successes = omega (arith, closed.successes, sealed.successes); calls = omega (arith, closed.calls, sealed.calls) }
-
-pub returns-clause-cause : goal.returns-clause-cause
-returns-clause-cause g c = record {
-  later = omega (arith, c.close_gate.ensures.cause.later, c.create_sealed.ensures.cause.later);
-  fine = c.in_ok-create_sealed.ensures.cause.fine ∙ c.in_ok-close_gate.ensures.cause.fine;
-  failed = tt;
-}
+pub returns : goal.returns
+returns g c =
+    let made = c.in_ok-create_sealed.ensures in
+    let end = new_tail c.args.batch.now.units in
+    let at : 12 + 8 * c.count-count.result ≡ end.at = omega (arith, c.count-count.ensures) in
+    let next : c.new.result ≡ end.next = omega (arith, c.new.ensures, c.count-count.ensures) in
+    creates-then g.D.LogDisk _ _ _ _ c.close_gate.ensures c.in_ok-close_gate.ensures.cause.fine _ _ _ c.create_sealed.ensures
+    made.created made.shut made.settled made.cause.fine _ (λ i. Ok (record { at = at i; next = next i }))

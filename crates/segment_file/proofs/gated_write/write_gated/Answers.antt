@@ -1,14 +1,15 @@
-use Rattle.std.proofs.Common.{rules}
+use Rattle.std.proofs.lemmas.Result.{err_from_is_err_and}
+use Rattle.segment_file.proofs.GatedWrites.{gated-failed, gated-then}
 use Rattle.segment_file.proofs.gated_write.write_gated.Goals as goal
 
-pub returns-in_err-write_synced-clause-moments : goal.returns-in_err-write_synced-clause-moments
-returns-in_err-write_synced-clause-moments g c = search rules steps 1600000
+pub returns-in_err-write_synced : goal.returns-in_err-write_synced
+returns-in_err-write_synced g c =
+    let failed = err_from_is_err_and c.from_residual.result c.from_residual.ensures.1 in
+    gated-failed g.D.LogDisk c.args.at c.args.body.now _ _ _ c.write_synced.ensures
+    c.in_err-write_synced.ensures.cause.failed _ failed.0 failed.1
 
-pub returns-clause-moments : goal.returns-clause-moments
-returns-clause-moments g c = search rules steps 1600000
-
-pub returns-clause-written : goal.returns-clause-written
-returns-clause-written g c = search rules steps 300000
-
-pub returns-clause-settled : goal.returns-clause-settled
-returns-clause-settled g c = search rules steps 300000
+pub returns : goal.returns
+returns g c =
+    let wrote = c.in_ok-write_synced.ensures in
+    gated-then g.D.LogDisk c.args.at c.args.body.now _ _ _ c.write_synced.ensures wrote.written wrote.settled
+    wrote.cause.fine _ _ c.write_synced-2.ensures

@@ -1,8 +1,31 @@
-use Rattle.std.proofs.Common.{rules}
+use Rattle.std.proofs.Common.{◌∙◌, sym, subst, length, arith}
+use Rattle.log_disk.specs.Disk.{IsTorn}
+use Rattle.log_disk.proofs.Moments.{Leaves-call, Leaves-trans}
 use Rattle.segment_file.proofs.gated_write.write_synced.Goals as goal
 
-pub returns-clause-settled : goal.returns-clause-settled
-returns-clause-settled g c = search rules steps 300000
-
-pub returns-clause-cause : goal.returns-clause-cause
-returns-clause-cause g c = search rules steps 600000
+pub returns : goal.returns
+returns g c =
+    let wrote = c.in_ok-write_at.ensures in
+    let synced = c.in_ok-sync.ensures in
+    record {
+      written = λ honest. synced.reads (wrote.honest.0 honest) ∙ wrote.written honest;
+      settled = λ honest crash left. synced.settled (wrote.honest.0 honest) crash left ∙ sym (synced.reads (wrote.honest.0 honest));
+      torn = λ honest.
+          subst (λ file. IsTorn c.args.at (length c.args.bytes.now) (g.D.LogDisk.reads c.args.disk.now) file)
+          (sym (synced.reads (wrote.honest.0 honest))) (wrote.torn honest);
+      moments = Leaves-trans g.D.LogDisk.moment g.D.LogDisk.images_since _ _ _ _
+          (Leaves-call g.D.LogDisk.moment g.D.LogDisk.images_since g.D.LogDisk.images _ _ _ wrote.time wrote.images)
+          (Leaves-call g.D.LogDisk.moment g.D.LogDisk.images_since g.D.LogDisk.images _ _ _ synced.time
+          (λ crash left. wrote.images crash (synced.images crash left)));
+      honest = (λ honest. synced.honest.0 (wrote.honest.0 honest), λ honest. wrote.honest.1 (synced.honest.1 honest));
+      attached = synced.attached ∙ wrote.attached;
+      count = λ honest. record {
+        successes = omega (arith, wrote.count honest, synced.count (wrote.honest.0 honest));
+        calls = omega (arith, wrote.calls honest, synced.calls (wrote.honest.0 honest));
+      };
+      cause = record {
+        later = omega (arith, wrote.cause.later, synced.cause.later);
+        fine = synced.cause.fine ∙ wrote.cause.fine;
+        failed = tt;
+      };
+    }
