@@ -1,6 +1,7 @@
-use Rattle.std.proofs.Common.{arith}
-use Rattle.log_disk.proofs.Moments.{Leaves-weaken}
-use Rattle.segment_cut.proofs.Behind.{added, behind-first, torn-no_log, within-underway}
+use Rattle.std.proofs.Common.{◌≡◌, ◌+◌, ◌*◌, refl, length, arith}
+use Rattle.std.proofs.lemmas.Result.{err_from_is_err_and}
+use Rattle.segment_cut.proofs.Behind.{within-underway}
+use Rattle.segment_cut.proofs.Adding.{adds-failed, adds-then}
 use Rattle.segment_cut.proofs.underway.add_cut.Goals as goal
 
 pub write_opened-requires-clause-within : goal.write_opened-requires-clause-within
@@ -8,20 +9,17 @@ write_opened-requires-clause-within g c = λ honest.
     let underway = c.requires.underway honest in
     within-underway c.args.tail underway.0 underway.1 _ _ (g.met.D.LogDisk.read_is_image _ honest) underway.2
 
-pub returns-in_err-write_opened-clause-moments : goal.returns-in_err-write_opened-clause-moments
-returns-in_err-write_opened-clause-moments g c = λ honest.
-    let underway = c.requires.underway honest in
-    let behind = behind-first c.args.tail underway.0 underway.1 _ _ (g.met.D.LogDisk.read_is_image _ honest) underway.2 in
-    Leaves-weaken g.D.LogDisk.moment g.D.LogDisk.images_since _ _ _ _ (torn-no_log c.args.tail.at _ _ underway.2.shut behind) c.write_opened.ensures.moments
+pub returns-in_err-write_opened : goal.returns-in_err-write_opened
+returns-in_err-write_opened g c =
+    let failed = err_from_is_err_and c.from_residual.result c.from_residual.ensures.1 in
+    adds-failed g.D.LogDisk c.args.tail _ _ _ _ (g.met.D.LogDisk.read_is_image _) c.requires.underway _ c.write_opened.ensures
+    c.in_err-write_opened.ensures.cause.failed _ failed.0 failed.1
 
-pub returns-clause-moments : goal.returns-clause-moments
-returns-clause-moments g c = λ honest.
-    let underway = c.requires.underway honest in
-    let behind = behind-first c.args.tail underway.0 underway.1 _ _ (g.met.D.LogDisk.read_is_image _ honest) underway.2 in
-    Leaves-weaken g.D.LogDisk.moment g.D.LogDisk.images_since _ _ _ _ (torn-no_log c.args.tail.at _ _ underway.2.shut behind) c.write_opened.ensures.moments
-
-pub returns-clause-added : goal.returns-clause-added
-returns-clause-added g c = λ honest log batches underway.
-    added c.args.tail log batches _ _ (g.met.D.LogDisk.read_is_image _ honest) underway c.args.batch.now.units
-    (record { some = c.requires.some; most = c.requires.most; each = c.write_opened.ensures.units }) c.requires.fits
-    _ (omega arith) (omega arith) _ _ (c.in_ok-write_opened.ensures.written honest) c.write_opened.ensures.images
+pub returns : goal.returns
+returns g c =
+    let wrote = c.in_ok-write_opened.ensures in
+    let at : c.args.tail.at + 5 + 8 * c.count-count.result ≡ c.args.tail.at + (5 + 8 * length c.args.batch.now.units) = omega arith in
+    let next : c.new.result ≡ c.args.tail.next + length c.args.batch.now.units = omega arith in
+    adds-then g.D.LogDisk c.args.tail _ _ _ _ (g.met.D.LogDisk.read_is_image _) c.requires.underway _ c.write_opened.ensures
+    (record { some = c.requires.some; most = c.requires.most; each = wrote.units }) c.requires.fits wrote.written wrote.cause.fine
+    _ (record { at = c.args.tail.at + 5 + 8 * c.count-count.result; next = c.new.result }) refl at next
