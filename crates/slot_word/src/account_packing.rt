@@ -30,9 +30,13 @@ impl AccountWord {
 
 /// A law: what was packed is unpacked, and each word is packed of what it unpacks to.
 pub fn account_word_law()
-    ensures fits { (held : Bool) (balance mark : ℕ) → balance < 2 ^ 31 → mark < 2 ^ 32 → packed held balance mark < 2 ^ 64 }
-    ensures held { (held : Bool) (balance mark : ℕ) → balance < 2 ^ 31 → mark < 2 ^ 32 → held_in (packed held balance mark) ≡ held }
-    ensures balance { (held : Bool) (balance mark : ℕ) → balance < 2 ^ 31 → mark < 2 ^ 32 → balance_in (packed held balance mark) ≡ balance }
-    ensures mark { (held : Bool) (balance mark : ℕ) → balance < 2 ^ 31 → mark < 2 ^ 32 → mark_in (packed held balance mark) ≡ mark }
+    ensures fits { (held : Bool) (balance mark : ℕ) → balance < 2 ^ 31 → mark < 2 ^ 32
+        → packed held balance mark < 2 ^ 64 }
+    ensures held { (held : Bool) (balance mark : ℕ) → balance < 2 ^ 31 → mark < 2 ^ 32
+        → held_in (packed held balance mark) ≡ held }
+    ensures balance { (held : Bool) (balance mark : ℕ) → balance < 2 ^ 31 → mark < 2 ^ 32
+        → balance_in (packed held balance mark) ≡ balance }
+    ensures mark { (held : Bool) (balance mark : ℕ) → balance < 2 ^ 31 → mark < 2 ^ 32
+        → mark_in (packed held balance mark) ≡ mark }
     ensures word { (word : ℕ) → word < 2 ^ 64 → packed (held_in word) (balance_in word) (mark_in word) ≡ word }
 {}

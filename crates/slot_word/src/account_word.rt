@@ -1,3 +1,5 @@
+//! An account as the table holds it: its fields and how each is read.
+
 ghost use Rattle.std.specs.Prelude.{◌≡◌, ◌<◌, ◌^◌, true, false};
 
 /// An account as the table holds it in one word: whether a worker holds it, its balance (0 to 2147483647), and the LSN at

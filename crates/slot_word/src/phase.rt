@@ -1,3 +1,5 @@
+//! The phases of a group, and the number of each in a slot's word.
+
 ghost use Rattle.std.specs.Prelude.{◌≡◌};
 ghost use Rattle.slot_word.specs.SlotWord.{number_of};
 

@@ -37,14 +37,19 @@ impl SlotWord {
 /// says so, and two different slots have different words. A release of what remains, taken from the word by subtraction, changes
 /// what remains alone. A swap to a pending slot leaves the one word of such a slot, whatever stood there.
 pub fn slot_word_law()
-    ensures fits { (phase : Phase) (total remaining : ℕ) → total < 2 ^ 31 → remaining < 2 ^ 31 → packed phase total remaining < 2 ^ 64 }
-    ensures phase { (phase : Phase) (total remaining : ℕ) → total < 2 ^ 31 → remaining < 2 ^ 31 → phase_in (packed phase total remaining) ≡ phase }
-    ensures total { (phase : Phase) (total remaining : ℕ) → total < 2 ^ 31 → remaining < 2 ^ 31 → total_in (packed phase total remaining) ≡ total }
-    ensures remaining { (phase : Phase) (total remaining : ℕ) → total < 2 ^ 31 → remaining < 2 ^ 31 → remaining_in (packed phase total remaining) ≡ remaining }
+    ensures fits { (phase : Phase) (total remaining : ℕ) → total < 2 ^ 31 → remaining < 2 ^ 31
+        → packed phase total remaining < 2 ^ 64 }
+    ensures phase { (phase : Phase) (total remaining : ℕ) → total < 2 ^ 31 → remaining < 2 ^ 31
+        → phase_in (packed phase total remaining) ≡ phase }
+    ensures total { (phase : Phase) (total remaining : ℕ) → total < 2 ^ 31 → remaining < 2 ^ 31
+        → total_in (packed phase total remaining) ≡ total }
+    ensures remaining { (phase : Phase) (total remaining : ℕ) → total < 2 ^ 31 → remaining < 2 ^ 31
+        → remaining_in (packed phase total remaining) ≡ remaining }
     ensures word { (word : ℕ) → word < 2 ^ 64 → packed (phase_in word) (total_in word) (remaining_in word) ≡ word }
     ensures slot { (slot : SlotWord) → IsSlotWord (word_of slot) }
     ensures exact { (word : ℕ) → word < 2 ^ 64 → IsSlotWord word → (slot : SlotWord) × (word_of slot ≡ word) }
     ensures apart { (a b : SlotWord) → word_of a ≡ word_of b → a ≡ b }
-    ensures release { (phase : Phase) (total remaining n : ℕ) → total < 2 ^ 31 → remaining < 2 ^ 31 → n ≤ remaining → subtracted n (packed phase total remaining) ≡ packed phase total (remaining - n) }
+    ensures release { (phase : Phase) (total remaining n : ℕ) → total < 2 ^ 31 → remaining < 2 ^ 31 → n ≤ remaining
+        → subtracted n (packed phase total remaining) ≡ packed phase total (remaining - n) }
     ensures close { (slot : SlotWord) → slot.phase ≡ Pending → (word : ℕ) → swapped (word_of slot) word ≡ packed Pending 0 0 }
 {}

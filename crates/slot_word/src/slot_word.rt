@@ -1,3 +1,5 @@
+//! A slot as the table holds it: its fields, and what a join or a release makes of them.
+
 ghost use Rattle.std.specs.Prelude.{◌≡◌, ◌≤◌, ◌<◌, ◌+◌, ◌-◌, ◌^◌};
 ghost use Rattle.slot_word.specs.declared.phase.Phase.TheVariants.{Gathering, Pending, Published, Refused};
 
