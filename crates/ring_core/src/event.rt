@@ -1,3 +1,5 @@
+//! The atomic actions of the machine.
+
 use lsn_space::Lsn;
 
 /// What one actor does to the ring in one atomic action.

@@ -1,3 +1,5 @@
+//! A reserved range of the log: where it begins, its size, how much of it is filled, and whether it is marked.
+
 ghost use Rattle.std.specs.Prelude.{◌≡◌, ◌+◌, ◌↔◌, IsTrue, true};
 ghost use Rattle.std.specs.Bool.{OnTrue, OnFalse};
 ghost use Rattle.std.specs.List.{position, list_any};

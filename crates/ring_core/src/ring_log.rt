@@ -1,3 +1,5 @@
+//! The log of the ring: its marks, and the reserved ranges that aren't exposed yet.
+
 ghost use Rattle.std.specs.Prelude.{◌≡◌, ◌<◌, ◌↔◌, length, IsTrue, IfSome, OnOk, OnErr, slice_get, option_and_then};
 ghost use Rattle.std.specs.Bool.{OnTrue, OnFalse};
 ghost use Rattle.std.specs.List.{find};

@@ -1,3 +1,5 @@
+//! One run of the ring machine: the log and what each actor has in hand.
+
 ghost use Rattle.std.specs.Prelude.{◌≡◌, ◌↔◌, IsTrue, Ok, IfOk, OnErr};
 ghost use Rattle.ring_core.specs.Machine.{MayReserve, RingStep, start_state};
 ghost use Rattle.ring_core.specs.Rows.{MayNeedMemory};

@@ -1,3 +1,5 @@
+//! What an actor has in hand between two of its atomic actions.
+
 use lsn_space::Lsn;
 
 /// What an actor has in hand.
