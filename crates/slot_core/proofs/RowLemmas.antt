@@ -1,5 +1,5 @@
 -- The row of an actor, by its index.
-use Rattle.std.proofs.Common.{◌≡◌, ℕ, ◌+◌, ◌<◌, cond, true, false, List, [], ◌∷◌, ◌++◌, length, get_or, set, Some, zero, suc, refl, ap, ◌∙◌, arith}
+use Rattle.std.proofs.Common.{◌≡◌, ℕ, ◌+◌, ◌<◌, cond, true, false, List, [], ◌∷◌, ◌++◌, length, get_or, set, Some, zero, suc, refl, sym, ap, ◌∙◌, arith}
 use Rattle.std.specs.List.{AllByRecursion, position, remove}
 use Rattle.std.proofs.lemmas.List.Quantifiers.{position-Some}
 use Rattle.std.proofs.lemmas.List.Recursion.{found_at}
@@ -22,6 +22,11 @@ with_task-index actor task (h ∷ hands) (suc i) d within is before =
 pub with_task-at : (actor : ℕ) (task : Task) (hands : List Hand) (i : ℕ) → position (is_row_of actor) hands ≡ Some i → with_task actor task hands ≡ set hands i (row_of actor task)
 with_task-at actor task hands i is = let at = position-Some (is_row_of actor) hands i (row_of actor task) is in
     with_task-index actor task hands i (row_of actor task) at.0 at.1 at.2
+
+-- the actor's row is written over
+pub row-written : (actor : ℕ) (task : Task) (hands : List Hand) (i : ℕ) (row : Hand) → row ≡ row_of actor task
+    → position (is_row_of actor) hands ≡ Some i → set hands i row ≡ with_task actor task hands
+row-written actor task hands i row new at = ap (set hands i) new ∙ sym (with_task-at actor task hands i at)
 
 -- an actor with no row
 pub task_of-absent : (actor : ℕ) (hands : List Hand) → AllByRecursion (λ h. is_row_of actor h ≡ false) hands → task_of actor hands ≡ nothing

@@ -4,13 +4,13 @@ use Rattle.std.specs.List.{find}
 use Rattle.std.specs.Option.{is_some}
 use Rattle.lsn_space.specs.declared.lsn.TheConstants.{LAST}
 use Rattle.ring_core.specs.RingLog.{Reservation, is_at, is_marked, HasRoom, HasUnfilled}
-use Rattle.ring_core.specs.State.{base_in, looks_at, worked_on}
+use Rattle.ring_core.specs.State.{base_in, looks_at, worked_on, after_look}
 use Rattle.ring_core.specs.declared.event.RingEvent.TheVariants.{Fill, LookExposed, LookMark}
-use Rattle.slot_core.specs.State.{Stage, Idle, Works, Marked, Holds, Raises, Outcome, Granted, GroupPhase, Vacant, Gathering, Closed, Placed, Ready, Told, Emptied, MemberStage, Closes, Waits, Places, Stores, Tells, Fills, Leaves, Membership, Task, Joined, InRing, Group, SlotState, nothing, joined, task_of, membership, ring_stage, reopening, group, empty_group, group_at}
+use Rattle.slot_core.specs.State.{Stage, Idle, Works, Marked, Holds, Raises, Outcome, Granted, Refused, GroupPhase, Vacant, Gathering, Closed, Placed, Ready, Told, Emptied, MemberStage, Closes, Waits, Places, Stores, Tells, Fills, Leaves, Membership, Task, Joined, InRing, Group, SlotState, nothing, joined, task_of, membership, ring_stage, reopening, group, empty_group, group_at, without}
 use Rattle.slot_core.specs.Members.{seats_of, ToPlace, ToReopen}
 use Rattle.slot_core.specs.Groups.{IsGathered}
 use Rattle.slot_core.specs.Laws.{IsSound}
-use Rattle.slot_core.specs.Machine.{Close, Place, PutBase, Tell, Hear, Release, Reopen, Ring, fits, closed_total, MayPlace, told_outcome, MayHear, HasUnfilledPiece, MayFill, HasDone, turned, moved, at_stage, in_ring, after_lead, after_place, stage_heard, after_hear, granted_base, after_fill, after_release, after_look_mark, after_reopen}
+use Rattle.slot_core.specs.Machine.{Close, Place, PutBase, Tell, Hear, Release, Reopen, Ring, fits, closed_total, MayPlace, told_outcome, MayHear, HasUnfilledPiece, MayFill, HasDone, turned, moved, task_released, phase_released, at_stage, in_ring, after_lead, after_place, stage_heard, after_hear, granted_base, after_fill, after_release, after_look_mark, after_reopen}
 use Rattle.slot_parts.specs.Phases.{HasRemaining}
 use Rattle.slot_core.proofs.Hands.{within-groups}
 use Rattle.slot_core.proofs.Keeping.{placing, event-sound}
@@ -78,6 +78,13 @@ module _ (s : SlotState) (j : ℕ) (m : Membership) (sound : IsSound s) (is : me
   pub release-keeps : HasDone m.size m.stage → IsSound (after_release s j (Some m))
   release-keeps h = subst (λ o. IsSound (after_release s j o)) is (event-sound s (Release j) sound (enabled (λ x. HasDone x.size x.stage) h))
 
+  -- what the program makes of the group that the member leaves
+  pub leaving-is : (p : GroupPhase) (t : Task) (q : GroupPhase) → p ≡ (group_at m.slot s.groups).phase
+      → t ≡ task_released m.slot m.size p → q ≡ phase_released j m.size p
+      → moved s j m.slot t (group (without j (group_at m.slot s.groups).members) q) ≡ after_release s j (Some m)
+  leaving-is p t q now task next = λ i. moved s j m.slot ((task ∙ ap (task_released m.slot m.size) now) i)
+      (group (without j (group_at m.slot s.groups).members) ((next ∙ ap (phase_released j m.size) now) i))
+
   -- the group of a leader that is about to place it is closed
   closed : m.stage ≡ Places → (l : ℕ) × (t : ℕ) × ((group_at m.slot s.groups).phase ≡ Closed l t)
   closed h = is-closed j (group_at m.slot s.groups).phase (step-here s j m Places ToPlace sound (at ∙ ap (joined m.slot m.offset m.size) h) refl)
@@ -139,6 +146,15 @@ module _ (s : SlotState) (j : ℕ) (m : Membership) (sound : IsSound s) (is : me
   pub refuses : (t : ℕ) → m.stage ≡ Places → t ≡ closed_total (group_at m.slot s.groups).phase → ¬ HasRoom s.log t → placing s j s.log.tail s.log.durable m t false ≡ after_place s j s.log.tail s.log.durable (Some m)
   refuses t h total full = place-either t false h total (full-unfits t h total full)
 
+  -- what it writes of a group that has none
+  pub refusing-is : (t tail durable : ℕ) (task : Task) → tail ≡ s.log.tail → durable ≡ s.log.durable → task ≡ at_stage Stores m
+      → m.stage ≡ Places → t ≡ closed_total (group_at m.slot s.groups).phase → ¬ HasRoom s.log t
+      → moved s j m.slot task (group (group_at m.slot s.groups).members (Placed j t (Refused tail durable)))
+      ≡ after_place s j s.log.tail s.log.durable (Some m)
+  refusing-is t tail durable task at_tail at_durable stores h total full =
+      (λ i. moved s j m.slot (stores i) (group (group_at m.slot s.groups).members (Placed j t (Refused (at_tail i) (at_durable i)))))
+      ∙ refuses t h total full
+
 -- an actor opens a slot
 module _ (s : SlotState) (j k : ℕ) (sound : IsSound s) (idle : ring_stage (task_of j s.hands) ≡ Idle) (opens : reopening (task_of j s.hands) ≡ Some k) where
   opener-is : (task : Task) → ring_stage task ≡ Idle → reopening task ≡ Some k → task ≡ InRing (Some k) Idle
@@ -175,3 +191,10 @@ look_exposed-keeps s j sound is = event-sound s (Ring (LookExposed j)) sound is
 
 pub look_mark-keeps : (s : SlotState) (j e : ℕ) → IsSound s → looks_at (ring_stage (task_of j s.hands)) ≡ Some e → IsSound (turned s j (in_ring (cond (is_marked e s.log.reservations) (Raises e) Idle) (task_of j s.hands)))
 look_mark-keeps s j e sound is = subst (λ o. IsSound (after_look_mark s j (task_of j s.hands) o)) is (event-sound s (Ring (LookMark j)) sound (ap is_some is))
+
+-- what the program writes, over s, which stands for the state now, where the range at e is looked at
+pub looking-is : (now : SlotState) (j : ℕ) (s : SlotState) → s ≡ now → (e : ℕ) (held next : Task) (mark : Bool) (stage : Stage)
+    → held ≡ task_of j now.hands → mark ≡ is_marked e s.log.reservations → stage ≡ after_look e mark → next ≡ in_ring stage held
+    → next ≡ in_ring (after_look e (is_marked e now.log.reservations)) (task_of j now.hands)
+looking-is now j s is e held next mark stage at marks looks turns = turns
+    ∙ (λ i. in_ring ((looks ∙ ap (after_look e) (marks ∙ ap (λ (z : SlotState). is_marked e z.log.reservations) is)) i) (at i))

@@ -60,12 +60,14 @@ pub record IsGathered (quarter : ℕ) (ms : List Member) (total : ℕ) : Type 0 
   pub within_quarter : total ≤ quarter
 
 -- the group has its range, with no unit released, or is refused
-pub record IsPlaced (quarter : ℕ) (reservations : List Reservation) (ms : List Member) (total : ℕ) (outcome : Outcome) (units : ℕ) : Type 0 where
+pub record IsPlaced (quarter : ℕ) (reservations : List Reservation) (ms : List Member) (total : ℕ)
+    (outcome : Outcome) (units : ℕ) : Type 0 where
   pub gathered : IsGathered quarter ms total
   pub covers : IsTrueOutcome reservations outcome total total units
 
 -- from then on those of who hasn't released lie apart, and what remains is their sum
-pub record IsReleasing (quarter : ℕ) (reservations : List Reservation) (ms : List Member) (total : ℕ) (outcome : Outcome) (remaining units : ℕ) : Type 0 where
+pub record IsReleasing (quarter : ℕ) (reservations : List Reservation) (ms : List Member) (total : ℕ)
+    (outcome : Outcome) (remaining units : ℕ) : Type 0 where
   pub apart : LieApart 0 ms total
   pub sum : sum_of ms ≡ remaining
   pub positive : 1 ≤ remaining
@@ -80,10 +82,12 @@ IsGroup quarter reservations units ms (Gathering leader total) = IsGathered quar
 IsGroup quarter reservations units ms (Closed leader total) = IsGathered quarter ms total
 IsGroup quarter reservations units ms (Placed leader total outcome) = IsPlaced quarter reservations ms total outcome units
 IsGroup quarter reservations units ms (Ready leader total outcome) = IsPlaced quarter reservations ms total outcome units
-IsGroup quarter reservations units ms (Told total outcome remaining) = IsReleasing quarter reservations ms total outcome remaining units
+IsGroup quarter reservations units ms (Told total outcome remaining) =
+    IsReleasing quarter reservations ms total outcome remaining units
 IsGroup quarter reservations units ms (Emptied last) = ms ≡ []
 
 -- the groups of all slots are so
 abbrev pub AllGroups : ℕ → List Reservation → List Hand → List Group → Type 0
 AllGroups quarter reservations hands groups =
-    (slot : ℕ) → IsGroup quarter reservations (units_of slot hands (group_at slot groups).members) (group_at slot groups).members (group_at slot groups).phase
+    (slot : ℕ) → IsGroup quarter reservations (units_of slot hands (group_at slot groups).members)
+    (group_at slot groups).members (group_at slot groups).phase

@@ -30,7 +30,8 @@ HasRoomFor s m = fits s.log (closed_total (group_at m.slot s.groups).phase) s.lo
 
 -- a leader whose group has room may place it
 abbrev pub MayPlaceNow : SlotState → ℕ → Type 0
-MayPlaceNow s actor = IsEnabled s (Place actor s.log.tail s.log.durable) × IsSomeAnd (membership (task_of actor s.hands)) (HasRoomFor s)
+MayPlaceNow s actor =
+    IsEnabled s (Place actor s.log.tail s.log.durable) × IsSomeAnd (membership (task_of actor s.hands)) (HasRoomFor s)
 
 -- of the ring machine's events only a reservation that is enabled may need memory
 abbrev pub MayNeedMemoryInRing : SlotState → RingEvent → Type 0

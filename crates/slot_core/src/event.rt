@@ -1,3 +1,5 @@
+//! The atomic actions of the machine.
+
 use ring_core::RingEvent;
 
 /// What one actor does in one atomic action.

@@ -1,3 +1,5 @@
+//! The group at a slot: its members, and how far it has come.
+
 ghost use Rattle.std.specs.Prelude.{◌≡◌, ◌≢◌, ◌+◌, ◌≤◌, ◌++◌, ◌∷◌, [], OnOk, OnErr};
 ghost use Rattle.std.specs.List.{position};
 ghost use Rattle.lsn_space.specs.declared.lsn.TheConstants.{LAST};

@@ -1,3 +1,5 @@
+//! The list of what each actor has in hand, and how it is looked up and changed.
+
 ghost use Rattle.std.specs.Prelude.{◌≡◌, ◌≢◌, ◌<◌, vec_len, vec_capacity};
 ghost use Rattle.std.specs.List.{position};
 ghost use Rattle.slot_core.specs.State.{nothing, row_of, task_of, with_task};

@@ -1,3 +1,5 @@
+//! The laws of the machine.
+
 ghost use Rattle.std.specs.Prelude.{◌≡◌, ◌≤◌, ℕ, List};
 ghost use Rattle.std.specs.List.{AllByRecursion};
 ghost use Rattle.lsn_space.specs.declared.lsn.TheConstants.{LAST};
@@ -12,9 +14,11 @@ ghost use Rattle.slot_core.specs.RingPart.{with_groups, ring_events, IsNoJoin};
 /// The machine's laws: from any start, with any ring and any number of slots, every list of events leads to one state, and this
 /// state is sound. Where nobody has anything in hand all is exposed, and every slot gathers with total 0.
 pub fn slot_laws()
-    ensures reaches { (start ring slots : ℕ) (events : List GroupEvent) → (s : SlotState) × RunsGroups (start_state start ring slots) events s }
+    ensures reaches { (start ring slots : ℕ) (events : List GroupEvent)
+        → (s : SlotState) × RunsGroups (start_state start ring slots) events s }
     ensures one_state { (old s t : SlotState) (events : List GroupEvent) → RunsGroups old events s → RunsGroups old events t → s ≡ t }
-    ensures sound { (start ring slots : ℕ) (events : List GroupEvent) (s : SlotState) → start ≤ LAST → RunsGroups (start_state start ring slots) events s → IsSound s }
+    ensures sound { (start ring slots : ℕ) (events : List GroupEvent) (s : SlotState) → start ≤ LAST
+        → RunsGroups (start_state start ring slots) events s → IsSound s }
     ensures exposed_at_rest { (s : SlotState) → IsSound s → IsAtRest s → s.log.exposed ≡ s.log.tail }
     ensures empty_at_rest { (s : SlotState) → IsSound s → IsAtRest s → (slot : ℕ) → group_at slot s.groups ≡ empty_group }
 {}
@@ -42,5 +46,6 @@ pub fn group_laws()
 
 /// A law: the ring machine is this one without slots. Where nobody joins, both have the same log after the same events.
 pub fn ring_part_law()
-    ensures { (groups : List Group) (old new : RingState) (s : SlotState) (events : List GroupEvent) → AllByRecursion IsNoJoin events → RunsRing old (ring_events events) new → RunsGroups (with_groups groups old) events s → s.log ≡ log_of new }
+    ensures { (groups : List Group) (old new : RingState) (s : SlotState) (events : List GroupEvent) → AllByRecursion IsNoJoin events
+        → RunsRing old (ring_events events) new → RunsGroups (with_groups groups old) events s → s.log ≡ log_of new }
 {}

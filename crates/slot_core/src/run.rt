@@ -1,3 +1,5 @@
+//! One run of the machine: the log, what each actor has in hand, and the groups at the slots.
+
 ghost use Rattle.std.specs.Prelude.{◌≡◌, IfOk, OnErr};
 ghost use Rattle.slot_core.specs.Machine.{GroupStep, start_state};
 ghost use Rattle.slot_core.specs.Run.{event_at, MayNeedMemory};

@@ -1,6 +1,6 @@
 //! What the events look up, and the changes that they make.
 ghost use Rattle.std.specs.Prelude.{◌≡◌, ◌≢◌, ◌<◌, length, replicate, IfOk};
-ghost use Rattle.slot_core.specs.State.{nothing, task_of, group, empty_group, group_at, without};
+ghost use Rattle.slot_core.specs.State.{nothing, task_of, membership, group, empty_group, group_at, without};
 ghost use Rattle.slot_core.specs.Machine.{turned, moved};
 ghost use Rattle.slot_core.specs.Laws.{IsSound};
 
@@ -8,7 +8,7 @@ use crate::group::Group;
 use crate::hand::{task_of, turn};
 use crate::run::SlotRun;
 use lsn_space::NoMemory;
-use slot_parts::{GroupPhase, Task};
+use slot_parts::{GroupPhase, Membership, Task};
 use std::alloc::Global;
 
 impl SlotRun {
@@ -18,6 +18,14 @@ impl SlotRun {
         ensures sound { IsSound self.now }
     {
         task_of(&self.hands, by)
+    }
+
+    /// What the actor has in a group, where it is a member. The state is sound, as always.
+    pub(super) fn membership(&self, by: u32) -> Option<Membership>
+        ensures member { result ≡ membership (task_of by self.now.hands) }
+        ensures sound { IsSound self.now }
+    {
+        self.task(by).membership()
     }
 
     /// How far the group at the slot has come.

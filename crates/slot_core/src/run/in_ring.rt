@@ -1,5 +1,6 @@
 //! The events of the ring machine.
 ghost use Rattle.std.specs.Prelude.{◌≡◌, ◌↔◌, IsTrue, IfOk, OnErr};
+ghost use Rattle.ring_core.specs.State.{after_look};
 ghost use Rattle.slot_core.specs.Machine.{Ring, IsRingEnabled, GroupStep};
 ghost use Rattle.slot_core.specs.Run.{MayNeedMemoryInRing};
 ghost use Rattle.ring_core.specs.declared.event.RingEvent.TheVariants.{Reserve, Mark, LookExposed, LookMark, Raise, Flushed};
@@ -86,11 +87,7 @@ impl SlotRun {
         let Some(at) = looks_at(task.ring_stage()) else {
             return false;
         };
-        let stage = if self.log.is_marked(at) {
-            Stage::Raises { at }
-        } else {
-            Stage::Idle
-        };
+        let stage = stage_after_look(at, self.log.is_marked(at));
         self.turn(by, task.in_ring(stage));
         true
     }
@@ -106,5 +103,16 @@ impl SlotRun {
         let at = self.log.exposed();
         turn(&mut self.hands, by, task.in_ring(Stage::Holds { at }));
         true
+    }
+}
+
+/// What an actor has in hand that has looked whether the range at `at` is marked: where it is, exposed is to be raised from there.
+fn stage_after_look(at: Lsn, is_marked: bool) -> Stage
+    ensures { result ≡ after_look at is_marked }
+{
+    if is_marked {
+        Stage::Raises { at }
+    } else {
+        Stage::Idle
     }
 }

@@ -45,7 +45,7 @@ impl SlotRun {
     pub(super) fn close(&mut self, by: u32) -> bool
         ensures { GroupStep self.old (Close by) result self.new }
     {
-        let Some(member) = self.task(by).membership() else {
+        let Some(member) = self.membership(by) else {
             return false;
         };
         let MemberStage::Closes = member.stage else {
@@ -58,7 +58,7 @@ impl SlotRun {
     pub(super) fn put_base(&mut self, by: u32) -> bool
         ensures { GroupStep self.old (PutBase by) result self.new }
     {
-        let Some(member) = self.task(by).membership() else {
+        let Some(member) = self.membership(by) else {
             return false;
         };
         let MemberStage::Stores = member.stage else {
@@ -71,7 +71,7 @@ impl SlotRun {
     pub(super) fn tell(&mut self, by: u32) -> bool
         ensures { GroupStep self.old (Tell by) result self.new }
     {
-        let Some(member) = self.task(by).membership() else {
+        let Some(member) = self.membership(by) else {
             return false;
         };
         let MemberStage::Tells = member.stage else {
@@ -96,7 +96,7 @@ impl SlotRun {
         ensures err { OnErr result (self.new ≡ self.old) }
         ensures memory { OnErr result (MayPlaceNow self.old by) }
     {
-        let Some(member) = self.task(by).membership() else {
+        let Some(member) = self.membership(by) else {
             return Ok(false);
         };
         let MemberStage::Places = member.stage else {

@@ -12,7 +12,7 @@ impl SlotRun {
     pub(super) fn hear(&mut self, by: u32) -> bool
         ensures { GroupStep self.old (Hear by) result self.new }
     {
-        let Some(member) = self.task(by).membership() else {
+        let Some(member) = self.membership(by) else {
             return false;
         };
         let MemberStage::Waits = member.stage else {
@@ -28,8 +28,7 @@ impl SlotRun {
     pub(super) fn fill(&mut self, by: u32) -> bool
         ensures { GroupStep self.old (Ring (Fill by)) result self.new }
     {
-        let task = self.task(by);
-        match task.membership() {
+        match self.membership(by) {
             Some(member) => {
                 if !member.stage.has_unfilled(member.size) {
                     return false;
@@ -71,7 +70,7 @@ impl SlotRun {
     pub(super) fn release(&mut self, by: u32) -> bool
         ensures { GroupStep self.old (Release by) result self.new }
     {
-        let Some(member) = self.task(by).membership() else {
+        let Some(member) = self.membership(by) else {
             return false;
         };
         if !member.stage.has_done(member.size) {

@@ -1,14 +1,14 @@
-use Rattle.std.proofs.Common.{◌≡◌, ◌∷◌, [], ◌++◌, slice_set, Some, None, sym, ap, ◌∙◌}
+use Rattle.std.proofs.Common.{◌≡◌, ◌∷◌, [], ◌++◌, None, sym, ap, ◌∙◌}
 use Rattle.std.specs.List.{position}
 use Rattle.ring_core.proofs.LookupLemmas.{position-none}
 use Rattle.slot_core.specs.Rows.{is_row_of}
-use Rattle.slot_core.proofs.RowLemmas.{with_task-at, with_task-absent}
+use Rattle.slot_core.proofs.RowLemmas.{row-written, with_task-absent}
 use Rattle.slot_core.proofs.hand.take_up.Goals as goal
 
 pub returns-in-Some : goal.returns-in-Some
 returns-in-Some c =
-    let at : position (is_row_of c.args.actor) c.args.hands.now.items ≡ Some c.in-Some.at = ap (position (is_row_of c.args.actor)) (sym c.deref.ensures.value) ∙ sym c.index_of.ensures ∙ c.in-Some.is in
-    ap (slice_set c.args.hands.now.items c.in-Some.at) c.new.ensures ∙ sym (with_task-at c.args.actor c.args.task c.args.hands.now.items c.in-Some.at at)
+    row-written c.args.actor c.args.task c.args.hands.now.items c.in-Some.at _ c.new.ensures
+    (ap (position (is_row_of c.args.actor)) (sym c.deref.ensures.value) ∙ sym c.index_of.ensures ∙ c.in-Some.is)
 
 pub returns-in-None : goal.returns-in-None
 returns-in-None c =
