@@ -3,6 +3,7 @@ pub mod BoundaryLemmas
 pub mod DumpLemmas
 pub mod ListingLemmas
 pub mod OpenedLemmas
+pub mod PuttingLemmas
 pub mod RecoveryLemmas
 pub mod SnapshotLemmas
 pub mod TextLemmas

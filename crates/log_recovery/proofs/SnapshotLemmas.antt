@@ -1,17 +1,12 @@
 -- How the lines of what stands before a list are written, account by account.
-use Rattle.std.proofs.Common.{◌≡◌, ◌≤◌, ℕ, zero, suc, ◌+◌, List, [], ◌∷◌, ◌++◌, length, drop, Option, Some, Result, refl, ap, ◌∙◌, sym, subst, arith, append_assoc}
+use Rattle.std.proofs.Common.{◌≡◌, ◌≤◌, ℕ, zero, suc, ◌+◌, List, [], ◌∷◌, ◌++◌, length, drop, Option, Some, refl, ap, ◌∙◌, sym, subst, arith, append_assoc}
 use Rattle.std.specs.List.{slice_get}
 use Rattle.std.proofs.lemmas.List.{append-nil, drop_all}
 use Rattle.std.proofs.lemmas.Option.{slice_get_within}
 use Rattle.lsn_space.specs.Opening.{Opening}
-use Rattle.log_disk.specs.Faults.{HasCause}
 use Rattle.log_disk.specs.Streams.{AppendsPart, AppendsBut}
 use Rattle.log_disk.proofs.Blocks.{AppendsBut-none, AppendsBut-more, AppendsBut-part, AppendsPart-first}
 use Rattle.log_recovery.specs.Dump.{row_line, row_lines, snapshot_line, snapshot_lines, opening_lines}
-
--- where no fault was counted until then
-pub cause-since : {T E : Type 0} (first before now : ℕ) (result : Result T E) → before ≡ first → HasCause before now result → HasCause first now result
-cause-since first before now result same cause = subst (λ count. HasCause count now result) same cause
 
 -- from this row on
 drop-row : (rows : List (ℕ × ℕ)) (n : ℕ) (row : ℕ × ℕ) → slice_get rows n ≡ Some row → drop n rows ≡ row ∷ drop (n + 1) rows
@@ -73,24 +68,10 @@ lines-some : (lsn txn : ℕ) (rows : List (ℕ × ℕ)) → (length rows ≡ 0 �
 lines-some lsn txn [] some = absurd (some refl)
 lines-some lsn txn (row ∷ rows) some = refl
 
-module _ (opening : Opening) (first : List ℕ) (old : Option (List ℕ)) where
-  pub opening-none : length opening.accounts ≡ 0 → AppendsBut old old (first ++ opening_lines opening) first
-  opening-none none =
-      subst (λ bytes. AppendsBut old old bytes first) (sym (ap (λ list. first ++ list) (lines-none opening.lsn opening.txn opening.accounts none) ∙ append-nil first))
-      (AppendsBut-none old first)
+-- an opening that is shown so has no line, or these
+pub opening-none : {opening shown : Opening} → opening ≡ shown → length opening.accounts ≡ 0 → opening_lines shown ≡ []
+opening-none {opening} is none = ap opening_lines (sym is) ∙ lines-none opening.lsn opening.txn opening.accounts none
 
-  module _ (some : length opening.accounts ≡ 0 → ⊥) where
-    opening-split : first ++ opening_lines opening ≡ (first ++ snapshot_line opening.lsn opening.txn) ++ row_lines 0 opening.accounts
-    opening-split = ap (λ list. first ++ list) (lines-some opening.lsn opening.txn opening.accounts some)
-        ∙ sym (append_assoc first (snapshot_line opening.lsn opening.txn) (row_lines 0 opening.accounts))
-
-    pub opening-first_cut : (mid : Option (List ℕ)) → AppendsPart old mid (first ++ snapshot_line opening.lsn opening.txn) → AppendsPart old mid (first ++ opening_lines opening)
-    opening-first_cut mid cut = AppendsPart-first old mid _ _ (row_lines 0 opening.accounts) cut opening-split
-
-    module _ (mid new : Option (List ℕ)) (waiting : List ℕ) (put : AppendsBut old mid (first ++ snapshot_line opening.lsn opening.txn) waiting) where
-      pub opening-all : (waiting' : List ℕ) → AppendsBut mid new (waiting ++ row_lines 0 opening.accounts) waiting' → AppendsBut old new (first ++ opening_lines opening) waiting'
-      opening-all waiting' rows =
-          subst (λ bytes. AppendsBut old new bytes waiting') (sym opening-split) (AppendsBut-more old mid new _ waiting put (row_lines 0 opening.accounts) waiting' rows)
-
-      pub opening-cut : AppendsPart mid new (waiting ++ row_lines 0 opening.accounts) → AppendsPart old new (first ++ opening_lines opening)
-      opening-cut cut = subst (AppendsPart old new) (sym opening-split) (AppendsBut-part old mid new _ waiting put (row_lines 0 opening.accounts) cut)
+pub opening-some : {opening shown : Opening} → opening ≡ shown → (length opening.accounts ≡ 0 → ⊥)
+    → opening_lines shown ≡ snapshot_line opening.lsn opening.txn ++ row_lines 0 opening.accounts
+opening-some {opening} is some = ap opening_lines (sym is) ∙ lines-some opening.lsn opening.txn opening.accounts some

@@ -17,14 +17,16 @@ use Rattle.log_recovery.specs.declared.judging.UnitsFault.TheVariants as fault
 use Rattle.log_recovery.specs.Listing.{IsBadRecAt}
 
 -- the records before this rest of the units are taken
-pub record HasTakenFront {T : Type 0} (HasTaken : sums.Opening → T → List Placed → Type 0) (opening : Opening) (units rest : List ℕ) (taker : T) : Type 0 where
+pub record HasTakenFront {T : Type 0} (HasTaken : sums.Opening → T → List Placed → Type 0) (opening : Opening)
+    (units rest : List ℕ) (taker : T) : Type 0 where
   pub records : List Rec
   pub each : AllByRecursion IsSpellable records
   pub whole : units ≡ units_of records ++ rest
   pub taken : HasTaken (opening_of opening) taker (history_from opening.lsn [] records)
 
 -- the records of the units are taken
-pub record HasTakenUnits {T : Type 0} (HasTaken : sums.Opening → T → List Placed → Type 0) (opening : Opening) (units : List ℕ) (taker : T) : Type 0 where
+pub record HasTakenUnits {T : Type 0} (HasTaken : sums.Opening → T → List Placed → Type 0) (opening : Opening)
+    (units : List ℕ) (taker : T) : Type 0 where
   pub records : List Rec
   pub list : AreUnitsOf units records
   pub taken : HasTaken (opening_of opening) taker (history_from opening.lsn [] records)

@@ -1,5 +1,5 @@
 -- What the bytes of a log say, and what is wrong with bytes that hold no lawful list.
-use Rattle.std.specs.Prelude.{◌≡◌, ℕ, ◌+◌, List}
+use Rattle.std.specs.Prelude.{◌≡◌, ◌≤◌, ℕ, ◌+◌, ◌^◌, List, Result, IfOk, IfErr}
 use Rattle.std.specs.List.{AllByRecursion}
 use Rattle.log_record.specs.declared.rec.Rec.{Rec}
 use Rattle.log_record.specs.declared.rec.Placed.{Placed}
@@ -54,8 +54,15 @@ IsFaultOf bytes fault.NotALog = BeginsAsLog bytes → ⊥
 IsFaultOf bytes fault.BadSnapshot = IsBadSnapshot bytes
 IsFaultOf bytes (fault.BadBatch offset) = IsBadBatch bytes offset
 IsFaultOf bytes (fault.BadRec lsn) = (log : Log) × HoldsLog bytes log × IsBadRecAt log.opening.lsn log.units lsn
-IsFaultOf bytes (fault.Unlawful lsn why) = (list : OpenedList) × HoldsList bytes list × IsUnlawfulAt (opening_of list.opening) (placed list) lsn why
+IsFaultOf bytes (fault.Unlawful lsn why) =
+    (list : OpenedList) × HoldsList bytes list × IsUnlawfulAt (opening_of list.opening) (placed list) lsn why
 IsFaultOf bytes fault.NoMemory = Unit {0}
+
+-- what `recover` answers of the bytes: what they hold, with a number that has room in 33 bits, or why nothing is recovered
+pub record TellsRecovered (bytes : List ℕ) (result : Result Recovered RecoverFault) : Type 0 where
+  pub found : IfOk result (λ recovered. Recovers recovered bytes)
+  pub number : IfOk result (λ recovered. recovered.next_txn ≤ 2 ^ 32)
+  pub fault : IfErr result (IsFaultOf bytes)
 
 -- these records behind what was read before them
 abbrev pub list_of : Listed → List Rec → OpenedList
@@ -74,7 +81,8 @@ pub record ListsBytes (listed : Listed) (bytes : List ℕ) : Type 0 where
   pub stands : LogStandsAt listed.tail (log_of (list_of listed records)) bytes
 
 -- this lawful list, which the bytes hold, is taken behind its opening
-pub record TakesBytes {T : Type 0} (HasTaken : Opening → T → List Placed → Type 0) (taker : T) (listed : Listed) (bytes : List ℕ) : Type 0 where
+pub record TakesBytes {T : Type 0} (HasTaken : Opening → T → List Placed → Type 0) (taker : T) (listed : Listed)
+    (bytes : List ℕ) : Type 0 where
   pub records : List Rec
   pub held : HoldsLawful bytes (list_of listed records)
   pub has : HasRecords listed records

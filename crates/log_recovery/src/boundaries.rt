@@ -1,10 +1,10 @@
 //! The boundaries of a list: where a record starts, and where the list ends.
 
-ghost use Rattle.std.specs.Prelude.{◌≡◌, ◌⊎◌, ◌+◌, ◌≤◌, List, length, IfSome, IfNone};
+ghost use Rattle.std.specs.Prelude.{◌≡◌, ◌⊎◌, ◌+◌, ◌≤◌, List, length};
 ghost use Rattle.log_record.specs.LogList.{AreUnitsOf};
 ghost use Rattle.log_record.specs.declared.rec.Rec.{Rec};
 ghost use Rattle.lsn_space.specs.declared.lsn.TheConstants.{LAST};
-ghost use Rattle.log_recovery.specs.Boundaries.{GoesOnAt};
+ghost use Rattle.log_recovery.specs.Boundaries.{FindsRest};
 ghost use Rattle.log_recovery.specs.Listing.{IsRecords};
 ghost use Rattle.log_recovery.specs.Opened.{IsListBoundary};
 
@@ -17,9 +17,7 @@ use lsn_space::{Lsn, Opening};
 pub fn units_from<'a>(opening: &Opening, units: &'a [u64], lsn: Lsn) -> Option<&'a [u64]>
     requires records { IsRecords units.now }
     requires fits { opening.now.lsn + length units.now ≤ LAST }
-    ensures some { IfSome result (λ rest. (records : List Rec) → AreUnitsOf units.now records → GoesOnAt opening.now.lsn records lsn rest.now) }
-    ensures none { IfNone result ((records : List Rec) → AreUnitsOf units.now records
-        → IsListBoundary (record { opening = opening.now; records = records }) lsn → ⊥) }
+    ensures { FindsRest opening.now units.now lsn result (λ rest. rest.now) }
 {
     units_behind(opening, units, begin_of(opening), lsn)
 }
@@ -36,9 +34,7 @@ pub fn units_behind<'a>(
     requires known { (records : List Rec) → AreUnitsOf units.now records
         → IsListBoundary (record { opening = opening.now; records = records }) known }
     requires below { (known ≡ opening.now.lsn) ⊎ (known ≤ lsn) }
-    ensures some { IfSome result (λ rest. (records : List Rec) → AreUnitsOf units.now records → GoesOnAt opening.now.lsn records lsn rest.now) }
-    ensures none { IfNone result ((records : List Rec) → AreUnitsOf units.now records
-        → IsListBoundary (record { opening = opening.now; records = records }) lsn → ⊥) }
+    ensures { FindsRest opening.now units.now lsn result (λ rest. rest.now) }
 {
     let goal = lsn.units();
     let mut at = known.units();

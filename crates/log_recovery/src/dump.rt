@@ -3,11 +3,13 @@
 ghost use Rattle.std.specs.Prelude.{◌≡◌, ◌+◌, ◌≤◌, ◌++◌, List, length, drop, codes, OnOk, OnErr};
 ghost use Rattle.std.specs.Io.KnownBytes.{Appends};
 ghost use Rattle.log_disk.specs.Faults.{HasCause};
-ghost use Rattle.log_disk.specs.Streams.{AppendsPart, AppendsBut};
+ghost use Rattle.log_disk.specs.Streams.{AppendsPart};
 ghost use Rattle.log_record.specs.Spelling.{spelling, BeginsWith};
 ghost use Rattle.log_record.specs.declared.rec.Rec.{Rec};
 ghost use Rattle.lsn_space.specs.Number.{number_text};
-ghost use Rattle.log_recovery.specs.Dump.{dump_text, opening_lines, rec_text, record_line, row_line, row_lines, signed_text, snapshot_line, update_text};
+ghost use Rattle.log_recovery.specs.Dump.{dump_text, opening_lines, rec_text, record_line, row_line};
+ghost use Rattle.log_recovery.specs.Dump.{row_lines, signed_text, snapshot_line, update_text};
+ghost use Rattle.log_recovery.specs.Putting.{Puts};
 ghost use Rattle.log_recovery.specs.Recovery.{HasRecords, list_of};
 
 use crate::line::Line;
@@ -48,9 +50,7 @@ fn put_opening<K: Sink>(
     block: &mut OutputBlock,
     sink: &mut K,
 ) -> Result<(), WriteFault>
-    ensures all { OnOk result (AppendsBut (K.held_bytes sink.old) (K.held_bytes sink.new) (block.old ++ opening_lines opening.now) block.new) }
-    ensures prefix { OnErr result (AppendsPart (K.held_bytes sink.old) (K.held_bytes sink.new) (block.old ++ opening_lines opening.now)) }
-    ensures cause { HasCause (K.faults sink.old) (K.faults sink.new) result }
+    ensures { Puts K.Sink (opening_lines opening.now) sink.old sink.new block.old block.new result }
 {
     let count = opening.accounts.count();
     if count == 0 {
@@ -67,9 +67,7 @@ fn put_rows<K: Sink>(
     block: &mut OutputBlock,
     sink: &mut K,
 ) -> Result<(), WriteFault>
-    ensures all { OnOk result (AppendsBut (K.held_bytes sink.old) (K.held_bytes sink.new) (block.old ++ row_lines 0 accounts.now.rows) block.new) }
-    ensures prefix { OnErr result (AppendsPart (K.held_bytes sink.old) (K.held_bytes sink.new) (block.old ++ row_lines 0 accounts.now.rows)) }
-    ensures cause { HasCause (K.faults sink.old) (K.faults sink.new) result }
+    ensures { Puts K.Sink (row_lines 0 accounts.now.rows) sink.old sink.new block.old block.new result }
 {
     'accounts: for account in 0..accounts.count() {
         put_row(account, accounts.at(account), line, block, sink)?;
@@ -85,9 +83,7 @@ fn put_snapshot<K: Sink>(
     block: &mut OutputBlock,
     sink: &mut K,
 ) -> Result<(), WriteFault>
-    ensures all { OnOk result (AppendsBut (K.held_bytes sink.old) (K.held_bytes sink.new) (block.old ++ snapshot_line lsn txn) block.new) }
-    ensures prefix { OnErr result (AppendsPart (K.held_bytes sink.old) (K.held_bytes sink.new) (block.old ++ snapshot_line lsn txn)) }
-    ensures cause { HasCause (K.faults sink.old) (K.faults sink.new) result }
+    ensures { Puts K.Sink (snapshot_line lsn txn) sink.old sink.new block.old block.new result }
 {
     make_snapshot(lsn, txn, line);
     block.put(sink, line.as_slice())
@@ -101,9 +97,7 @@ fn put_row<K: Sink>(
     block: &mut OutputBlock,
     sink: &mut K,
 ) -> Result<(), WriteFault>
-    ensures all { OnOk result (AppendsBut (K.held_bytes sink.old) (K.held_bytes sink.new) (block.old ++ row_line account row) block.new) }
-    ensures prefix { OnErr result (AppendsPart (K.held_bytes sink.old) (K.held_bytes sink.new) (block.old ++ row_line account row)) }
-    ensures cause { HasCause (K.faults sink.old) (K.faults sink.new) result }
+    ensures { Puts K.Sink (row_line account row) sink.old sink.new block.old block.new result }
 {
     make_row(account, row, line);
     block.put(sink, line.as_slice())
@@ -167,9 +161,7 @@ fn put_record<K: Sink>(
     block: &mut OutputBlock,
     sink: &mut K,
 ) -> Result<(), WriteFault>
-    ensures all { OnOk result (AppendsBut (K.held_bytes sink.old) (K.held_bytes sink.new) (block.old ++ record_line start rec.now) block.new) }
-    ensures prefix { OnErr result (AppendsPart (K.held_bytes sink.old) (K.held_bytes sink.new) (block.old ++ record_line start rec.now)) }
-    ensures cause { HasCause (K.faults sink.old) (K.faults sink.new) result }
+    ensures { Puts K.Sink (record_line start rec.now) sink.old sink.new block.old block.new result }
 {
     make_line(start, rec, line);
     block.put(sink, line.as_slice())

@@ -1,3 +1,5 @@
+//! A list of records as it is read from bytes, before its records are tested.
+
 use lsn_space::Opening;
 use segment_file::{LogUnits, Tail};
 

@@ -1,10 +1,12 @@
+//! The recovery of a log from its bytes: the accounts of the lawful list that they hold, or why there is none.
+
 ghost use Rattle.std.specs.Prelude.{◌≡◌, ◌⊎◌, ◌≤◌, ◌^◌, List, ℕ, IfOk, IfErr};
 ghost use Rattle.log_recovery.specs.declared.recovery.RecoverFault.{RecoverFault};
 ghost use Rattle.segment_file.specs.Log.{Log, HoldsLog};
 ghost use Rattle.segment_file.specs.Scan.{IsScanFaultOf, Scans};
 ghost use Rattle.log_recovery.specs.Judging.{IsUnitsFaultOf};
 ghost use Rattle.log_recovery.specs.Opened.{OpenedList};
-ghost use Rattle.log_recovery.specs.Recovery.{HoldsList, HoldsLawful, JudgesBytes, ListsBytes, TakesBytes, Recovers, IsFaultOf, IsListedFaultOf};
+ghost use Rattle.log_recovery.specs.Recovery.{HoldsList, HoldsLawful, JudgesBytes, ListsBytes, TakesBytes, Recovers, TellsRecovered, IsFaultOf, IsListedFaultOf};
 
 use crate::judging::{UnitsFault, taken_units};
 use crate::list_result::Listed;
@@ -143,9 +145,7 @@ pub fn judged(alloc: Global, bytes: &[u8]) -> Result<(Judge, Tail), RecoverFault
 
 /// The accounts of the lawful list that the bytes hold.
 pub fn recover(alloc: Global, bytes: &[u8]) -> Result<Recovered, RecoverFault>
-    ensures found { IfOk result (λ recovered. Recovers recovered bytes.now) }
-    ensures number { IfOk result (λ recovered. recovered.next_txn ≤ 2 ^ 32) }
-    ensures fault { IfErr result (IsFaultOf bytes.now) }
+    ensures { TellsRecovered bytes.now result }
 {
     match judged(alloc, bytes) {
         Ok((judge, tail)) => Ok(recovered_of(judge, tail)),
@@ -155,9 +155,7 @@ pub fn recover(alloc: Global, bytes: &[u8]) -> Result<Recovered, RecoverFault>
 
 /// The same of bytes that nobody reads behind this call.
 pub fn recover_owned(alloc: Global, bytes: Vec<u8>) -> Result<Recovered, RecoverFault>
-    ensures found { IfOk result (λ recovered. Recovers recovered bytes.items) }
-    ensures number { IfOk result (λ recovered. recovered.next_txn ≤ 2 ^ 32) }
-    ensures fault { IfErr result (IsFaultOf bytes.items) }
+    ensures { TellsRecovered bytes.items result }
 {
     match recover_list(alloc, bytes) {
         Ok((recovered, _)) => Ok(recovered),

@@ -1,15 +1,18 @@
-ghost use Rattle.std.specs.Prelude.{◌≡◌, ◌++◌, OnOk, OnErr};
-ghost use Rattle.std.specs.Io.KnownBytes.{Appends};
-ghost use Rattle.log_disk.specs.Faults.{HasCause};
-ghost use Rattle.log_disk.specs.Streams.{AppendsPart, AppendsBut};
+//! The accounts text: a line with the end of the list, and one for each account.
+
+ghost use Rattle.std.specs.Prelude.{◌≡◌};
+ghost use Rattle.log_recovery.specs.Putting.{Puts, Writes};
 ghost use Rattle.log_recovery.specs.Text.{lsn_line, account_line, rows_text};
 
 use arrayvec::ArrayVec;
 use log_disk::{OutputBlock, Sink, WriteFault};
 use lsn_space::{Balances, Lsn, decimal};
 
-/// Room for a line of the accounts text.
-type Line = ArrayVec<u8, 48>;
+/// Room for a line of the accounts text: two numbers of at most 20 digits fit.
+const LINE_ROOM: usize = 48;
+
+/// A line of the accounts text.
+type Line = ArrayVec<u8, LINE_ROOM>;
 
 #[tactic(auto, unfolding(crate::specs::Text::lsn_line))]
 fn end_line(lsn: Lsn) -> Line
@@ -39,9 +42,7 @@ fn balance_line(account: u32, balance: u32) -> Line
 
 /// Puts the line with the end of a list.
 pub fn put_end<K: Sink>(lsn: Lsn, block: &mut OutputBlock, sink: &mut K) -> Result<(), WriteFault>
-    ensures all { OnOk result (AppendsBut (K.held_bytes sink.old) (K.held_bytes sink.new) (block.old ++ lsn_line lsn) block.new) }
-    ensures prefix { OnErr result (AppendsPart (K.held_bytes sink.old) (K.held_bytes sink.new) (block.old ++ lsn_line lsn)) }
-    ensures cause { HasCause (K.faults sink.old) (K.faults sink.new) result }
+    ensures { Puts K.Sink (lsn_line lsn) sink.old sink.new block.old block.new result }
 {
     block.put(sink, end_line(lsn).as_slice())
 }
@@ -52,18 +53,14 @@ fn put_balance<K: Sink>(
     block: &mut OutputBlock,
     sink: &mut K,
 ) -> Result<(), WriteFault>
-    ensures all { OnOk result (AppendsBut (K.held_bytes sink.old) (K.held_bytes sink.new) (block.old ++ account_line account balance) block.new) }
-    ensures prefix { OnErr result (AppendsPart (K.held_bytes sink.old) (K.held_bytes sink.new) (block.old ++ account_line account balance)) }
-    ensures cause { HasCause (K.faults sink.old) (K.faults sink.new) result }
+    ensures { Puts K.Sink (account_line account balance) sink.old sink.new block.old block.new result }
 {
     block.put(sink, balance_line(account, balance).as_slice())
 }
 
 /// Writes the accounts text of a log that ends at this LSN, or a part of it at a fault.
 pub fn put_accounts<K: Sink>(lsn: Lsn, accounts: &Balances, sink: &mut K) -> Result<(), WriteFault>
-    ensures all { OnOk result (Appends (K.held_bytes sink.old) (K.held_bytes sink.new) (rows_text lsn accounts.now.rows)) }
-    ensures prefix { OnErr result (AppendsPart (K.held_bytes sink.old) (K.held_bytes sink.new) (rows_text lsn accounts.now.rows)) }
-    ensures cause { HasCause (K.faults sink.old) (K.faults sink.new) result }
+    ensures { Writes K.Sink (rows_text lsn accounts.now.rows) sink.old sink.new result }
 {
     let mut block = OutputBlock::new();
     put_end(lsn, &mut block, sink)?;

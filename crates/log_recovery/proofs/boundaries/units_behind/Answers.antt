@@ -30,15 +30,24 @@ records-preserved c =
     seeks-next _ _ _ _ _ c.records.invariant c.in-Ok.field-0-0 c.in-Ok.ensures.found.0 (omega (arith, c.records-test.true)) _ _ dropped
     (ap (λ n. c.records.at + n) c.in-Ok.ensures.found.1)
 
-pub returns-in_default-clause-none : goal.returns-in_default-clause-none
-returns-in_default-clause-none c = λ records list is.
-    seeks-ended _ _ _ _ _ c.records.invariant (omega (arith, c.records-test.true)) c.in_default.ensures.bad records list is.0 (c.units-goal.ensures ∙ is.1) is.2
+pub returns-in_default : goal.returns-in_default
+returns-in_default c = record {
+  none = λ records list is.
+      seeks-ended _ _ _ _ _ c.records.invariant (omega (arith, c.records-test.true)) c.in_default.ensures.bad records list is.0 (c.units-goal.ensures ∙ is.1) is.2;
+  some = tt;
+}
 
-pub returns-then-at-goal-clause-some : goal.returns-then-at-goal-clause-some
-returns-then-at-goal-clause-some c = λ records list.
-    subst (λ lsn. GoesOnAt c.args.opening.now.lsn records lsn c.records.rest.now) c.units-goal.ensures
-    (seeks-found _ _ _ _ _ c.records.invariant (omega (arith, c.if-at-goal.true)) records list)
+pub returns-then-at-goal : goal.returns-then-at-goal
+returns-then-at-goal c = record {
+  some = λ records list.
+      subst (λ lsn. GoesOnAt c.args.opening.now.lsn records lsn c.records.rest.now) c.units-goal.ensures
+      (seeks-found _ _ _ _ _ c.records.invariant (omega (arith, c.if-at-goal.true)) records list);
+  none = tt;
+}
 
-pub returns-else-at-goal-clause-none : goal.returns-else-at-goal-clause-none
-returns-else-at-goal-clause-none c = λ records list is.
-    seeks-beyond _ _ _ _ _ c.records.invariant (omega (arith, c.records-test.false, c.if-at-goal.false)) records list is.0 (c.units-goal.ensures ∙ is.1) is.2
+pub returns-else-at-goal : goal.returns-else-at-goal
+returns-else-at-goal c = record {
+  none = λ records list is.
+      seeks-beyond _ _ _ _ _ c.records.invariant (omega (arith, c.records-test.false, c.if-at-goal.false)) records list is.0 (c.units-goal.ensures ∙ is.1) is.2;
+  some = tt;
+}

@@ -6,7 +6,7 @@ use Rattle.std.proofs.lemmas.List.{nil_from_length}
 use Rattle.std.proofs.lemmas.Result.{err_from_is_err_and, on_ok_weaker, on_err_weaker}
 use Rattle.log_disk.proofs.Blocks.{AppendsBut-all, AppendsBut-cut, AppendsPart-first}
 use Rattle.log_recovery.proofs.DumpLemmas.{dumps-none, dumps-fits, dumps-some, dumps-less, dumps-more, dumps-cut, dumps-end, dumps-end_cut}
-use Rattle.log_recovery.proofs.SnapshotLemmas.{cause-since}
+use Rattle.log_recovery.proofs.PuttingLemmas.{cause-since}
 use Rattle.log_recovery.proofs.dump.put_dump.Goals as goal
 
 pub records-init : goal.records-init

@@ -1,5 +1,6 @@
 use Rattle.std.proofs.Common.{◌∙◌, refl, arith}
 use Rattle.std.proofs.lemmas.Result.{err_from_is_err_and}
+use Rattle.log_recovery.proofs.PuttingLemmas.{cause-none, cause-since}
 use Rattle.log_recovery.proofs.SnapshotLemmas.{rows-none, rows-more, rows-cut, rows-all}
 use Rattle.log_recovery.proofs.dump.put_rows.Goals as goal
 
@@ -12,10 +13,18 @@ accounts-preserved g c = record {
   same = c.in_ok-put_row.ensures.cause.fine ∙ c.accounts.invariant.same;
 }
 
-pub returns-in_err-put_row-clause-prefix : goal.returns-in_err-put_row-clause-prefix
-returns-in_err-put_row-clause-prefix g c =
+pub returns-in_err-put_row : goal.returns-in_err-put_row
+returns-in_err-put_row g c =
     let failed = err_from_is_err_and c.from_residual.result c.from_residual.ensures.1 in
-    rw failed.1 (rows-cut c.args.accounts.now.rows c.accounts.account c.at.result _ _ _ _ c.at.ensures c.accounts.invariant.front _ c.in_err-put_row.ensures.prefix)
+    rw failed.1 record {
+      all = tt;
+      prefix = rows-cut c.args.accounts.now.rows c.accounts.account c.at.result _ _ _ _ c.at.ensures c.accounts.invariant.front _ c.in_err-put_row.ensures.prefix;
+      cause = cause-since _ _ _ _ c.accounts.invariant.same c.in_err-put_row.ensures.cause;
+    }
 
-pub returns-clause-all : goal.returns-clause-all
-returns-clause-all g c = rows-all c.args.accounts.now.rows c.accounts.account _ _ _ _ (omega arith) c.accounts.invariant.front
+pub returns : goal.returns
+returns g c = record {
+  all = rows-all c.args.accounts.now.rows c.accounts.account _ _ _ _ (omega arith) c.accounts.invariant.front;
+  prefix = tt;
+  cause = cause-none _ _ _ c.accounts.invariant.same;
+}
