@@ -1,17 +1,18 @@
 -- What the program writes is a state that keeps the laws.
-use Rattle.std.proofs.Common.{◌≡◌, ◌↔◌, ℕ, Bool, true, false, true≢false, List, set, IsSomeAnd, Some, None, refl, sym, ap, ◌∙◌, subst}
+use Rattle.std.proofs.Common.{◌≡◌, ◌<◌, ◌↔◌, ℕ, Bool, true, false, true≢false, List, [], length, get_or, set, IsSomeAnd, Option, Some, None, refl, sym, ap, ◌∙◌, subst}
 use Rattle.std.specs.Bool.{IsTrue, OnTrue, OnFalse}
 use Rattle.std.specs.List.{find}
 use Rattle.std.specs.Option.{is_some}
 use Rattle.ring_core.specs.RingLog.{RingLog, is_at, HasRoom, reserved, HasUnfilled, filled, IsFull, marked, raised, MayFlush, flushed}
 use Rattle.ring_core.specs.State.{base_in, raises_from}
 use Rattle.ring_core.specs.declared.event.RingEvent.TheVariants.{Reserve, Mark, Raise, Flushed}
-use Rattle.slot_core.specs.State.{Idle, Works, Marked, Holds, Raises, Granted, Placed, Places, Stores, Membership, Task, Joined, InRing, Hand, Group, SlotState, nothing, task_of, with_task, membership, ring_stage, reopening, group, empty_group, group_at}
+use Rattle.slot_core.specs.State.{Stage, Idle, Works, Marked, Holds, Raises, Granted, GroupPhase, Placed, Places, Stores, Membership, Task, Joined, InRing, Hand, Group, SlotState, nothing, task_of, with_task, membership, ring_stage, reopening, group, empty_group, group_at}
 use Rattle.slot_core.specs.Laws.{IsSound}
 use Rattle.slot_core.specs.Machine.{Join, Ring, MayJoin, closed_total, told_outcome, HasUnfilledPiece, IsRingEnabled, at_stage, in_ring, task_joined, group_joined, after_join, stage_filled, log_filled, granted_base, after_fill, after_mark, after_raise}
 use Rattle.slot_core.proofs.Keeping.{event-sound}
 use Rattle.slot_core.proofs.Ring.{fill-sound}
-use Rattle.slot_core.proofs.RunLemmas.{worked-at, place-keeps, fill-keeps, piece-base, grants, reopen-keeps}
+use Rattle.slot_core.proofs.RowLemmas.{group-read}
+use Rattle.slot_core.proofs.RunLemmas.{worked-at, place-keeps, fill-keeps, piece-base, grants, opener-there, opener-empty, reopen-keeps}
 
 -- it writes over s, which stands for the state now
 module _ (now s : SlotState) (is : s ≡ now) (sound : IsSound s) (j : ℕ) where
@@ -22,14 +23,24 @@ module _ (now s : SlotState) (is : s ≡ now) (sound : IsSound s) (j : ℕ) wher
   written : (l l' : RingLog) (hs hs' : List Hand) (gs gs' : List Group) → l ≡ l' → hs ≡ hs' → gs ≡ gs' → IsSound (record { log = l'; hands = hs'; groups = gs' }) → IsSound (record { log = l; hands = hs; groups = gs })
   written l l' hs hs' gs gs' a b d h = subst IsSound (λ i. record { log = (sym a) i; hands = (sym b) i; groups = (sym d) i }) h
 
-  pub join-is : (k n : ℕ) (t : Task) (hs : List Hand) (g : Group) → t ≡ task_joined k n (group_at k now.groups).phase → hs ≡ with_task j t s.hands → g ≡ group_joined j n (group_at k s.groups)
-      → record s { hands = hs; groups = set s.groups k g } ≡ after_join s j k n (group_at k s.groups)
-  join-is k n t hs g piece hands group' = let whole = hands ∙ ap (λ x. with_task j x s.hands) (piece ∙ ap (λ (z : SlotState). task_joined k n (group_at k z.groups).phase) (sym is)) in
-      λ i. record s { hands = whole i; groups = set s.groups k (group' i) }
+  -- the group that the program finds at a slot of the machine's
+  pub found-at : (k : ℕ) (g : Group) → k < length now.groups → g ≡ get_or s.groups k g → g ≡ group_at k s.groups
+  found-at k g there value = value ∙ group-read s.groups k g (back (λ z. k < length z.groups) there)
 
-  pub join-written : (k n : ℕ) (t : Task) (hs : List Hand) (g : Group) → MayJoin now j k n → t ≡ task_joined k n (group_at k now.groups).phase → hs ≡ with_task j t s.hands → g ≡ group_joined j n (group_at k s.groups)
-      → IsSound (record s { hands = hs; groups = set s.groups k g })
-  join-written k n t hs g may piece hands group' = subst IsSound (sym (join-is k n t hs g piece hands group')) (event-sound s (Join j k n) sound (back (λ z. MayJoin z j k n) may))
+  -- a join: the phase that is read, the task of who joins, the hands before and with it, and the group before and after
+  module _ (k n : ℕ) (p : GroupPhase) (t : Task) (hs hs' : List Hand) (g g' : Group) (may : MayJoin now j k n)
+      (value : g ≡ get_or s.groups k g) (phase : p ≡ (group_at k now.groups).phase) (piece : t ≡ task_joined k n p)
+      (kept : hs ≡ s.hands) (hands : hs' ≡ with_task j t hs) (group' : g' ≡ group_joined j n g) where
+    task-is : t ≡ task_joined k n (group_at k s.groups).phase
+    task-is = piece ∙ ap (task_joined k n) (phase ∙ ap (λ (z : SlotState). (group_at k z.groups).phase) (sym is))
+
+    pub join-is : record s { hands = hs'; groups = set s.groups k g' } ≡ after_join s j k n (group_at k s.groups)
+    join-is = let whole = hands ∙ (λ i. with_task j (task-is i) (kept i)) in
+        let here = group' ∙ ap (group_joined j n) (found-at k g may.there value) in
+        λ i. record s { hands = whole i; groups = set s.groups k (here i) }
+
+    pub join-written : IsSound (record s { hands = hs'; groups = set s.groups k g' })
+    join-written = subst IsSound (sym join-is) (event-sound s (Join j k n) sound (back (λ z. MayJoin z j k n) may))
 
   pub reserve-written : (n base : ℕ) (l : RingLog) (hs : List Hand) → IsRingEnabled now (Reserve j n) → base ≡ s.log.tail → l ≡ reserved s.log n → hs ≡ with_task j (InRing None (Works base)) s.hands → IsSound (record s { log = l; hands = hs })
   reserve-written n base l hs may tail log hands = written l _ hs _ s.groups s.groups log (hands ∙ ap (λ b. with_task j (InRing None (Works b)) s.hands) tail) refl
@@ -70,10 +81,27 @@ module _ (now s : SlotState) (is : s ≡ now) (sound : IsSound s) (j : ℕ) wher
       by_task (Joined m) here base left = absurd (cc)
   fill-written b false l base may done none = subst (λ z. IsSound (record s { log = z })) (sym none) sound
 
-  pub reopen-written : (k : ℕ) (hs : List Hand) (g : Group) → ring_stage (task_of j now.hands) ≡ Idle → reopening (task_of j now.hands) ≡ Some k → hs ≡ with_task j nothing s.hands → g ≡ empty_group
-      → IsSound (record s { hands = hs; groups = set s.groups k g })
-  reopen-written k hs g idle opens hands group' = written s.log s.log hs _ (set s.groups k g) _ refl hands (ap (set s.groups k) group')
-      (reopen-keeps s j k sound (back (λ z. ring_stage (task_of j z.hands) ≡ Idle) idle) (back (λ z. reopening (task_of j z.hands) ≡ Some k) opens))
+  -- an actor that the program finds idle, with a slot to open
+  module _ (k : ℕ) (t : Task) (stage : Stage) (slot : Option ℕ) (at : t ≡ task_of j now.hands) (reads : stage ≡ ring_stage t)
+      (idle : stage ≡ Idle) (finds : slot ≡ reopening t) (opens : slot ≡ Some k) where
+    idle-s : ring_stage (task_of j s.hands) ≡ Idle
+    idle-s = back (λ z. ring_stage (task_of j z.hands) ≡ Idle) (ap ring_stage (sym at) ∙ sym reads ∙ idle)
+
+    opens-s : reopening (task_of j s.hands) ≡ Some k
+    opens-s = back (λ z. reopening (task_of j z.hands) ≡ Some k) (ap reopening (sym at) ∙ sym finds ∙ opens)
+
+    pub reopen-there : k < length s.groups
+    reopen-there = opener-there s j k sound idle-s opens-s
+
+    pub reopen-empty : (g : Group) → g ≡ get_or s.groups k g → g.members ≡ []
+    reopen-empty g value = ap (λ (x : Group). x.members) (value ∙ group-read s.groups k g reopen-there)
+        ∙ opener-empty s j k sound idle-s opens-s
+
+    pub reopen-written : (hs : List Hand) (none : Task) (g : Group) → hs ≡ with_task j none s.hands → none ≡ nothing → g ≡ empty_group
+        → IsSound (record s { hands = hs; groups = set s.groups k g })
+    reopen-written hs none g hands is_none group' =
+        written s.log s.log hs _ (set s.groups k g) _ refl (hands ∙ ap (λ x. with_task j x s.hands) is_none) (ap (set s.groups k) group')
+        (reopen-keeps s j k sound idle-s opens-s)
 
   pub grant-written : (m : Membership) (t base : ℕ) (l : RingLog) (hs : List Hand) (g : Group) → task_of j now.hands ≡ Joined m → m.stage ≡ Places → t ≡ closed_total (group_at m.slot now.groups).phase → HasRoom now.log t
       → base ≡ s.log.tail → l ≡ reserved s.log t → hs ≡ with_task j (at_stage Stores m) s.hands → g ≡ group (group_at m.slot s.groups).members (Placed j t (Granted base))
