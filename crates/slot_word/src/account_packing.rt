@@ -4,6 +4,18 @@ ghost use Rattle.slot_word.specs.AccountWord.{packed, word_of, held_in, balance_
 
 use crate::account_word::AccountWord;
 
+/// Where the held bit stands in the word.
+const HELD_AT: u64 = 63;
+
+/// Where the balance begins in the word. The mark stands below it.
+const BALANCE_AT: u64 = 32;
+
+/// The bits of a balance.
+const BALANCE_BITS: u64 = 0x7fff_ffff;
+
+/// The bits of a mark.
+const MARK_BITS: u64 = 0xffff_ffff;
+
 impl AccountWord {
     /// The account whose word this is. Each word is that of one account.
     pub fn unpack(word: u64) -> AccountWord
@@ -11,9 +23,9 @@ impl AccountWord {
         ensures balance { result.balance ≡ balance_in word }
         ensures mark { result.mark ≡ mark_in word }
     {
-        let balance = (word >> 32 & 0x7fff_ffff) as u32;
-        let mark = (word & 0xffff_ffff) as u32;
-        if word >> 63 == 1 {
+        let balance = (word >> BALANCE_AT & BALANCE_BITS) as u32;
+        let mark = (word & MARK_BITS) as u32;
+        if word >> HELD_AT == 1 {
             AccountWord::taken(balance, mark)
         } else {
             AccountWord::free(balance, mark)
@@ -24,7 +36,9 @@ impl AccountWord {
     pub fn pack(self) -> u64
         ensures { result ≡ word_of self }
     {
-        ((self.held() as u64) << 63) + ((self.balance() as u64) << 32) + self.mark() as u64
+        let held_part = (self.held() as u64) << HELD_AT;
+        let balance_part = (self.balance() as u64) << BALANCE_AT;
+        held_part + balance_part + self.mark() as u64
     }
 }
 

@@ -6,6 +6,15 @@ ghost use Rattle.slot_word.specs.declared.phase.Phase.TheVariants.{Pending};
 use crate::phase::Phase;
 use crate::slot_word::SlotWord;
 
+/// Where the phase begins in the word.
+const PHASE_AT: u64 = 62;
+
+/// Where the total begins in the word. What remains stands below it.
+const TOTAL_AT: u64 = 31;
+
+/// The bits of a total, and of what remains.
+const UNITS_BITS: u64 = 0x7fff_ffff;
+
 impl SlotWord {
     /// The slot whose word this is. Not every word is one's.
     pub fn unpack(word: u64) -> SlotWord
@@ -14,9 +23,9 @@ impl SlotWord {
         ensures total { result.total ≡ total_in word }
         ensures remaining { result.remaining ≡ remaining_in word }
     {
-        let total = (word >> 31 & 0x7fff_ffff) as u32;
-        let remaining = (word & 0x7fff_ffff) as u32;
-        match word >> 62 {
+        let total = (word >> TOTAL_AT & UNITS_BITS) as u32;
+        let remaining = (word & UNITS_BITS) as u32;
+        match word >> PHASE_AT {
             0 => SlotWord::fresh(total),
             1 => SlotWord::pending(),
             2 => SlotWord::published(total, remaining),
@@ -29,7 +38,9 @@ impl SlotWord {
         ensures word { result ≡ word_of self }
         ensures slot { IsSlotWord result }
     {
-        (self.phase().number() << 62) + ((self.total() as u64) << 31) + self.remaining() as u64
+        let phase_part = self.phase().number() << PHASE_AT;
+        let total_part = (self.total() as u64) << TOTAL_AT;
+        phase_part + total_part + self.remaining() as u64
     }
 }
 
