@@ -54,15 +54,16 @@ not-falling xs rising j k le within = dite (ℕ_discrete j k) (λ same. subst (�
     (λ apart. let less = rising-below xs rising j k (omega arith) within in omega arith)
 
 -- the place that a binary search answers is such a one
-pub rising-searched : (xs ys : List ℕ) (i x : ℕ) → IsStrictlyIncreasing xs → ys ≡ xs → IsBinarySearchResult (λ y. nat_cmp y x) ys (Err i)
-    → IsStrictlyIncreasing (insert xs i x)
+pub rising-searched : (xs ys : List ℕ) (i x : ℕ) → IsStrictlyIncreasing xs → ys ≡ xs
+    → IsBinarySearchResult (λ y. nat_cmp y x) ys (Err i) → IsStrictlyIncreasing (insert xs i x)
 rising-searched xs ys i x rising is search =
-    let found = searched xs x (Err i) (subst (λ list. IsBinarySearchResult (λ y. nat_cmp y x) list (Err i)) is search) (not-falling xs rising) in
+    let found = searched xs x (Err i) (subst (λ list. IsBinarySearchResult (λ y. nat_cmp y x) list (Err i)) is search)
+    (not-falling xs rising) in
     rising-insert xs i x rising found.0 found.1 found.2
 
 -- an account that the search finds is there already
-pub adds-found : (account : ℕ) (xs ys : List ℕ) (i : ℕ) → IsStrictlyIncreasing xs → ys ≡ xs → IsBinarySearchResult (λ y. nat_cmp y account) ys (Ok i)
-    → AddsAccount account xs xs
+pub adds-found : (account : ℕ) (xs ys : List ℕ) (i : ℕ) → IsStrictlyIncreasing xs → ys ≡ xs
+    → IsBinarySearchResult (λ y. nat_cmp y account) ys (Ok i) → AddsAccount account xs xs
 adds-found account xs ys i rising is result =
     let found = searched xs account (Ok i) (subst (λ list. IsBinarySearchResult (λ y. nat_cmp y account) list (Ok i)) is result)
     (not-falling xs rising) in record {
@@ -164,7 +165,8 @@ module _ (xs : List ℕ) where
   all-of-one (leg ∷ more ∷ legs) len has = absurd (omega arith)
 
   pub only-of-one : (legs : List (ℕ × ℕ × ℕ)) → length legs ≡ 1
-      → ((amount : ℕ) → All (IsAccountOf (((get_or legs 0 (0, 0, 0)).0, (get_or legs 0 (0, 0, 0)).1, amount) ∷ [])) xs) → All (IsAccountOf legs) xs
+      → ((amount : ℕ) → All (IsAccountOf (((get_or legs 0 (0, 0, 0)).0, (get_or legs 0 (0, 0, 0)).1, amount) ∷ [])) xs)
+      → All (IsAccountOf legs) xs
   only-of-one [] len only = absurd (omega arith)
   only-of-one (leg ∷ []) len only = only leg.2
   only-of-one (leg ∷ more ∷ legs) len only = absurd (omega arith)

@@ -1,5 +1,5 @@
 -- The rows of one worker.
-use Rattle.std.specs.Prelude.{◌≡◌, ℕ, List, [], ◌∷◌, ◌++◌, Option, None, Some, Result, Ok, Err, vec_capacity}
+use Rattle.std.specs.Prelude.{◌≡◌, ◌<◌, ℕ, length, List, [], ◌∷◌, ◌++◌, Option, None, Some, Result, Ok, Err, vec_capacity}
 use Rattle.lock_core.specs.Alone.{Outcome, Done, ShortAt, OverAt}
 use Rattle.txn_jobs.specs.declared.cause.Cause.{Cause}
 use Rattle.txn_jobs.specs.declared.cause.Worked.{Worked}
@@ -20,6 +20,10 @@ rows_in rows = rows.rows.items
 
 abbrev pub room_of : Rows → ℕ
 room_of rows = vec_capacity rows.rows
+
+-- one more row takes no memory
+abbrev pub HasRoom : Rows → Type 0
+HasRoom rows = length (rows_in rows) < room_of rows
 
 -- a transfer that ended has its row behind those before; one that was cut off has none, and the worker ends so
 abbrev pub IsTold : Result Row Cause → Option Worked → List Row → List Row → Type 0

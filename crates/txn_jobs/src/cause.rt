@@ -1,3 +1,4 @@
+//! Why a worker left a transfer unfinished, and how a worker ended.
 ghost use Rattle.std.specs.Prelude.{◌≡◌, ◌≢◌, IfErr, OnOk};
 
 use lsn_space::Lsn;

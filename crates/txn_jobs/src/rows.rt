@@ -1,5 +1,6 @@
-ghost use Rattle.std.specs.Prelude.{◌≡◌, ◌≤◌, ◌<◌, ◌++◌, ◌∷◌, [], length, IfOk};
-ghost use Rattle.txn_jobs.specs.Rows.{rows_in, room_of, IsTold};
+//! The rows of a worker: how each of its transfers ended.
+ghost use Rattle.std.specs.Prelude.{◌≡◌, ◌≤◌, ◌++◌, ◌∷◌, [], IfOk};
+ghost use Rattle.txn_jobs.specs.Rows.{rows_in, room_of, HasRoom, IsTold};
 
 use crate::cause::{Cause, Worked};
 use lsn_space::{Lsn, NoMemory};
@@ -51,7 +52,7 @@ impl Rows {
 
     /// Adds the row of the transfer that was taken last.
     pub fn push(&mut self, row: Row)
-        requires room { length (rows_in self.old) < room_of self.old }
+        requires room { HasRoom self.old }
         ensures rows { rows_in self.new ≡ rows_in self.old ++ row ∷ [] }
         ensures room { room_of self.new ≡ room_of self.old }
     {
@@ -61,7 +62,7 @@ impl Rows {
     /// Adds the row of the transfer that was taken last, where it ended. Some: it was cut off and has no row, and so the worker
     /// ends.
     pub fn tell(&mut self, made: Result<Row, Cause>) -> Option<Worked>
-        requires room { length (rows_in self.old) < room_of self.old }
+        requires room { HasRoom self.old }
         ensures told { IsTold made result (rows_in self.old) (rows_in self.new) }
         ensures room { room_of self.new ≡ room_of self.old }
     {

@@ -24,8 +24,10 @@ returns-clause-only c = subst (λ legs. All (IsAccountOf legs) c.legs.accounts.i
 
 pub returns-in-len1-clause-all : goal.returns-in-len1-clause-all
 returns-in-len1-clause-all c = subst (All (HasAccountsOf c.pair.new.accounts.items)) c.as_slice.ensures.legs
-    (all-of-one c.pair.new.accounts.items c.as_slice.result.now (omega (arith, c.in-len1.len_at_least, c.in-len1.len_below)) c.pair.ensures.all)
+    (all-of-one c.pair.new.accounts.items c.as_slice.result.now (omega (arith, c.in-len1.len_at_least, c.in-len1.len_below))
+    c.pair.ensures.all)
 
 pub returns-in-len1-clause-only : goal.returns-in-len1-clause-only
 returns-in-len1-clause-only c = subst (λ legs. All (IsAccountOf legs) c.pair.new.accounts.items) c.as_slice.ensures.legs
-    (only-of-one c.pair.new.accounts.items c.as_slice.result.now (omega (arith, c.in-len1.len_at_least, c.in-len1.len_below)) c.pair.ensures.only)
+    (only-of-one c.pair.new.accounts.items c.as_slice.result.now (omega (arith, c.in-len1.len_at_least, c.in-len1.len_below))
+    c.pair.ensures.only)
