@@ -1,19 +1,18 @@
 -- What the steps of a flush come to.
-use Rattle.std.proofs.Common.{◌≡◌, ◌≤◌, ◌<◌, ◌+◌, ◌*◌, ◌^◌, ◌∙◌, sym, ap, refl, subst, ℕ, List, [], ◌∷◌, ◌++◌, length, length-append, arith}
+use Rattle.std.proofs.Common.{◌≡◌, ◌↔◌, ◌≤◌, ◌<◌, ◌+◌, ◌*◌, ◌^◌, ◌∙◌, sym, ap, refl, subst, ℕ, List, [], ◌∷◌, ◌++◌, length, length-append, arith}
 use Rattle.std.specs.List.{AllByRecursion, Contains}
 use Rattle.std.proofs.lemmas.List.Elements.{Contains-append_left, Contains-append_right, Contains-push}
-use Rattle.log_disk.specs.Disk.{Leaves}
-use Rattle.log_disk.specs.Lengths.{GrowsAtMostTo}
 use Rattle.log_disk.specs.declared.disk.LogDisk.{Ghosts}
 use Rattle.log_record.specs.declared.rec.Rec.{Rec}
+use Rattle.log_table.specs.declared.table.LogTable.{LogTable}
 use Rattle.log_table.specs.declared.table.Seat.{Seat}
 use Rattle.log_rule.specs.declared.view.Entry.{Entry}
 use Rattle.log_rule.specs.Closing.{records_of}
 use Rattle.log_rule.specs.Log.{IsSpelled, units_in}
 use Rattle.log_rule.specs.declared.view.View.{View}
-use Rattle.log_table.specs.Seats.{Becomes, view_of}
+use Rattle.log_table.specs.Seats.{Becomes, IsOf, view_of}
 use Rattle.segment_file.specs.Log.{Log, with_units}
-use Rattle.segment_file.specs.Standing.{LogStands, HoldsLogOrMore, tail_after}
+use Rattle.segment_file.specs.Standing.{LogStands, tail_after}
 use Rattle.segment_file.specs.declared.scan_result.Tail.{Tail}
 use Rattle.flusher.specs.declared.flusher.Flusher.{Flusher}
 use Rattle.log_rule.specs.Sends.{AreEntries, ReadsWholeEntries}
@@ -21,7 +20,7 @@ use Rattle.log_rule.specs.Views.{sent_to, read_to}
 use Rattle.log_record.specs.LogList.{AreUnitsOf}
 use Rattle.flusher.specs.Sending.{gathered, flushed}
 use Rattle.flusher.specs.Keeping.{KeepsLog, sent_by, read_by}
-use Rattle.flusher.specs.Flushing.{MayFlush, IsSameSeat, sent_of, lsns_of}
+use Rattle.flusher.specs.Flushing.{MayFlush, IsSame, IsSameSeat, WritesWhole, sent_of, lsns_of}
 
 -- one step after another
 pub Becomes-then : (a b c : Seat) (view : View) (f : View → View) → Becomes a b view → Becomes b c (f (view_of b)) → Becomes a c (f view)
@@ -43,27 +42,34 @@ IsSameSeat-becomes old new view becomes constants entries books = record {
   books = ap (λ m. m.0.books) becomes.me ∙ books;
 }
 
+-- the seat made such steps, and then or before the disk was written: it is the same flusher
+module _ {D : Type 0} (g : Ghosts D) (old new : Flusher D g) (view : View) (becomes : Becomes old.seat new.seat view)
+    (constants : view.constants ≡ (view_of old.seat).constants) (entries : view.entries ≡ (view_of old.seat).entries)
+    (books : view.books ≡ (view_of old.seat).books) (standing : view.standing ≡ (view_of old.seat).standing) where
+  pub IsSame-steps : new.table ≡ old.table → new.disk.ghost_name ≡ old.disk.ghost_name → new.first.value ≡ old.first.value
+      → g.honest old.disk.now ↔ g.honest new.disk.now → g.attached new.disk.now ≡ g.attached old.disk.now
+      → g.moment old.disk.now ≤ g.moment new.disk.now → IsSame g old new
+  IsSame-steps table disk first honest attached later = record {
+    table = table;
+    seat = IsSameSeat-becomes old.seat new.seat view becomes constants entries books;
+    workers = ap (λ m. m.0.standing) becomes.me ∙ standing;
+    disk = disk;
+    honest = honest;
+    attached = attached;
+    later = later;
+    first = first;
+  }
+
 -- what an append says of the batch, said of the units that it was gathered from
-pub Leaves-append : {D : Type 0} (g : Ghosts D) (old : Flusher D g) (disk : D) (batch units : List ℕ) → batch ≡ units
-    → ((log : Log) → LogStands old.tail log (g.images old.disk.now)
-    → Leaves g.moment g.images_since (HoldsLogOrMore log batch) old.disk.now disk)
-    → (log : Log) → LogStands old.tail log (g.images old.disk.now)
-    → Leaves g.moment g.images_since (HoldsLogOrMore log units) old.disk.now disk
-Leaves-append g old disk batch units same moments log stand =
-    subst (λ us. Leaves g.moment g.images_since (HoldsLogOrMore log us) old.disk.now disk) same (moments log stand)
+pub WritesWhole-append : {D : Type 0} (g : Ghosts D) (old new : Flusher D g) (batch units : List ℕ) → batch ≡ units
+    → WritesWhole g batch old new → WritesWhole g units old new
+WritesWhole-append g old new batch units same writes = subst (λ us. WritesWhole g us old new) same writes
 
 pub LogStands-append : {D : Type 0} (g : Ghosts D) (old : Flusher D g) (tail : Tail) (disk : D) (batch units : List ℕ) → batch ≡ units
     → ((log : Log) → LogStands old.tail log (g.images old.disk.now) → LogStands tail (with_units log batch) (g.images disk))
     → (log : Log) → LogStands old.tail log (g.images old.disk.now) → LogStands tail (with_units log units) (g.images disk)
 LogStands-append g old tail disk batch units same appended log stand =
     subst (λ us. LogStands tail (with_units log us) (g.images disk)) same (appended log stand)
-
--- what it says of the file's length, said of the units that the batch was gathered from
-pub GrowsAtMostTo-append : {D : Type 0} (g : Ghosts D) (old : Flusher D g) (disk : D) (batch units : List ℕ) → batch ≡ units
-    → GrowsAtMostTo g (old.tail.at + 6 + 8 * length batch) old.disk.now disk
-    → GrowsAtMostTo g (old.tail.at + 6 + 8 * length units) old.disk.now disk
-GrowsAtMostTo-append g old disk batch units same grows =
-    subst (λ us. GrowsAtMostTo g (old.tail.at + 6 + 8 * length us) old.disk.now disk) same grows
 
 -- entries whose units are the spellings of their records spell those
 spelled-records : (entries : List Entry) → AllByRecursion IsSpelled entries → AreUnitsOf (units_in entries) (records_of entries)
@@ -97,36 +103,49 @@ Reads-gathered view now from to units is unread start whole entries =
     let found : AreEntries (sent_to view) to (view.sending.read ++ units) = subst ReadsWholeEntries is entries all in
     record {
       records = records_of found.entries;
-      spelled = subst (λ us. AreUnitsOf us (records_of found.entries)) (found.units_are ∙ read) (spelled-records found.entries found.spelled);
+      spelled = subst (λ us. AreUnitsOf us (records_of found.entries)) (found.units_are ∙ read)
+          (spelled-records found.entries found.spelled);
     }
 
--- a step of the seat alone, which leaves what was sent and read as it was, leaves the flusher ready
-pub MayFlush-step : {D : Type 0} (g : Ghosts D) (f : Flusher D g) (seat : Seat) (view : View)
-    (keeps : g.honest f.disk.now → ∥ KeepsLog g f.first.value f.disk.now f.tail (sent_by seat) (read_by seat) ∥₁)
-    → MayFlush g f → Becomes f.seat seat view → view.constants ≡ (view_of f.seat).constants → view.standing ≡ (view_of f.seat).standing → view.sending.sent ≡ sent_of f
-    → view.sending.read ≡ (view_of f.seat).sending.read → ((x : ℕ) → Contains (lsns_of f) x → Contains view.seen.lsns x)
-    → MayFlush g (record f { seat = seat; keeps = keeps })
-MayFlush-step g f seat view keeps ready becomes constants standing sent read seen =
-    let view_is : view_of seat ≡ view = ap (λ m. m.0) becomes.me in
-    let constants_are : (view_of seat).constants ≡ (view_of f.seat).constants = ap (λ v. v.constants) view_is ∙ constants in
-    let durable_is : sent_to (view_of seat) ≡ sent_to (view_of f.seat) =
-    (λ i. (constants_are i).start + length ((ap (λ v. v.sending.sent) view_is ∙ sent) i)) in
-    record {
-      seat = record {
-        table_is = becomes.table_is ∙ ready.seat.table_is;
-        no_slots = ap (λ m. m.1) becomes.me ∙ ready.seat.no_slots;
-        ring = ap (λ k. k.ring) constants_are ∙ ready.seat.ring;
-        slots = ap (λ k. k.slots) constants_are ∙ ready.seat.slots;
-      };
-      flusher = ap (λ v. v.standing.role) view_is ∙ ap (λ s. s.role) standing ∙ ready.flusher;
-      unread = ap (λ v. v.sending.read) view_is ∙ read ∙ ready.unread;
-      seen = subst (Contains (view_of seat).seen.lsns) (sym durable_is)
-          (subst (λ v. Contains v.seen.lsns (sent_to (view_of f.seat))) (sym view_is) (seen (sent_to (view_of f.seat)) ready.seen));
-      next = ready.next ∙ sym durable_is;
-      place = ready.place;
-      shut = ready.shut;
-      room = ready.room;
-    }
+-- steps that leave the constants as they were leave a seat of its table
+pub IsOf-becomes : (table : LogTable) (old new : Seat) (view : View) → Becomes old new view → view.constants ≡ (view_of old).constants
+    → IsOf table old → IsOf table new
+IsOf-becomes table old new view becomes constants is = record {
+  table_is = becomes.table_is ∙ is.table_is;
+  no_slots = ap (λ m. m.1) becomes.me ∙ is.no_slots;
+  ring = ap (λ m. m.0.constants.ring) becomes.me ∙ ap (λ k. k.ring) constants ∙ is.ring;
+  slots = ap (λ m. m.0.constants.slots) becomes.me ∙ ap (λ k. k.slots) constants ∙ is.slots;
+}
+
+-- a step of the seat alone, which leaves what was sent and read as it was
+module _ {D : Type 0} (g : Ghosts D) (f : Flusher D g) (ready : MayFlush g f) (seat : Seat) (view : View)
+    (becomes : Becomes f.seat seat view) (constants : view.constants ≡ (view_of f.seat).constants)
+    (standing : view.standing ≡ (view_of f.seat).standing)
+    (sent : view.sending.sent ≡ sent_of f) (read : view.sending.read ≡ (view_of f.seat).sending.read)
+    (seen : (x : ℕ) → Contains (lsns_of f) x → Contains view.seen.lsns x) where
+  step-view : view_of seat ≡ view
+  step-view = ap (λ m. m.0) becomes.me
+
+  step-durable : sent_to (view_of seat) ≡ sent_to (view_of f.seat)
+  step-durable = ap sent_to step-view ∙ (λ i. (constants i).start + length (sent i))
+
+  step-seen : Contains (view_of seat).seen.lsns (sent_to (view_of seat))
+  step-seen = subst (Contains (view_of seat).seen.lsns) (sym step-durable)
+      (subst (λ v. Contains v.seen.lsns (sent_to (view_of f.seat))) (sym step-view) (seen (sent_to (view_of f.seat)) ready.seen))
+
+  -- leaves the flusher ready
+  pub MayFlush-step : (keeps : g.honest f.disk.now → ∥ KeepsLog g f.first.value f.disk.now f.tail (sent_by seat) (read_by seat) ∥₁)
+      → MayFlush g (record f { seat = seat; keeps = keeps })
+  MayFlush-step keeps = record {
+    seat = IsOf-becomes f.table.now f.seat seat view becomes constants ready.seat;
+    flusher = ap (λ v. v.standing.role) step-view ∙ ap (λ s. s.role) standing ∙ ready.flusher;
+    unread = ap (λ v. v.sending.read) step-view ∙ read ∙ ready.unread;
+    seen = step-seen;
+    next = ready.next ∙ sym step-durable;
+    place = ready.place;
+    shut = ready.shut;
+    room = ready.room;
+  }
 
 -- an LSN is among those seen, and stays there
 pub seen-newer : (newer : ℕ) (lsns : List ℕ) (x : ℕ) → Contains lsns x → Contains (newer ∷ lsns) x
@@ -147,7 +166,8 @@ sent_to-flushed view now from to units is unread start whole =
 pub seen-flushed : (view now : View) (to : ℕ) (units : List ℕ) → now ≡ flushed to units view → sent_to now ≡ to
     → Contains now.seen.lsns (sent_to now)
 seen-flushed view now to units is at =
-    subst (Contains now.seen.lsns) (sym at) (subst (λ v. Contains v.seen.lsns to) (sym is) (seen-newest to (gathered to units view).seen.lsns))
+    subst (Contains now.seen.lsns) (sym at)
+    (subst (λ v. Contains v.seen.lsns to) (sym is) (seen-newest to (gathered to units view).seen.lsns))
 
 -- where an append of these units goes on
 pub tail-appended : (old new : Tail) (batch units : List ℕ) → batch ≡ units → new.at ≡ old.at + 5 + 8 * length batch

@@ -48,33 +48,35 @@ HoldsSome-front opened records c held = ⊎_elim (λ front. front)
     (λ all. HoldsFront-all opened records c (subst (HoldsLog c) (with_units-nil (with_units opened (units_of records))) all)) held
 
 module _ {D : Type 0} (g : Ghosts D) where
-  -- a flusher is made, which has sent nothing
-  pub KeepsLog-first : ((disk : D) (c : List ℕ) → g.images_since disk (g.moment disk) c → g.images disk c)
-      → (disk : D) (tail : Tail) (sent read : List ℕ) → sent ≡ [] → read ≡ [] → g.images disk (g.reads disk) → (opened : Log)
-      → LogStands tail opened (g.images disk)
-      → KeepsLog g disk disk tail sent read
-  KeepsLog-first only_now disk tail sent read unsent unread shown opened stands =
-      let none : with_units opened sent ≡ opened = ap (with_units opened) unsent ∙ with_units-nil opened in
-      let held : (c : List ℕ) → g.images disk c → HoldsLog c (with_units opened sent) =
-      λ c image. subst (HoldsLog c) (sym none) (stands c image).held in
-      record {
-        opened = opened;
-        began = λ c image. (stands c image).held;
-        shown = shown;
-        records = [];
-        spelled = record { spellable = tt; units_are = unsent };
-        later = omega arith;
-        moments = λ c since.
-            inl (HoldsFront-all opened [] c (subst (λ us. HoldsLog c (with_units opened us)) unsent (held c (only_now disk c since))));
-        now = λ c image. inl (held c image);
-        goes_on = λ _. subst (λ log. LogStands tail log (g.images disk)) (sym none) stands;
-      }
+  module _ (only_now : (disk : D) (c : List ℕ) → g.images_since disk (g.moment disk) c → g.images disk c)
+      (disk : D) (tail : Tail) (sent read : List ℕ) (unsent : sent ≡ []) (unread : read ≡ []) (shown : g.images disk (g.reads disk))
+      (opened : Log) (stands : LogStands tail opened (g.images disk)) where
+    none_sent : with_units opened sent ≡ opened
+    none_sent = ap (with_units opened) unsent ∙ with_units-nil opened
+
+    held-first : (c : List ℕ) → g.images disk c → HoldsLog c (with_units opened sent)
+    held-first c image = subst (HoldsLog c) (sym none_sent) (stands c image).held
+
+    -- a flusher is made, which has sent nothing
+    pub KeepsLog-first : KeepsLog g disk disk tail sent read
+    KeepsLog-first = record {
+      opened = opened;
+      began = λ c image. (stands c image).held;
+      shown = shown;
+      records = [];
+      spelled = record { spellable = tt; units_are = unsent };
+      later = omega arith;
+      moments = λ c since. inl (HoldsFront-all opened [] c
+          (subst (λ us. HoldsLog c (with_units opened us)) unsent (held-first c (only_now disk c since))));
+      now = λ c image. inl (held-first c image);
+      goes_on = λ _. subst (λ log. LogStands tail log (g.images disk)) (sym none_sent) stands;
+    }
 
   module _ (first disk : D) (tail : Tail) (sent read : List ℕ) (keeps : KeepsLog g first disk tail sent read) where
     -- steps of the seat alone, which leave what it sent and read as it was
     pub KeepsLog-same : (sent' read' : List ℕ) → sent' ≡ sent → read' ≡ read → KeepsLog g first disk tail sent' read'
-    KeepsLog-same sent' read' sent_is read_is =
-        subst (λ us. KeepsLog g first disk tail us read') (sym sent_is) (subst (λ us. KeepsLog g first disk tail sent us) (sym read_is) keeps)
+    KeepsLog-same sent' read' sent_is read_is = subst (λ us. KeepsLog g first disk tail us read') (sym sent_is)
+        (subst (λ us. KeepsLog g first disk tail sent us) (sym read_is) keeps)
 
     module _ (unread : read ≡ []) where
       -- the log that goes on at the tail
@@ -92,10 +94,13 @@ module _ {D : Type 0} (g : Ghosts D) where
         front-before c was = HoldsSome-front keeps.opened keeps.records c
             (subst (λ us. HoldsSome keeps.opened keeps.records us c) unread (keeps.moments c was))
 
+        -- the log was the opened one and the records sent
+        log_is : sent_log ≡ with_units keeps.opened (units_of keeps.records)
+        log_is = ap (with_units keeps.opened) keeps.spelled.units_are
+
         some-written : (c : List ℕ) → HoldsLogOrMore sent_log batch c → HoldsSome keeps.opened keeps.records batch c
-        some-written c held =
-            let log_is : sent_log ≡ with_units keeps.opened (units_of keeps.records) = ap (with_units keeps.opened) keeps.spelled.units_are in
-            ⊎_elim (λ (was : HoldsLog c sent_log). inl (HoldsFront-all keeps.opened keeps.records c (subst (HoldsLog c) log_is was)))
+        some-written c held = ⊎_elim
+            (λ (was : HoldsLog c sent_log). inl (HoldsFront-all keeps.opened keeps.records c (subst (HoldsLog c) log_is was)))
             (λ (all : HoldsLog c (with_units sent_log batch)). inr (subst (λ log. HoldsLog c (with_units log batch)) log_is all)) held
 
         -- the units that were read are written, whole or not at all
@@ -114,33 +119,43 @@ module _ {D : Type 0} (g : Ghosts D) where
           goes_on = λ none. absurd (omega (arith, some, ap length none));
         }
 
-        -- they are written, and then count as sent
-        pub KeepsLog-sent : (tail' : Tail) (more : List Rec) → AreUnitsOf batch more
-            → LogStands tail' (with_units sent_log batch) (g.images disk') → KeepsLog g first disk' tail' (sent ++ batch) []
-        KeepsLog-sent tail' more spelled stands =
-            let all = keeps.records ++ more in
-            let both : AreUnitsOf (sent ++ batch) all = AreUnitsOf-append sent batch keeps.records more keeps.spelled spelled in
-            let log_is : with_units sent_log batch ≡ with_units keeps.opened (sent ++ batch) = with_units-append keeps.opened sent batch in
-            let held : (c : List ℕ) → HoldsLog c (with_units sent_log batch) → HoldsLog c (with_units keeps.opened (sent ++ batch)) =
-            λ c is. subst (HoldsLog c) log_is is in
-            let front : (c : List ℕ) → HoldsLogOrMore sent_log batch c → HoldsFront keeps.opened all c =
-            λ c is. ⊎_elim
-            (λ (was : HoldsLog c sent_log). HoldsFront-more keeps.opened keeps.records more c
-            (HoldsFront-all keeps.opened keeps.records c (subst (λ us. HoldsLog c (with_units keeps.opened us)) keeps.spelled.units_are was)))
-            (λ (now : HoldsLog c (with_units sent_log batch)). HoldsFront-all keeps.opened all c
-            (subst (λ us. HoldsLog c (with_units keeps.opened us)) both.units_are (held c now))) is in
-            record {
-              opened = keeps.opened;
-              began = keeps.began;
-              shown = keeps.shown;
-              records = all;
-              spelled = both;
-              later = omega (arith, keeps.later, writes.later);
-              moments = λ c since. inl (⊎_elim (λ was. HoldsFront-more keeps.opened keeps.records more c (front-before c was)) (λ is. front c is)
-                  (writes.each (g.moment first) c keeps.later since));
-              now = λ c image. inl (held c (stands c image).held);
-              goes_on = λ _. subst (λ log. LogStands tail' log (g.images disk')) log_is stands;
-            }
+        module _ (tail' : Tail) (more : List Rec) (spelled : AreUnitsOf batch more)
+            (stands : LogStands tail' (with_units sent_log batch) (g.images disk')) where
+          abbrev all : List Rec
+          all = keeps.records ++ more
+
+          both : AreUnitsOf (sent ++ batch) all
+          both = AreUnitsOf-append sent batch keeps.records more keeps.spelled spelled
+
+          both_are : with_units sent_log batch ≡ with_units keeps.opened (sent ++ batch)
+          both_are = with_units-append keeps.opened sent batch
+
+          held-both : (c : List ℕ) → HoldsLog c (with_units sent_log batch) → HoldsLog c (with_units keeps.opened (sent ++ batch))
+          held-both c is = subst (HoldsLog c) both_are is
+
+          front-was : (c : List ℕ) → HoldsFront keeps.opened keeps.records c → HoldsFront keeps.opened all c
+          front-was c was = HoldsFront-more keeps.opened keeps.records more c was
+
+          front-either : (c : List ℕ) → HoldsLogOrMore sent_log batch c → HoldsFront keeps.opened all c
+          front-either c is = ⊎_elim
+              (λ (was : HoldsLog c sent_log). front-was c (HoldsFront-all keeps.opened keeps.records c (subst (HoldsLog c) log_is was)))
+              (λ (now : HoldsLog c (with_units sent_log batch)). HoldsFront-all keeps.opened all c
+              (subst (λ us. HoldsLog c (with_units keeps.opened us)) both.units_are (held-both c now))) is
+
+          -- they are written, and then count as sent
+          pub KeepsLog-sent : KeepsLog g first disk' tail' (sent ++ batch) []
+          KeepsLog-sent = record {
+            opened = keeps.opened;
+            began = keeps.began;
+            shown = keeps.shown;
+            records = all;
+            spelled = both;
+            later = omega (arith, keeps.later, writes.later);
+            moments = λ c since. inl (⊎_elim (λ was. front-was c (front-before c was)) (λ is. front-either c is)
+                (writes.each (g.moment first) c keeps.later since));
+            now = λ c image. inl (held-both c (stands c image).held);
+            goes_on = λ _. subst (λ log. LogStands tail' log (g.images disk')) both_are stands;
+          }
 
 module _ {D : Type 0} (g : Ghosts D)
     (counts_now : (disk : D) (t : ℕ) (c : List ℕ) → t ≤ g.moment disk → g.images disk c → g.images_since disk t c)
@@ -173,26 +188,34 @@ module _ {D : Type 0} (g : Ghosts D)
       sent' read' sent_is read_is
 
 -- the last units that were sent stand in each image, behind those before them
-pub StandsFrom-last : {D : Type 0} (g : Ghosts D) (first disk : D) (tail : Tail) (sent read : List ℕ)
-    → KeepsLog g first disk tail sent read → read ≡ [] → (before units : List ℕ) → sent ≡ before ++ units → (from : ℕ) → tail.next ≡ from + length units
-    → (c : List ℕ) → g.images disk c → StandsFrom from units c
-StandsFrom-last g first disk tail sent read keeps unread before units split from end c image =
-    let stands = keeps.goes_on unread c image in
-    let units_are : keeps.opened.units ++ sent ≡ (keeps.opened.units ++ before) ++ (units ++ []) =
-    ap (λ us. keeps.opened.units ++ us) split ∙ sym (append_assoc keeps.opened.units before units)
-    ∙ ap (λ us. (keeps.opened.units ++ before) ++ us) (sym (append-nil units)) in
-    record {
-      log = with_units keeps.opened sent;
-      before = keeps.opened.units ++ before;
-      after = [];
-      holds = stands.held;
-      whole = units_are;
-      from_is = omega (
-        arith,
-        stands.next,
-        end,
-        ap length units_are,
-        length-append (keeps.opened.units ++ before) (units ++ []),
-        ap length (append-nil units),
-      );
-    }
+module _ {D : Type 0} (g : Ghosts D) (first disk : D) (tail : Tail) (sent read : List ℕ) (keeps : KeepsLog g first disk tail sent read)
+    (unread : read ≡ []) (before units : List ℕ) (split : sent ≡ before ++ units) (from : ℕ) (end : tail.next ≡ from + length units) where
+  abbrev opened_units : List ℕ
+  opened_units = keeps.opened.units
+
+  last-behind : opened_units ++ sent ≡ (opened_units ++ before) ++ (units ++ [])
+  last-behind = ap (λ us. opened_units ++ us) split ∙ sym (append_assoc opened_units before units)
+      ∙ ap (λ us. (opened_units ++ before) ++ us) (sym (append-nil units))
+
+  last-from : tail.next ≡ keeps.opened.opening.lsn + length (opened_units ++ sent)
+      → from ≡ keeps.opened.opening.lsn + length (opened_units ++ before)
+  last-from next = omega (
+    arith,
+    next,
+    end,
+    ap length last-behind,
+    length-append (opened_units ++ before) (units ++ []),
+    ap length (append-nil units),
+  )
+
+  pub StandsFrom-last : (c : List ℕ) → g.images disk c → StandsFrom from units c
+  StandsFrom-last c image =
+      let stands = keeps.goes_on unread c image in
+      record {
+        log = with_units keeps.opened sent;
+        before = opened_units ++ before;
+        after = [];
+        holds = stands.held;
+        whole = last-behind;
+        from_is = last-from stands.next;
+      }

@@ -1,7 +1,8 @@
 -- What a flush asks for, and what it leaves. `g` is what a disk shows; `old` and `new` are the flusher before and after.
-use Rattle.std.specs.Prelude.{◌≡◌, ◌↔◌, ℕ, ◌+◌, ◌*◌, ◌^◌, ◌<◌, ◌≤◌, List, [], ◌++◌, length, Contains}
+use Rattle.std.specs.Prelude.{◌≡◌, ◌↔◌, ℕ, ◌+◌, ◌*◌, ◌^◌, ◌<◌, ◌≤◌, List, [], ◌++◌, length, Contains, Result, IfOk, OnOk, OnErr}
 use Rattle.log_disk.specs.Costs.{Costs}
 use Rattle.log_disk.specs.Disk.{IsOnlyImage, Leaves}
+use Rattle.log_disk.specs.Faults.{HasCause}
 use Rattle.log_disk.specs.Lengths.{GrowsAtMostTo}
 use Rattle.log_disk.specs.declared.disk.LogDisk.{Ghosts}
 use Rattle.log_record.specs.declared.rec.Rec.{Rec}
@@ -14,6 +15,7 @@ use Rattle.log_rule.specs.Sound.{base_of}
 use Rattle.log_rule.specs.Views.{saw_exposed, saw_crew, sent_to}
 use Rattle.segment_file.specs.Log.{Log, with_units}
 use Rattle.segment_file.specs.Standing.{tail_after, LogStands, IsShut, HoldsLogOrMore}
+use Rattle.segment_file.specs.declared.gated_write.DiskFault.{DiskFault}
 use Rattle.flusher.specs.declared.flusher.Flusher.{Flusher}
 use Rattle.flusher.specs.declared.flusher.Flushed.{Flushed}
 use Rattle.flusher.specs.declared.flusher.Flushed.TheVariants.{Nothing, To}
@@ -122,6 +124,14 @@ abbrev pub Flushes : {D : Type 0} → (g : Ghosts D) → Flusher D g → Flusher
 Flushes g old new (Nothing at) = FindsNothing old new at
 Flushes g old new (To from to) = Sends g old new from to
 
+-- After an Ok a further flush may be made, and after an Err none. A fault is counted where the flush failed.
+pub record FlushEnds {D : Type 0} (g : Ghosts D) (old new : Flusher D g) (result : Result Flushed DiskFault) : Type 0 where
+  pub flushed : IfOk result (Flushes g old new)
+  pub ready : OnOk result (MayFlush g new)
+  pub lost : OnErr result (Loses g old new)
+  pub same : IsSame g old new
+  pub cause : HasCause (g.faults old.disk.now) (g.faults new.disk.now) result
+
 -- what crew held, and where that was 0, how exposed, loaded after it, stands to durable
 abbrev pub Asks : {D : Type 0} → {g : Ghosts D} → Flusher D g → Flusher D g → Drained → Type 0
 Asks old new (At lsn) = (lsn ≡ sent_to (view_of old.seat)) × IsDrained (view_of new.seat)
@@ -129,3 +139,9 @@ Asks old new (At lsn) = (lsn ≡ sent_to (view_of old.seat)) × IsDrained (view_
 Asks old new (Active n) = (0 < n) × Becomes old.seat new.seat (saw_crew n (view_of old.seat))
 Asks old new (Behind exposed durable) = (durable ≡ sent_to (view_of old.seat)) × (durable < exposed)
     × Becomes old.seat new.seat (asked exposed (view_of old.seat))
+
+-- the question is answered, nothing else was done, and a flush may be made
+pub record AsksDrained {D : Type 0} (g : Ghosts D) (old new : Flusher D g) (answer : Drained) : Type 0 where
+  pub asks : Asks old new answer
+  pub rest : ChangesSeat old new
+  pub ready : MayFlush g new

@@ -1,4 +1,5 @@
 pub mod Flushing
 pub mod Gathering
 pub mod Keeping
+pub mod Making
 pub mod Sending

@@ -3,7 +3,7 @@ ghost use Rattle.std.specs.Prelude.{◌≡◌, true};
 ghost use Rattle.log_disk.specs.Faults.{HasCause};
 ghost use Rattle.log_table.specs.Seats.{IsOf, view_of};
 ghost use Rattle.log_rule.specs.Views.{knows_all_enrolled};
-ghost use Rattle.flusher.specs.Flushing.{MayFlush, Asks, ChangesSeat};
+ghost use Rattle.flusher.specs.Flushing.{MayFlush, AsksDrained};
 
 use crate::flusher::{Drained, Flusher};
 use log_disk::LogDisk;
@@ -14,9 +14,7 @@ impl<'a, D: LogDisk> Flusher<'a, D> {
     pub fn drained(&mut self) -> Drained
         requires ready { MayFlush D.LogDisk self.old }
         requires told { knows_all_enrolled (view_of self.old.seat).standing ≡ true }
-        ensures asks { Asks self.old self.new result }
-        ensures rest { ChangesSeat self.old self.new }
-        ensures ready { MayFlush D.LogDisk self.new }
+        ensures { AsksDrained D.LogDisk self.old self.new result }
     {
         let active = self.table.load_crew(&mut self.seat);
         if active > 0 {

@@ -1,3 +1,4 @@
+//! What sends the exposed part of the log to the disk: how it is made, what is left of it, and what it answers.
 ghost use Rattle.std.specs.Prelude.{◌≡◌, [], ℕ, List};
 ghost use Rattle.log_rule.specs.May.{MayClose};
 ghost use Rattle.log_table.specs.Seats.{view_of};
@@ -26,6 +27,8 @@ pub struct Flusher<'a, D: LogDisk> {
 }
 
 impl<'a, D: LogDisk> Flusher<'a, D> {
+    ghost use Rattle.flusher.specs.Making.{IsMadeOf};
+
     /// A flusher over a disk of which each image holds one log, which goes on at this tail. Its seat has sent nothing.
     pub fn make(
         table: &'a LogTable,
@@ -37,12 +40,7 @@ impl<'a, D: LogDisk> Flusher<'a, D> {
         requires log { D.honest disk.old → (opened : Log) × LogStands tail opened (D.images disk.old) }
         requires unsent { sent_by seat ≡ [] }
         requires unread { read_by seat ≡ [] }
-        ensures table { result.table ≡ table.entry }
-        ensures disk { result.disk ≡ disk.entry }
-        ensures seat { result.seat ≡ seat }
-        ensures batch { result.batch ≡ batch }
-        ensures tail { result.tail ≡ tail }
-        ensures first { result.first.value ≡ disk.old }
+        ensures { IsMadeOf table.entry disk.entry seat batch tail disk.old result }
     {
         let first = Snapshot::of(disk);
         Flusher {

@@ -1,9 +1,8 @@
 //! A flush: the units from durable to exposed go from the ring to the disk.
-ghost use Rattle.std.specs.Prelude.{◌≡◌, ◌≤◌, ◌<◌, ◌+◌, ◌-◌, ◌++◌, [], List, ℕ, length, IfOk, OnOk, OnErr};
-ghost use Rattle.log_disk.specs.Faults.{HasCause};
+ghost use Rattle.std.specs.Prelude.{◌≡◌, ◌≤◌, ◌<◌, ◌+◌, ◌-◌, ◌++◌, [], List, ℕ, length};
 ghost use Rattle.log_table.specs.Seats.{IsOf, Becomes, key_of, view_of};
 ghost use Rattle.log_rule.specs.Views.{sent_to};
-ghost use Rattle.flusher.specs.Flushing.{MayFlush, IsSame, Flushes, Loses};
+ghost use Rattle.flusher.specs.Flushing.{MayFlush, FlushEnds};
 ghost use Rattle.flusher.specs.Gathering.{MayGather, Gathers};
 
 use crate::flusher::{Flushed, Flusher};
@@ -17,11 +16,7 @@ impl<'a, D: LogDisk> Flusher<'a, D> {
     /// Err durable stands where it was, and no further flush may be made.
     pub fn flush(&mut self) -> Result<Flushed, DiskFault>
         requires ready { MayFlush D.LogDisk self.old }
-        ensures flushed { IfOk result (Flushes D.LogDisk self.old self.new) }
-        ensures ready { OnOk result (MayFlush D.LogDisk self.new) }
-        ensures lost { OnErr result (Loses D.LogDisk self.old self.new) }
-        ensures same { IsSame D.LogDisk self.old self.new }
-        ensures cause { HasCause (D.faults self.old.disk.now) (D.faults self.new.disk.now) result }
+        ensures { FlushEnds D.LogDisk self.old self.new result }
     {
         let from = self.tail.next;
         let to = self.table.load_exposed(&mut self.seat);

@@ -22,6 +22,7 @@ returns c =
       whole = omega (arith, was.next, was.end, was.below, done);
       seat = Becomes-then _ _ _ _ (λ view. view) was.seat c.look.ensures.view;
       batch = search rules steps 400000;
-      entries = λ some. subst ReadsWholeEntries (sym (ap (λ m. m.0) c.look.ensures.view.me)) (was.entries (omega (arith, was.end, was.below, done, some)));
+      entries = λ some. subst ReadsWholeEntries (sym (ap (λ m. m.0) c.look.ensures.view.me))
+          (was.entries (omega (arith, was.end, was.below, done, some)));
       at_once = search rules steps 400000;
     }
