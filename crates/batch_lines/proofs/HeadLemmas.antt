@@ -6,7 +6,7 @@ use Rattle.log_record.specs.Spelling.{header, spelling, IsSpellable, BeginsWith}
 use Rattle.log_record.proofs.Fronts.{parts_of, parts_of-fit, first_unit, spelling-parts_of, header-injective}
 use Rattle.end_lines.specs.declared.voice.Voice.{Voice}
 use Rattle.end_lines.specs.declared.voice.Voice.TheVariants.{Lines, Count}
-use Rattle.end_lines.specs.EndLines.{line_said, count_said, is_done, is_refused}
+use Rattle.end_lines.specs.EndLines.{end_line, line_said, count_said, is_done, is_refused}
 use Rattle.end_lines.specs.Telling.{ended}
 
 -- the unit at an index is the first of those behind it
@@ -32,7 +32,8 @@ size-told r k n f t body ok n_fits f_fits t_fits is =
     let fits = parts_of-fit r ok in
     let joined : first_unit p ∷ p.body ≡ header k n f t ∷ body = sym (spelling-parts_of r) ∙ is in
     let same : first_unit p ≡ header k n f t = cc in
-    let found = header-injective p.kind (1 + length p.body) p.field p.txn k n f t (omega (arith, fits.count)) n_fits fits.field f_fits fits.txn t_fits same in
+    let found = header-injective p.kind (1 + length p.body) p.field p.txn k n f t (omega (arith, fits.count)) n_fits
+    fits.field f_fits fits.txn t_fits same in
     omega (arith, ap length (spelling-parts_of r), found.1)
 
 -- of a record that ends no transaction nothing is told
@@ -42,19 +43,17 @@ pub record Silent (voice : Voice) (end : ℕ) (r : Rec) : Type 0 where
   pub said : line_said voice end r ≡ []
   pub lines : count_said voice r ≡ 0
 
+silent-none : (voice : Voice) (end : ℕ) (r : Rec) → end_line end r ≡ [] → is_done r ≡ 0 → is_refused r ≡ 0 → Silent voice end r
+silent-none Lines end r none done refused = record { done = done; refused = refused; said = none; lines = omega (arith, done, refused) }
+silent-none Count end r none done refused = record { done = done; refused = refused; said = refl; lines = refl }
+
 pub ended-silent : (voice : Voice) (end : ℕ) (r : Rec) → ended r ≡ None → Silent voice end r
-ended-silent Lines end (Genesis account balance) is = record { done = refl; refused = refl; said = refl; lines = refl }
-ended-silent Lines end (Update txn account delta prev) is = record { done = refl; refused = refl; said = refl; lines = refl }
-ended-silent Lines end (Commit txn legs) is = absurd cc
-ended-silent Lines end (Short txn leg) is = absurd cc
-ended-silent Lines end (Over txn leg) is = absurd cc
-ended-silent Lines end (Note txn text) is = record { done = refl; refused = refl; said = refl; lines = refl }
-ended-silent Count end (Genesis account balance) is = record { done = refl; refused = refl; said = refl; lines = refl }
-ended-silent Count end (Update txn account delta prev) is = record { done = refl; refused = refl; said = refl; lines = refl }
-ended-silent Count end (Commit txn legs) is = absurd cc
-ended-silent Count end (Short txn leg) is = absurd cc
-ended-silent Count end (Over txn leg) is = absurd cc
-ended-silent Count end (Note txn text) is = record { done = refl; refused = refl; said = refl; lines = refl }
+ended-silent voice end (Genesis account balance) is = silent-none voice end _ refl refl refl
+ended-silent voice end (Update txn account delta prev) is = silent-none voice end _ refl refl refl
+ended-silent voice end (Commit txn legs) is = absurd cc
+ended-silent voice end (Short txn leg) is = absurd cc
+ended-silent voice end (Over txn leg) is = absurd cc
+ended-silent voice end (Note txn text) is = silent-none voice end _ refl refl refl
 
 pub ended-same : (r end : Rec) → ended r ≡ Some end → end ≡ r
 ended-same (Genesis account balance) end is = absurd cc

@@ -55,7 +55,8 @@ abbrev pub counted_one : Tally → Rec → Tally
 counted_one tally rec = record { done = tally.done + is_done rec; refused = tally.refused + is_refused rec }
 
 -- the records whose units end at this index were told, and the others were not
-pub record ToldUpTo (voice : Voice) (from at : ℕ) (units text : List ℕ) (lines : ℕ) (before after : Tally) (records : List Rec) : Type 0 where
+pub record ToldUpTo (voice : Voice) (from at : ℕ) (units text : List ℕ) (lines : ℕ) (before after : Tally) (records : List Rec)
+    : Type 0 where
   pub seen : List Rec
   pub unseen : List Rec
   pub whole : records ≡ seen ++ unseen
@@ -98,6 +99,9 @@ told-none voice from units before records spells = record {
   counts = counted-none before;
 }
 
+none-more : (n : ℕ) → n + 0 ≡ n
+none-more n = omega arith
+
 module _ (voice : Voice) (from at : ℕ) (units text : List ℕ) (lines : ℕ) (before after : Tally) (records : List Rec)
     (told : ToldUpTo voice from at units text lines before after records) (spellable : AllByRecursion IsSpellable records) where
   unseen-spellable : AllByRecursion IsSpellable told.unseen
@@ -107,7 +111,8 @@ module _ (voice : Voice) (from at : ℕ) (units text : List ℕ) (lines : ℕ) (
   pub told-begins : at < length units → (rec : Rec) × BeginsWith (drop at units) rec
   told-begins within = by-unseen told.unseen unseen-spellable told.left
     where
-      by-unseen : (unseen : List Rec) → AllByRecursion IsSpellable unseen → drop at units ≡ units_of unseen → (rec : Rec) × BeginsWith (drop at units) rec
+      by-unseen : (unseen : List Rec) → AllByRecursion IsSpellable unseen → drop at units ≡ units_of unseen
+          → (rec : Rec) × BeginsWith (drop at units) rec
       by-unseen [] all left = absurd (omega (arith, within, length-drop at units, ap length left))
       by-unseen (rec ∷ unseen) all left = (rec, (all.0, units_of unseen, left))
 
@@ -119,7 +124,8 @@ module _ (voice : Voice) (from at : ℕ) (units text : List ℕ) (lines : ℕ) (
   goes : (rec : Rec) → BeginsWith (drop at units) rec → Goes rec
   goes rec begins = by-unseen told.unseen unseen-spellable told.left refl
     where
-      by-unseen : (unseen : List Rec) → AllByRecursion IsSpellable unseen → drop at units ≡ units_of unseen → told.unseen ≡ unseen → Goes rec
+      by-unseen : (unseen : List Rec) → AllByRecursion IsSpellable unseen → drop at units ≡ units_of unseen → told.unseen ≡ unseen
+          → Goes rec
       by-unseen [] all left is = absurd (omega (arith, size_of-some rec, size_of-begins _ rec begins, ap length left))
       by-unseen (next ∷ unseen) all left is =
           let same = spelling-append-injective next rec _ _ all.0 begins.0
@@ -150,11 +156,15 @@ module _ (voice : Voice) (from at : ℕ) (units text : List ℕ) (lines : ℕ) (
 
     units-more : (seen : List Rec) → length (units_of (seen ++ rec ∷ [])) ≡ length (units_of seen) + size_of rec
     units-more [] = omega (arith, ap length (append-nil (spelling rec)))
-    units-more (first ∷ seen) = omega
-        (arith, units-more seen, length-append (spelling first) (units_of (seen ++ rec ∷ [])), length-append (spelling first) (units_of seen))
+    units-more (first ∷ seen) = omega (
+      arith,
+      units-more seen,
+      length-append (spelling first) (units_of (seen ++ rec ∷ [])),
+      length-append (spelling first) (units_of seen),
+    )
 
-    pub told-more : (count : ℕ) → count ≡ count_said voice rec → ToldUpTo voice from (at + size) units (text ++ line_said voice end rec)
-        (lines + count) before next records
+    pub told-more : (count : ℕ) → count ≡ count_said voice rec
+        → ToldUpTo voice from (at + size) units (text ++ line_said voice end rec) (lines + count) before next records
     told-more count count_is = record {
       seen = told.seen ++ rec ∷ [];
       unseen = rest;
@@ -171,20 +181,13 @@ module _ (voice : Voice) (from at : ℕ) (units text : List ℕ) (lines : ℕ) (
   pub told-still : (rec : Rec) → BeginsWith (drop at units) rec → (size end : ℕ) → size ≡ size_of rec → end ≡ from + (at + size)
       → Silent voice end rec → ToldUpTo voice from (at + size) units text lines before after records
   told-still rec begins size end size_is end_is silent =
-      let more = told-more rec begins size end after size_is end_is (omega (arith, silent.done)) (omega (arith, silent.refused)) 0 (sym silent.lines) in
-      record {
-        seen = more.seen;
-        unseen = more.unseen;
-        whole = more.whole;
-        left = more.left;
-        place = more.place;
-        said = sym (append-nil text) ∙ ap (λ us. text ++ us) (sym silent.said) ∙ more.said;
-        lines_are = omega (arith, more.lines_are);
-        counts = more.counts;
-      }
+      subst (λ (p : List ℕ × ℕ). ToldUpTo voice from (at + size) units p.0 p.1 before after records)
+      (λ i. ((ap (λ us. text ++ us) silent.said ∙ append-nil text) i, none-more lines i))
+      (told-more rec begins size end after size_is end_is (omega (arith, silent.done)) (omega (arith, silent.refused)) 0 (sym silent.lines))
 
   -- of the lines told a part was written
-  pub told-part : (written unwritten : List ℕ) → text ≡ written ++ unwritten → 0 < length unwritten → TellsFront voice from records written before after
+  pub told-part : (written unwritten : List ℕ) → text ≡ written ++ unwritten → 0 < length unwritten
+      → TellsFront voice from records written before after
   told-part written unwritten parts some = record {
     told = told.seen;
     untold = told.unseen;
@@ -195,18 +198,24 @@ module _ (voice : Voice) (from at : ℕ) (units text : List ℕ) (lines : ℕ) (
     counts = told.counts;
   }
 
+  none-unseen : length units ≤ at → (unseen : List Rec) → drop at units ≡ units_of unseen → unseen ≡ []
+  none-unseen end [] left = refl
+  none-unseen end (rec ∷ unseen) left = absurd (omega (
+    arith,
+    end,
+    length-drop at units,
+    ap length left,
+    length-append (spelling rec) (units_of unseen),
+    size_of-some rec,
+  ))
+
   -- no units are left
   pub told-all : length units ≤ at → TellsAll voice from records text lines before after
   told-all end =
-      let all = by-unseen told.unseen told.left in
+      let all = none-unseen end told.unseen told.left in
       let seen : told.seen ≡ records = sym (append-nil told.seen) ∙ ap (λ rs. told.seen ++ rs) (sym all) ∙ sym told.whole in
       record {
         text_is = told.said ∙ ap (text_of voice from) seen;
         lines_are = told.lines_are ∙ ap (lines_in voice) seen;
         counts = told.counts ∙ ap (counted before) seen;
       }
-    where
-      by-unseen : (unseen : List Rec) → drop at units ≡ units_of unseen → unseen ≡ []
-      by-unseen [] left = refl
-      by-unseen (rec ∷ unseen) left =
-          absurd (omega (arith, end, length-drop at units, ap length left, length-append (spelling rec) (units_of unseen), size_of-some rec))

@@ -1,13 +1,12 @@
 //! The lines of what a flush sent.
-ghost use Rattle.std.specs.Prelude.{◌≡◌, ◌≤◌, ◌+◌, ◌∷◌, List, ℕ, length, drop, IfOk, OnErr};
-ghost use Rattle.std.specs.Io.KnownBytes.{Appends};
+ghost use Rattle.std.specs.Prelude.{◌≡◌, ◌≤◌, ◌+◌, ◌∷◌, List, ℕ, length, drop};
 ghost use Rattle.lsn_space.specs.declared.lsn.TheConstants.{LAST};
-ghost use Rattle.log_disk.specs.Faults.{HasCause};
 ghost use Rattle.log_record.specs.declared.rec.Rec.{Rec};
 ghost use Rattle.log_record.specs.Spelling.{header, spelling, IsSpellable, BeginsWith};
 ghost use Rattle.log_record.specs.LogList.{AreUnitsOf};
-ghost use Rattle.end_lines.specs.Telling.{TellsAll, TellsFront, ended};
+ghost use Rattle.end_lines.specs.Telling.{ended};
 ghost use Rattle.flusher.specs.Keeping.{StandsInAll};
+ghost use Rattle.batch_lines.specs.Telling.{TellsBatch};
 
 use end_lines::{Tally, Voice, tell_record};
 use flusher::Flusher;
@@ -30,12 +29,7 @@ pub fn tell<D: LogDisk, K: Sink>(
     requires spelled { (records : List Rec) × AreUnitsOf flusher.now.batch.units records }
     requires end { from + length flusher.now.batch.units ≤ LAST }
     requires few { tally.old.done + tally.old.refused + length flusher.now.batch.units ≤ LAST }
-    ensures told { IfOk result (λ lines. (text : List ℕ) × Appends (K.held_bytes sink.old) (K.held_bytes sink.new) text
-        × ((records : List Rec) → AreUnitsOf flusher.now.batch.units records → TellsAll voice from records text lines tally.old tally.new)) }
-    ensures front { OnErr result ((text : List ℕ) × Appends (K.held_bytes sink.old) (K.held_bytes sink.new) text
-        × ((records : List Rec) → AreUnitsOf flusher.now.batch.units records → TellsFront voice from records text tally.old tally.new)) }
-    ensures few { tally.new.done + tally.new.refused ≤ tally.old.done + tally.old.refused + length flusher.now.batch.units }
-    ensures cause { HasCause (K.faults sink.old) (K.faults sink.new) result }
+    ensures { TellsBatch K.Sink voice from flusher.now.batch.units sink.old sink.new tally.old tally.new result }
 {
     tell_batch(&flusher.batch, from, voice, sink, tally)
 }
@@ -51,12 +45,7 @@ fn tell_batch<K: Sink>(
     requires spelled { (records : List Rec) × AreUnitsOf batch.now.units records }
     requires end { from + length batch.now.units ≤ LAST }
     requires few { tally.old.done + tally.old.refused + length batch.now.units ≤ LAST }
-    ensures told { IfOk result (λ lines. (text : List ℕ) × Appends (K.held_bytes sink.old) (K.held_bytes sink.new) text
-        × ((records : List Rec) → AreUnitsOf batch.now.units records → TellsAll voice from records text lines tally.old tally.new)) }
-    ensures front { OnErr result ((text : List ℕ) × Appends (K.held_bytes sink.old) (K.held_bytes sink.new) text
-        × ((records : List Rec) → AreUnitsOf batch.now.units records → TellsFront voice from records text tally.old tally.new)) }
-    ensures few { tally.new.done + tally.new.refused ≤ tally.old.done + tally.old.refused + length batch.now.units }
-    ensures cause { HasCause (K.faults sink.old) (K.faults sink.new) result }
+    ensures { TellsBatch K.Sink voice from batch.now.units sink.old sink.new tally.old tally.new result }
 {
     let mut block = OutputBlock::new();
     let mut at = 0;

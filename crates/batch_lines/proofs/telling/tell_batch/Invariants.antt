@@ -1,8 +1,6 @@
 use Rattle.std.proofs.Common.{◌≡◌, ◌≤◌, ◌+◌, ◌-◌, List, ℕ, length}
 use Rattle.log_disk.specs.Streams.{AppendsBut}
-use Rattle.log_record.specs.declared.rec.Rec.{Rec}
-use Rattle.log_record.specs.LogList.{AreUnitsOf}
-use Rattle.batch_lines.proofs.ToldLemmas.{ToldUpTo}
+use Rattle.batch_lines.proofs.BatchLemmas.{IsToldUpTo}
 use Rattle.batch_lines.proofs.telling.tell_batch.Given as goal
 
 abbrev pub invariant-records : goal.invariant-records
@@ -13,7 +11,7 @@ invariant-records g l = record {
   lines_few : l.lines ≤ l.at;
   few : l.tally.done + l.tally.refused ≤ (l.fn.tally.done + l.fn.tally.refused) + l.at;
   told : (text : List ℕ) × AppendsBut (g.K.Sink.held_bytes l.fn.sink) (g.K.Sink.held_bytes l.sink) text l.block
-      × ((records : List Rec) → AreUnitsOf l.batch.units records → ToldUpTo l.fn.voice l.from l.at l.batch.units text l.lines l.fn.tally l.tally records);
+      × IsToldUpTo l.fn.voice l.from l.at l.batch.units text l.lines l.fn.tally l.tally;
 }
 
 abbrev pub decreases-records : goal.decreases-records
