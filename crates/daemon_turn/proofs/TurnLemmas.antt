@@ -1,5 +1,5 @@
 -- What a turn's parts come to.
-use Rattle.std.proofs.Common.{◌≡◌, ◌≤◌, ◌↔◌, ◌∙◌, sym, ap, subst, refl, ℕ, ◌+◌, ◌++◌, List, length, length-append, arith}
+use Rattle.std.proofs.Common.{◌≡◌, ◌≤◌, ◌∙◌, sym, ap, subst, refl, ℕ, ◌+◌, ◌++◌, List, length, length-append, arith}
 use Rattle.std.specs.Io.KnownBytes.{Appends}
 use Rattle.log_disk.specs.declared.disk.LogDisk.{Ghosts}
 use Rattle.log_disk.specs.declared.sink.Sink.{Ghosts as SinkGhosts}
@@ -7,18 +7,34 @@ use Rattle.log_disk.specs.Faults.{Rose}
 use Rattle.log_record.specs.LogList.{AreUnitsOf}
 use Rattle.log_record.specs.declared.rec.Rec.{Rec}
 use Rattle.log_rule.specs.declared.view.View.{View}
-use Rattle.log_rule.specs.Views.{has_stopped}
+use Rattle.log_rule.specs.Views.{has_stopped, sent_to}
 use Rattle.log_table.specs.declared.table.Seat.{Seat}
 use Rattle.log_table.specs.Seats.{Becomes, view_of}
 use Rattle.end_lines.specs.declared.tally.Tally.{Tally}
 use Rattle.end_lines.specs.declared.voice.Voice.{Voice}
 use Rattle.end_lines.specs.Telling.{TellsAll, TellsFront}
+use Rattle.stop_word.specs.declared.fault.DaemonFault.TheVariants.{DiskFault, WriteFault}
+use Rattle.stop_word.specs.Stopping.{stop_word}
 use mathlib.Core.Logic.{∥∥₁_map}
 use Rattle.flusher.specs.declared.flusher.Flusher.{Flusher}
 use Rattle.flusher.specs.Keeping.{KeepsLog, StandsInAll, read_by, sent_by}
+use Rattle.flusher.proofs.Flushes.{IsSameSeat-becomes}
 use Rattle.flusher.proofs.Keeps.{KeepsLog-same, StandsFrom-last}
+use Rattle.flusher.specs.Sending.{flushed}
 use Rattle.flusher.specs.Flushing.{MayFlush, IsSame, FindsNothing, Sends, Loses, sent_of}
 use Rattle.daemon_turn.specs.OneTurn.{MayGoOn, Stops, FindsAll, SendsAndTells, CannotSend, CannotTell}
+use Rattle.daemon_turn.proofs.SameLemmas.{IsSame-seat, IsSame-trans}
+
+module _ {D : Type 0} (g : Ghosts D) (old sent : Flusher D g) (from to : ℕ) (sends : Sends g old sent from to) where
+  -- the flush began at durable
+  abbrev pub from_durable : Sends g old sent (sent_to (view_of old.seat)) to
+  from_durable = subst (λ n. Sends g old sent n to) sends.durable sends
+
+  -- what is told of the batch is told of the records sent
+  pub told-of : (P : ℕ → List Rec → Type 0) → ((records : List Rec) → AreUnitsOf sent.batch.units records → P from records)
+      → P (sent_to (view_of old.seat)) from_durable.records
+  told-of P told = subst (λ n. P n from_durable.records) sends.durable (told from_durable.records
+      (subst (λ us. AreUnitsOf us from_durable.records) (sym (ap (λ b. b.units) from_durable.batch)) from_durable.spelled))
 
 module _ {D : Type 0} {K : Type 0} (g : Ghosts D) (h : SinkGhosts K) (voice : Voice) (old : Flusher D g) (sink : K) (tally : Tally) where
   -- the flush found nothing to send
@@ -29,26 +45,8 @@ module _ {D : Type 0} {K : Type 0} (g : Ghosts D) (h : SinkGhosts K) (voice : Vo
     tally_is = refl;
   }
 
-  -- the lines of the batch are those of the records sent
-  pub SendsAndTells-told : (new : Flusher D g) (sink' : K) (tally' : Tally) (from to lines : ℕ) → Sends g old new from to
-      → (text : List ℕ) × Appends (h.held_bytes sink) (h.held_bytes sink') text
-      × ((records : List Rec) → AreUnitsOf new.batch.units records → TellsAll voice from records text lines tally tally')
-      → g.faults new.disk.now ≡ g.faults old.disk.now → h.faults sink' ≡ h.faults sink
-      → SendsAndTells g h voice old new sink sink' tally tally' lines to
-  SendsAndTells-told new sink' tally' from to lines sends told disk_fine sink_fine =
-      let flush = subst (λ n. Sends g old new n to) sends.durable sends in
-      record {
-        flush = flush;
-        text = told.0;
-        appended = told.1;
-        tells = subst (λ n. TellsAll voice n flush.records told.0 lines tally tally') sends.durable
-            (told.2 flush.records (subst (λ us. AreUnitsOf us flush.records) (sym (ap (λ b. b.units) flush.batch)) flush.spelled));
-        disk_fine = disk_fine;
-        sink_fine = sink_fine;
-      }
-
   -- the disk failed, and then the stop word was stored
-  pub CannotSend-stop : (lost new : Flusher D g) → Loses g old lost → Stops 1 lost new
+  pub CannotSend-stop : (lost new : Flusher D g) → Loses g old lost → Stops (stop_word DiskFault) lost new
       → Rose (g.faults old.disk.now) (g.faults lost.disk.now) → CannotSend g h voice old new sink sink tally tally
   CannotSend-stop lost new flush stops rose = record {
     lost = lost;
@@ -59,30 +57,44 @@ module _ {D : Type 0} {K : Type 0} (g : Ghosts D) (h : SinkGhosts K) (voice : Vo
     rose = ap (λ f. g.faults f.disk.now) stops.rest.1 ∙ rose;
   }
 
-  -- the sink failed, and then the stop word was stored
-  pub CannotTell-stop : (sent new : Flusher D g) (sink' : K) (tally' : Tally) (from to : ℕ) → Sends g old sent from to
-      → (text : List ℕ) × Appends (h.held_bytes sink) (h.held_bytes sink') text
-      × ((records : List Rec) → AreUnitsOf sent.batch.units records → TellsFront voice from records text tally tally')
-      → Rose (h.faults sink) (h.faults sink') → Stops 2 sent new
-      → g.faults sent.disk.now ≡ g.faults old.disk.now → CannotTell g h voice old new sink sink' tally tally'
-  CannotTell-stop sent new sink' tally' from to sends told rose stops disk_fine =
-      let flush = subst (λ n. Sends g old sent n to) sends.durable sends in
-      record {
-        to = to;
-        sent = sent;
-        flush = flush;
-        stops = stops;
-        text = told.0;
-        appended = told.1;
-        tells = subst (λ n. TellsFront voice n flush.records told.0 tally tally') sends.durable
-            (told.2 flush.records (subst (λ us. AreUnitsOf us flush.records) (sym (ap (λ b. b.units) flush.batch)) flush.spelled));
-        rose = rose;
-        disk_fine = ap (λ f. g.faults f.disk.now) stops.rest.1 ∙ disk_fine;
-      }
+  -- such a text was written, and so the batch is told
+  abbrev pub WritesOf : Flusher D g → K → (List ℕ → List Rec → Type 0) → Type 0
+  WritesOf sent sink' Tells = (text : List ℕ) × Appends (h.held_bytes sink) (h.held_bytes sink') text
+      × ((records : List Rec) → AreUnitsOf sent.batch.units records → Tells text records)
+
+  module _ (sent : Flusher D g) (sink' : K) (tally' : Tally) (from to : ℕ) (sends : Sends g old sent from to)
+      (disk_fine : g.faults sent.disk.now ≡ g.faults old.disk.now) where
+    -- the lines of the batch are those of the records sent
+    pub SendsAndTells-told : (lines : ℕ) → WritesOf sent sink' (λ text records. TellsAll voice from records text lines tally tally')
+        → h.faults sink' ≡ h.faults sink → SendsAndTells g h voice old sent sink sink' tally tally' lines to
+    SendsAndTells-told lines (text, appended, tells) sink_fine = record {
+      flush = from_durable g old sent from to sends;
+      text = text;
+      appended = appended;
+      tells = told-of g old sent from to sends (λ n records. TellsAll voice n records text lines tally tally') tells;
+      disk_fine = disk_fine;
+      sink_fine = sink_fine;
+    }
+
+    -- the sink failed, and then the stop word was stored
+    pub CannotTell-stop : (new : Flusher D g) → WritesOf sent sink' (λ text records. TellsFront voice from records text tally tally')
+        → Rose (h.faults sink) (h.faults sink') → Stops (stop_word WriteFault) sent new
+        → CannotTell g h voice old new sink sink' tally tally'
+    CannotTell-stop new (text, appended, tells) rose stops = record {
+      to = to;
+      sent = sent;
+      flush = from_durable g old sent from to sends;
+      stops = stops;
+      text = text;
+      appended = appended;
+      tells = told-of g old sent from to sends (λ n records. TellsFront voice n records text tally tally') tells;
+      rose = rose;
+      disk_fine = ap (λ f. g.faults f.disk.now) stops.rest.1 ∙ disk_fine;
+    }
 
 -- a further turn may be made: nothing was sent
-pub MayGoOn-found : {D : Type 0} (g : Ghosts D) (old new : Flusher D g) (tally : Tally) (at : ℕ) → FindsNothing old new at → MayGoOn g old tally
-    → MayFlush g new → MayGoOn g new tally
+pub MayGoOn-found : {D : Type 0} (g : Ghosts D) (old new : Flusher D g) (tally : Tally) (at : ℕ) → FindsNothing old new at
+    → MayGoOn g old tally → MayFlush g new → MayGoOn g new tally
 MayGoOn-found g old new tally at finds ready may =
     let is = ap (λ m. m.0) finds.seat.me in
     record {
@@ -93,7 +105,8 @@ MayGoOn-found g old new tally at finds ready may =
 
 -- records were sent, and no more end records counted than they have units
 pub counted-sent : {D : Type 0} (g : Ghosts D) (old new : Flusher D g) (tally tally' : Tally) (from to : ℕ) → Sends g old new from to
-    → tally.done + tally.refused ≤ length (sent_of old) → tally'.done + tally'.refused ≤ (tally.done + tally.refused) + length new.batch.units
+    → tally.done + tally.refused ≤ length (sent_of old)
+    → tally'.done + tally'.refused ≤ (tally.done + tally.refused) + length new.batch.units
     → tally'.done + tally'.refused ≤ length (sent_of new)
 counted-sent g old new tally tally' from to sends counted few =
     let is = ap (λ m. m.0) sends.seat.me in
@@ -113,12 +126,14 @@ pub sent-lost : {D : Type 0} (g : Ghosts D) (old lost : Flusher D g) → Loses g
 sent-lost g old lost loses = ap (λ (v : View). length v.sending.sent) (ap (λ m. m.0) loses.seat.me)
 
 -- the stop word adds nothing to what was sent
-pub sent-stop : (old new : Seat) (word : ℕ) → Becomes old new (has_stopped word (view_of old)) → length (sent_by new) ≡ length (sent_by old)
+pub sent-stop : (old new : Seat) (word : ℕ) → Becomes old new (has_stopped word (view_of old))
+    → length (sent_by new) ≡ length (sent_by old)
 sent-stop old new word becomes = ap (λ (v : View). length v.sending.sent) (ap (λ m. m.0) becomes.me)
 
 -- or records were sent, and no more end records counted than they have units
-pub MayGoOn-sent : {D : Type 0} (g : Ghosts D) (old new : Flusher D g) (tally tally' : Tally) (from to : ℕ) → Sends g old new from to → MayGoOn g old tally
-    → MayFlush g new → tally'.done + tally'.refused ≤ (tally.done + tally.refused) + length new.batch.units → MayGoOn g new tally'
+pub MayGoOn-sent : {D : Type 0} (g : Ghosts D) (old new : Flusher D g) (tally tally' : Tally) (from to : ℕ) → Sends g old new from to
+    → MayGoOn g old tally → MayFlush g new
+    → tally'.done + tally'.refused ≤ (tally.done + tally.refused) + length new.batch.units → MayGoOn g new tally'
 MayGoOn-sent g old new tally tally' from to sends ready may few =
     let is = ap (λ m. m.0) sends.seat.me in
     record {
@@ -128,56 +143,46 @@ MayGoOn-sent g old new tally tally' from to sends ready may few =
     }
 
 -- steps of the seat alone that send and read nothing leave what the disk keeps as it was
-pub keeps-step : {D : Type 0} {g : Ghosts D} (f : Flusher D g) (seat : Seat) → sent_by seat ≡ sent_by f.seat → read_by seat ≡ read_by f.seat
-    → g.honest f.disk.now → ∥ KeepsLog g f.first.value f.disk.now f.tail (sent_by seat) (read_by seat) ∥₁
+pub keeps-step : {D : Type 0} {g : Ghosts D} (f : Flusher D g) (seat : Seat) → sent_by seat ≡ sent_by f.seat
+    → read_by seat ≡ read_by f.seat → g.honest f.disk.now → ∥ KeepsLog g f.first.value f.disk.now f.tail (sent_by seat) (read_by seat) ∥₁
 keeps-step {g = g} f seat sent read honest =
     ∥∥₁_map (f.keeps honest) (λ keeps. KeepsLog-same g f.first.value f.disk.now f.tail _ _ keeps _ _ sent read)
 
-pub keeps-stop : {D : Type 0} {g : Ghosts D} (f : Flusher D g) (seat : Seat) (word : ℕ) → Becomes f.seat seat (has_stopped word (view_of f.seat))
-    → g.honest f.disk.now → ∥ KeepsLog g f.first.value f.disk.now f.tail (sent_by seat) (read_by seat) ∥₁
+pub keeps-stop : {D : Type 0} {g : Ghosts D} (f : Flusher D g) (seat : Seat) (word : ℕ)
+    → Becomes f.seat seat (has_stopped word (view_of f.seat)) → g.honest f.disk.now
+    → ∥ KeepsLog g f.first.value f.disk.now f.tail (sent_by seat) (read_by seat) ∥₁
 keeps-stop f seat word becomes =
     let is = ap (λ m. m.0) becomes.me in
     keeps-step f seat (ap (λ (v : View). v.sending.sent) is) (ap (λ (v : View). v.sending.read) is)
 
 -- the stop word was stored: it is the same flusher
-module _ {D : Type 0} (g : Ghosts D) (old mid new : Flusher D g) (word : ℕ) (same : IsSame g old mid) (stops : Stops word mid new) where
-  pub IsSame-stop : IsSame g old new
-  IsSame-stop =
-      let is = ap (λ m. m.0) stops.seat.me in
-      record {
-        table = ap (λ (f : Flusher D g). f.table) stops.rest.1 ∙ same.table;
-        seat = record {
-          table_is = stops.seat.table_is ∙ same.seat.table_is;
-          slots = ap (λ m. m.1) stops.seat.me ∙ same.seat.slots;
-          constants = ap (λ (v : View). v.constants) is ∙ same.seat.constants;
-          entries = ap (λ (v : View). v.entries) is ∙ same.seat.entries;
-          books = ap (λ (v : View). v.books) is ∙ same.seat.books;
-        };
-        workers = ap (λ (v : View). v.standing) is ∙ same.workers;
-        disk = ap (λ (f : Flusher D g). f.disk.ghost_name) stops.rest.1 ∙ same.disk;
-        honest = subst (λ (f : Flusher D g). g.honest old.disk.now ↔ g.honest f.disk.now) (sym stops.rest.1) same.honest;
-        attached = ap (λ (f : Flusher D g). g.attached f.disk.now) stops.rest.1 ∙ same.attached;
-        later = omega (arith, same.later, ap (λ (f : Flusher D g). g.moment f.disk.now) stops.rest.1);
-        first = ap (λ (f : Flusher D g). f.first.value) stops.rest.1 ∙ same.first;
-      }
+pub IsSame-stop : {D : Type 0} (g : Ghosts D) (old mid new : Flusher D g) (word : ℕ) → IsSame g old mid → Stops word mid new
+    → IsSame g old new
+IsSame-stop g old mid new word same stops = IsSame-trans g old mid new same
+    (IsSame-seat g mid new stops.rest (IsSameSeat-becomes _ _ _ stops.seat refl refl refl) (ap (λ m. m.0.standing) stops.seat.me))
 
 -- what a flush sent stands in each image
-pub StandsInAll-sent : {D : Type 0} (g : Ghosts D) (old new : Flusher D g) (from to : ℕ) → MayFlush g old → MayFlush g new → Sends g old new from to
-    → StandsInAll g new.disk.now from new.batch.units
-StandsInAll-sent g old new from to was may sends honest c image =
-    let is = ap (λ m. m.0) sends.seat.me in
-    let split : sent_of new ≡ sent_of old ++ new.batch.units =
-    ap (λ (v : View). v.sending.sent) is ∙ ap (λ us. sent_of old ++ (us ++ sends.units)) was.unread
-    ∙ ap (λ us. sent_of old ++ us) (sym (ap (λ b. b.units) sends.batch)) in
-    ∥∥₁_map (new.keeps honest) (λ keeps.
-    StandsFrom-last g new.first.value new.disk.now new.tail (sent_of new) (view_of new.seat).sending.read keeps (ap (λ (v : View). v.sending.read) is)
-    (sent_of old) new.batch.units split from
-    (omega (
-      arith,
-      may.next,
-      sends.durable,
-      ap (λ (v : View). v.constants.start) is,
-      ap length split,
-      length-append (sent_of old) new.batch.units,
-    ))
-    c image)
+module _ {D : Type 0} (g : Ghosts D) (old new : Flusher D g) (from to : ℕ) (was : MayFlush g old) (may : MayFlush g new)
+    (sends : Sends g old new from to) where
+  view-sent : view_of new.seat ≡ flushed to sends.units (view_of old.seat)
+  view-sent = ap (λ m. m.0) sends.seat.me
+
+  sent-behind : sent_of new ≡ sent_of old ++ new.batch.units
+  sent-behind = ap (λ (v : View). v.sending.sent) view-sent ∙ ap (λ us. sent_of old ++ (us ++ sends.units)) was.unread
+      ∙ ap (λ us. sent_of old ++ us) (sym (ap (λ b. b.units) sends.batch))
+
+  sent-end : new.tail.next ≡ from + length new.batch.units
+  sent-end = omega (
+    arith,
+    may.next,
+    sends.durable,
+    ap (λ (v : View). v.constants.start) view-sent,
+    ap length sent-behind,
+    length-append (sent_of old) new.batch.units,
+  )
+
+  pub StandsInAll-sent : StandsInAll g new.disk.now from new.batch.units
+  StandsInAll-sent honest c image =
+      ∥∥₁_map (new.keeps honest) (λ keeps. StandsFrom-last g new.first.value new.disk.now new.tail (sent_of new)
+      (view_of new.seat).sending.read keeps (ap (λ (v : View). v.sending.read) view-sent) (sent_of old) new.batch.units sent-behind from
+      sent-end c image)

@@ -1,5 +1,5 @@
--- What one flush, and then the lines of what it sent, ask for and leave. `g` is what a disk shows and `h` what a sink shows; `old` and `new`
--- are the flusher before and after, `sink` and `tally` the sink and the counts before, `sink'` and `tally'` after.
+-- What one flush, and then the lines of what it sent, ask for and leave. `g` is what a disk shows and `h` what a sink shows; `old` and
+-- `new` are the flusher before and after, `sink` and `tally` the sink and the counts before, `sink'` and `tally'` after.
 use Rattle.std.specs.Prelude.{◌≡◌, ℕ, ◌+◌, ◌≤◌, List, length}
 use Rattle.std.specs.Io.KnownBytes.{Appends}
 use Rattle.log_disk.specs.declared.disk.LogDisk.{Ghosts}
@@ -29,7 +29,8 @@ pub record Stops {D : Type 0} {g : Ghosts D} (word : ℕ) (old new : Flusher D g
   pub seat : Becomes old.seat new.seat (has_stopped word (view_of old.seat))
   pub rest : ChangesSeat old new
 
-module _ {D : Type 0} {K : Type 0} (g : Ghosts D) (h : SinkGhosts K) (voice : Voice) (old new : Flusher D g) (sink sink' : K) (tally tally' : Tally) where
+module _ {D : Type 0} {K : Type 0} (g : Ghosts D) (h : SinkGhosts K) (voice : Voice) (old new : Flusher D g) (sink sink' : K)
+    (tally tally' : Tally) where
   -- exposed, as loaded, is durable, and nothing else was done
   pub record FindsAll : Type 0 where
     pub flush : FindsNothing old new (sent_to (view_of old.seat))

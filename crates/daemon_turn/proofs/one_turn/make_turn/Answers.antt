@@ -14,23 +14,26 @@ pub invariant_of-flusher : goal.invariant_of-flusher
 invariant_of-flusher g c = record { keeps = keeps-stop c.flush.new.self c.tell_fault.new.seat _ c.tell_fault.ensures.stops }
 
 pub invariant_of-flusher-in-Err : goal.invariant_of-flusher-in-Err
-invariant_of-flusher-in-Err g c = record { keeps = keeps-stop c.flush.new.self c.tell_fault-in-Err.new.seat _ c.tell_fault-in-Err.ensures.stops }
+invariant_of-flusher-in-Err g c =
+    record { keeps = keeps-stop c.flush.new.self c.tell_fault-in-Err.new.seat _ c.tell_fault-in-Err.ensures.stops }
 
 pub returns-in_default-clause-failed : goal.returns-in_default-clause-failed
 returns-in_default-clause-failed g c =
     rw c.tell_fault.ensures.fault (CannotSend-stop g.D.LogDisk g.K.Sink c.args.voice c.args.flusher.now c.args.sink.now c.args.tally.now
-    c.flush.new.self _ c.in_default.ensures.lost record { seat = c.tell_fault.ensures.stops; rest = (_, refl) } c.in_default.ensures.cause.failed)
+    c.flush.new.self _ c.in_default.ensures.lost record { seat = c.tell_fault.ensures.stops; rest = (_, refl) }
+    c.in_default.ensures.cause.failed)
 
 pub returns-in_default-clause-same : goal.returns-in_default-clause-same
 returns-in_default-clause-same g c =
-    IsSame-stop g.D.LogDisk c.args.flusher.now c.flush.new.self _ 1 c.flush.ensures.same record { seat = c.tell_fault.ensures.stops; rest = (_, refl) }
+    IsSame-stop g.D.LogDisk c.args.flusher.now c.flush.new.self _ _ c.flush.ensures.same
+    record { seat = c.tell_fault.ensures.stops; rest = (_, refl) }
 
 pub returns-in_default-clause-counted : goal.returns-in_default-clause-counted
 returns-in_default-clause-counted g c = omega (
   arith,
   c.requires.ready.counted,
   sent-lost g.D.LogDisk c.args.flusher.now c.flush.new.self c.in_default.ensures.lost,
-  sent-stop c.flush.new.self.seat c.tell_fault.new.seat 1 c.tell_fault.ensures.stops,
+  sent-stop c.flush.new.self.seat c.tell_fault.new.seat _ c.tell_fault.ensures.stops,
 )
 
 pub returns-in_default-flushed-clause-made : goal.returns-in_default-flushed-clause-made
@@ -53,8 +56,8 @@ pub returns-in-Ok-told-clause-made : goal.returns-in-Ok-told-clause-made
 returns-in-Ok-told-clause-made g c =
     let sends = subst (Flushes g.D.LogDisk c.args.flusher.now c.flush.new.self) c.in-To.is c.in-Ok.ensures.flushed in
     SendsAndTells-told g.D.LogDisk g.K.Sink c.args.voice c.args.flusher.now c.args.sink.now c.args.tally.now
-    c.flush.new.self c.tell-told.new.sink c.tell-told.new.tally c.in-To.from c.in-To.to c.in-Ok-told.lines sends
-    c.in-Ok-told.ensures.told c.in-Ok.ensures.cause.fine c.in-Ok-told.ensures.cause.fine
+    c.flush.new.self c.tell-told.new.sink c.tell-told.new.tally c.in-To.from c.in-To.to sends c.in-Ok.ensures.cause.fine
+    c.in-Ok-told.lines c.in-Ok-told.ensures.told c.in-Ok-told.ensures.cause.fine
 
 pub returns-in-Ok-told-clause-ready : goal.returns-in-Ok-told-clause-ready
 returns-in-Ok-told-clause-ready g c =
@@ -71,18 +74,19 @@ returns-in-Ok-told-clause-counted g c = (returns-in-Ok-told-clause-ready g c).co
 pub returns-in-Err-clause-counted : goal.returns-in-Err-clause-counted
 returns-in-Err-clause-counted g c =
     let sends = subst (Flushes g.D.LogDisk c.args.flusher.now c.flush.new.self) c.in-To.is c.in-Ok.ensures.flushed in
-    let sent = counted-sent g.D.LogDisk c.args.flusher.now c.flush.new.self c.args.tally.now c.tell-told.new.tally c.in-To.from c.in-To.to sends
-    c.requires.ready.counted c.tell-told.ensures.few in
-    omega (arith, sent, sent-stop c.flush.new.self.seat c.tell_fault-in-Err.new.seat 2 c.tell_fault-in-Err.ensures.stops)
+    let sent = counted-sent g.D.LogDisk c.args.flusher.now c.flush.new.self c.args.tally.now c.tell-told.new.tally c.in-To.from c.in-To.to
+    sends c.requires.ready.counted c.tell-told.ensures.few in
+    omega (arith, sent, sent-stop c.flush.new.self.seat c.tell_fault-in-Err.new.seat _ c.tell_fault-in-Err.ensures.stops)
 
 pub returns-in-Err-clause-failed : goal.returns-in-Err-clause-failed
 returns-in-Err-clause-failed g c =
     let sends = subst (Flushes g.D.LogDisk c.args.flusher.now c.flush.new.self) c.in-To.is c.in-Ok.ensures.flushed in
     rw c.tell_fault-in-Err.ensures.fault
     (CannotTell-stop g.D.LogDisk g.K.Sink c.args.voice c.args.flusher.now c.args.sink.now c.args.tally.now
-    c.flush.new.self _ c.tell-told.new.sink c.tell-told.new.tally c.in-To.from c.in-To.to sends c.in-Err.ensures.front c.in-Err.ensures.cause.failed
-    record { seat = c.tell_fault-in-Err.ensures.stops; rest = (_, refl) } c.in-Ok.ensures.cause.fine)
+    c.flush.new.self c.tell-told.new.sink c.tell-told.new.tally c.in-To.from c.in-To.to sends c.in-Ok.ensures.cause.fine
+    _ c.in-Err.ensures.front c.in-Err.ensures.cause.failed record { seat = c.tell_fault-in-Err.ensures.stops; rest = (_, refl) })
 
 pub returns-in-Err-clause-same : goal.returns-in-Err-clause-same
 returns-in-Err-clause-same g c =
-    IsSame-stop g.D.LogDisk c.args.flusher.now c.flush.new.self _ 2 c.flush.ensures.same record { seat = c.tell_fault-in-Err.ensures.stops; rest = (_, refl) }
+    IsSame-stop g.D.LogDisk c.args.flusher.now c.flush.new.self _ _ c.flush.ensures.same
+    record { seat = c.tell_fault-in-Err.ensures.stops; rest = (_, refl) }
