@@ -23,50 +23,58 @@ use Rattle.segment_file.proofs.LogLemmas.{with_units-nil}
 use Rattle.flusher.specs.Keeping.{HoldsFront}
 use Rattle.daemon_turn.specs.OneTurn.{Stops}
 
--- these records were sent, those cut are in flight, at most so many calls were made, and the file grew by at most 13 bytes for each unit sent and
--- one batch in flight
+-- these records were sent, those cut are in flight, at most so many calls were made, and the file grew by at most 13 bytes for each unit
+-- sent and one batch in flight: what of this the disk shows
+pub record Wrote {D : Type 0} (g : Ghosts D) (more cut : List Rec) (most : ℕ) (old : Flusher D g) (end : Tail) (disk : D) : Type 0 where
+  pub moments : g.honest old.disk.now → (log : Log) → LogStands old.tail log (g.images old.disk.now)
+      → Leaves g.moment g.images_since (HoldsFront log (more ++ cut)) old.disk.now disk
+  pub stands : cut ≡ [] → g.honest old.disk.now → (log : Log) → LogStands old.tail log (g.images old.disk.now)
+      → LogStands end (with_units log (units_of more)) (g.images disk)
+  pub count : g.honest old.disk.now → Costs g most most old.disk.now disk
+  pub tail : end.at ≤ old.tail.at + 13 * end_of more
+  pub grows : g.honest old.disk.now → GrowsAtMostTo g (most_end old.tail.at (end_of more) (view_of old.seat).constants.ring) old.disk.now disk
+
+-- and what of it the seat knows
 pub record Flew {D : Type 0} (g : Ghosts D) (more cut : List Rec) (most : ℕ) (old new : Flusher D g) : Type 0 where
   pub constants : (view_of new.seat).constants ≡ (view_of old.seat).constants
   pub sent : sent_of new ≡ sent_of old ++ units_of more
   pub read : (view_of new.seat).sending.read ≡ units_of cut
-  pub moments : g.honest old.disk.now → (log : Log) → LogStands old.tail log (g.images old.disk.now)
-      → Leaves g.moment g.images_since (HoldsFront log (more ++ cut)) old.disk.now new.disk.now
-  pub stands : cut ≡ [] → g.honest old.disk.now → (log : Log) → LogStands old.tail log (g.images old.disk.now)
-      → LogStands new.tail (with_units log (units_of more)) (g.images new.disk.now)
-  pub count : g.honest old.disk.now → Costs g most most old.disk.now new.disk.now
-  pub tail : new.tail.at ≤ old.tail.at + 13 * end_of more
-  pub grows : g.honest old.disk.now
-      → GrowsAtMostTo g (most_end old.tail.at (end_of more) (view_of old.seat).constants.ring) old.disk.now new.disk.now
+  pub wrote : Wrote g more cut most old new.tail new.disk.now
 
--- a step of the seat alone
+-- nothing was written
+pub Wrote-none : {D : Type 0} (g : Ghosts D) (f : Flusher D g) → Wrote g [] [] 0 f f.tail f.disk.now
+Wrote-none g f = record {
+  moments = λ honest log stood. Leaves-refl g.moment g.images_since (HoldsFront log []) f.disk.now;
+  stands = λ none honest log stood. subst (λ l. LogStands f.tail l (g.images f.disk.now)) (sym (with_units-nil log)) stood;
+  count = λ honest. Costs-none g f.disk.now;
+  tail = omega arith;
+  grows = λ honest. GrowsAtMostTo-same g _ f.disk.now f.disk.now refl;
+}
+
+-- a step of the seat alone writes nothing
+pub Wrote-seat : {D : Type 0} (g : Ghosts D) (more cut : List Rec) (most : ℕ) (old mid new : Flusher D g) → ChangesSeat mid new
+    → Wrote g more cut most old mid.tail mid.disk.now → Wrote g more cut most old new.tail new.disk.now
+Wrote-seat g more cut most old mid new alone wrote =
+    subst (λ (f : Flusher _ _). Wrote g more cut most old f.tail f.disk.now) (sym alone.1) wrote
+
 pub Flew-step : {D : Type 0} (g : Ghosts D) (old new : Flusher D g) → ChangesSeat old new
     → (view_of new.seat).constants ≡ (view_of old.seat).constants
     → sent_of new ≡ sent_of old → (view_of new.seat).sending.read ≡ [] → Flew g [] [] 0 old new
-Flew-step g old new rest constants sent read = record {
+Flew-step g old new alone constants sent read = record {
   constants = constants;
   sent = sent ∙ sym (append-nil (sent_of old));
   read = read;
-  moments = λ honest log stood.
-      let P = HoldsFront log [] in
-      subst (λ (f : Flusher _ _). Leaves g.moment g.images_since P old.disk.now f.disk.now) (sym rest.1)
-      (Leaves-refl g.moment g.images_since P old.disk.now);
-  stands = λ none honest log stood.
-      subst (λ (f : Flusher _ _). LogStands f.tail (with_units log []) (g.images f.disk.now)) (sym rest.1)
-      (subst (λ l. LogStands old.tail l (g.images old.disk.now)) (sym (with_units-nil log)) stood);
-  count = λ honest. subst (λ (f : Flusher _ _). Costs g 0 0 old.disk.now f.disk.now) (sym rest.1) (Costs-none g old.disk.now);
-  tail = omega (arith, ap (λ (f : Flusher _ _). f.tail.at) rest.1);
-  grows = λ honest. GrowsAtMostTo-same g _ old.disk.now new.disk.now (ap (λ (f : Flusher _ _). g.reads f.disk.now) rest.1);
+  wrote = Wrote-seat g [] [] 0 old old new alone (Wrote-none g old);
 }
 
--- the list before, or it with all the records: a front of them
-HoldsFront-either : (before : Log) (units : List ℕ) (records : List Rec) (bytes : List ℕ) → units ≡ units_of records → HoldsLogOrMore before units bytes
-    → HoldsFront before records bytes
-HoldsFront-either before units records bytes same (inl held) = record {
-  front = [];
-  rest = records;
-  whole = refl;
-  holds = subst (HoldsLog bytes) (sym (with_units-nil before)) held;
-}
+-- the list before is a front of the records, and so is it with all of them
+HoldsFront-before : (before : Log) (records : List Rec) (bytes : List ℕ) → HoldsLog bytes before → HoldsFront before records bytes
+HoldsFront-before before records bytes held =
+    record { front = []; rest = records; whole = refl; holds = subst (HoldsLog bytes) (sym (with_units-nil before)) held }
+
+HoldsFront-either : (before : Log) (units : List ℕ) (records : List Rec) (bytes : List ℕ) → units ≡ units_of records
+    → HoldsLogOrMore before units bytes → HoldsFront before records bytes
+HoldsFront-either before units records bytes same (inl held) = HoldsFront-before before records bytes held
 HoldsFront-either before units records bytes same (inr held) = record {
   front = records;
   rest = [];
@@ -74,68 +82,68 @@ HoldsFront-either before units records bytes same (inr held) = record {
   holds = subst (λ us. HoldsLog bytes (with_units before us)) same held;
 }
 
-pub Flew-sends : {D : Type 0} (g : Ghosts D) (old new : Flusher D g) (from to : ℕ) → MayFlush g old → (sends : Sends g old new from to)
-    → Flew g sends.records [] 4 old new
-Flew-sends g old new from to ready sends =
-    let is : view_of new.seat ≡ flushed to sends.units (view_of old.seat) = ap (λ m. m.0) sends.seat.me in
-    let whole : sends.records ++ [] ≡ sends.records = append-nil sends.records in
-    record {
-      constants = ap (λ (v : View). v.constants) is;
-      sent = ap (λ (v : View). v.sending.sent) is ∙ ap (λ us. sent_of old ++ (us ++ sends.units)) ready.unread
-          ∙ ap (λ us. sent_of old ++ us) sends.spelled.units_are;
-      read = ap (λ (v : View). v.sending.read) is;
-      moments = λ honest log stood.
-          Leaves-weaken g.moment g.images_since _ _ old.disk.now new.disk.now
-          (λ c either. subst (λ rs. HoldsFront log rs c) (sym whole)
-          (HoldsFront-either log sends.units sends.records c sends.spelled.units_are either))
-          (sends.writes.moments honest log stood);
-      stands = λ none honest log stood.
-          subst (λ us. LogStands new.tail (with_units log us) (g.images new.disk.now)) sends.spelled.units_are (sends.stands honest log stood);
-      count = sends.writes.count;
-      tail = omega (arith, ap (λ (tail : Tail). tail.at) sends.tail, sends.some, sends.whole, ap length sends.spelled.units_are);
-      grows = λ honest. GrowsAtMostTo-more g (old.tail.at + 6 + 8 * length sends.units) _ old.disk.now new.disk.now
-          (omega (arith, sends.some, sends.whole, ap length sends.spelled.units_are)) (sends.writes.grows honest);
-    }
+-- a flush sent these units, which spell the records
+module _ {D : Type 0} (g : Ghosts D) (old new : Flusher D g) (from to : ℕ) (ready : MayFlush g old) (sends : Sends g old new from to) where
+  front-sent : (log : Log) (bytes : List ℕ) → HoldsLogOrMore log sends.units bytes → HoldsFront log (sends.records ++ []) bytes
+  front-sent log bytes either = subst (λ rs. HoldsFront log rs bytes) (sym (append-nil sends.records))
+      (HoldsFront-either log sends.units sends.records bytes sends.spelled.units_are either)
 
-pub Flew-loses : {D : Type 0} (g : Ghosts D) (old new : Flusher D g) → MayFlush g old → (loses : Loses g old new)
-    → Flew g [] loses.records 4 old new
-Flew-loses g old new ready loses =
-    let is : view_of new.seat ≡ gathered loses.to loses.units (view_of old.seat) = ap (λ m. m.0) loses.seat.me in
-    record {
-      constants = ap (λ (v : View). v.constants) is;
-      sent = ap (λ (v : View). v.sending.sent) is ∙ sym (append-nil (sent_of old));
-      read = ap (λ (v : View). v.sending.read) is ∙ ap (λ us. us ++ loses.units) ready.unread ∙ loses.spelled.units_are;
-      moments = λ honest log stood.
-          Leaves-weaken g.moment g.images_since _ _ old.disk.now new.disk.now
-          (λ c either. HoldsFront-either log loses.units loses.records c loses.spelled.units_are either)
-          (loses.writes.moments honest log stood);
-      stands = λ none. absurd (omega (arith, loses.some, ap length loses.spelled.units_are, ap (λ rs. length (units_of rs)) none));
-      count = loses.writes.count;
-      tail = omega (arith, ap (λ (tail : Tail). tail.at) loses.tail);
-      grows = λ honest. GrowsAtMostTo-more g (old.tail.at + 6 + 8 * length loses.units) _ old.disk.now new.disk.now (omega (arith, loses.few))
-          (loses.writes.grows honest);
-    }
+  Wrote-sends : Wrote g sends.records [] 4 old new.tail new.disk.now
+  Wrote-sends = record {
+    moments = λ honest log stood.
+        Leaves-weaken g.moment g.images_since _ _ old.disk.now new.disk.now (front-sent log) (sends.writes.moments honest log stood);
+    stands = λ none honest log stood.
+        subst (λ us. LogStands new.tail (with_units log us) (g.images new.disk.now)) sends.spelled.units_are
+        (sends.stands honest log stood);
+    count = sends.writes.count;
+    tail = omega (arith, ap (λ (tail : Tail). tail.at) sends.tail, sends.some, sends.whole, ap length sends.spelled.units_are);
+    grows = λ honest. GrowsAtMostTo-more g (old.tail.at + 6 + 8 * length sends.units) _ old.disk.now new.disk.now
+        (omega (arith, sends.some, sends.whole, ap length sends.spelled.units_are)) (sends.writes.grows honest);
+  }
+
+  pub Flew-sends : Flew g sends.records [] 4 old new
+  Flew-sends =
+      let is : view_of new.seat ≡ flushed to sends.units (view_of old.seat) = ap (λ m. m.0) sends.seat.me in
+      record {
+        constants = ap (λ (v : View). v.constants) is;
+        sent = ap (λ (v : View). v.sending.sent) is ∙ ap (λ us. sent_of old ++ (us ++ sends.units)) ready.unread
+            ∙ ap (λ us. sent_of old ++ us) sends.spelled.units_are;
+        read = ap (λ (v : View). v.sending.read) is;
+        wrote = Wrote-sends;
+      }
+
+-- or it lost them
+module _ {D : Type 0} (g : Ghosts D) (old new : Flusher D g) (ready : MayFlush g old) (loses : Loses g old new) where
+  Wrote-loses : Wrote g [] loses.records 4 old new.tail new.disk.now
+  Wrote-loses = record {
+    moments = λ honest log stood. Leaves-weaken g.moment g.images_since _ _ old.disk.now new.disk.now
+        (λ c either. HoldsFront-either log loses.units loses.records c loses.spelled.units_are either)
+        (loses.writes.moments honest log stood);
+    stands = λ none. absurd (omega (arith, loses.some, ap length loses.spelled.units_are, ap (λ rs. length (units_of rs)) none));
+    count = loses.writes.count;
+    tail = omega (arith, ap (λ (tail : Tail). tail.at) loses.tail);
+    grows = λ honest. GrowsAtMostTo-more g (old.tail.at + 6 + 8 * length loses.units) _ old.disk.now new.disk.now
+        (omega (arith, loses.few)) (loses.writes.grows honest);
+  }
+
+  pub Flew-loses : Flew g [] loses.records 4 old new
+  Flew-loses =
+      let is : view_of new.seat ≡ gathered loses.to loses.units (view_of old.seat) = ap (λ m. m.0) loses.seat.me in
+      record {
+        constants = ap (λ (v : View). v.constants) is;
+        sent = ap (λ (v : View). v.sending.sent) is ∙ sym (append-nil (sent_of old));
+        read = ap (λ (v : View). v.sending.read) is ∙ ap (λ us. us ++ loses.units) ready.unread ∙ loses.spelled.units_are;
+        wrote = Wrote-loses;
+      }
 
 -- and then the stop word was stored
 pub Flew-stop : {D : Type 0} (g : Ghosts D) (more cut : List Rec) (most word : ℕ) (old mid new : Flusher D g) → Flew g more cut most old mid
-    → Stops word mid new
-    → Flew g more cut most old new
+    → Stops word mid new → Flew g more cut most old new
 Flew-stop g more cut most word old mid new flew stops =
     let is : view_of new.seat ≡ has_stopped word (view_of mid.seat) = ap (λ m. m.0) stops.seat.me in
-    let sent : sent_of new ≡ sent_of mid = ap (λ (v : View). v.sending.sent) is in
-    let read : (view_of new.seat).sending.read ≡ (view_of mid.seat).sending.read = ap (λ (v : View). v.sending.read) is in
     record {
       constants = ap (λ (v : View). v.constants) is ∙ flew.constants;
-      sent = sent ∙ flew.sent;
-      read = read ∙ flew.read;
-      moments = λ honest log stood.
-          subst (λ (f : Flusher _ _). Leaves g.moment g.images_since (HoldsFront log (more ++ cut)) old.disk.now f.disk.now)
-          (sym stops.rest.1) (flew.moments honest log stood);
-      stands = λ none honest log stood.
-          subst (λ (f : Flusher _ _). LogStands f.tail (with_units log (units_of more)) (g.images f.disk.now)) (sym stops.rest.1)
-          (flew.stands none honest log stood);
-      count = λ honest. subst (λ (f : Flusher _ _). Costs g most most old.disk.now f.disk.now) (sym stops.rest.1) (flew.count honest);
-      tail = omega (arith, flew.tail, ap (λ (f : Flusher _ _). f.tail.at) stops.rest.1);
-      grows = λ honest. subst (λ (f : Flusher _ _). GrowsAtMostTo g (most_end old.tail.at (end_of more) (view_of old.seat).constants.ring) old.disk.now f.disk.now)
-          (sym stops.rest.1) (flew.grows honest);
+      sent = ap (λ (v : View). v.sending.sent) is ∙ flew.sent;
+      read = ap (λ (v : View). v.sending.read) is ∙ flew.read;
+      wrote = Wrote-seat g more cut most old mid new stops.rest flew.wrote;
     }

@@ -72,7 +72,8 @@ prefix-certain (Some xs) (Some ys) all appends =
     (drop (length xs) ys, drop (length (drop (length xs) ys)) all, written.rest, written.text)
 
 -- what was read is what is in flight
-pub in_flight-read : (fault : Option DaemonFault) (view : View) (cut : List Rec) → InFlight fault view cut → view.sending.read ≡ units_of cut
+pub in_flight-read : (fault : Option DaemonFault) (view : View) (cut : List Rec) → InFlight fault view cut
+    → view.sending.read ≡ units_of cut
 in_flight-read None view cut flight = flight.1 ∙ ap units_of (sym flight.0)
 in_flight-read (Some DiskFault) view cut flight = flight
 in_flight-read (Some WriteFault) view cut flight = flight.1 ∙ ap units_of (sym flight.0)
@@ -82,7 +83,8 @@ spellable-left : (xs ys : List Rec) → AllByRecursion IsSpellable (xs ++ ys) �
 spellable-left [] ys each = tt
 spellable-left (x ∷ xs) ys each = (each.0, spellable-left xs ys each.1)
 
-module _ {D : Type 0} {K : Type 0} (g : Ghosts D) (h : SinkGhosts K) (old new : Daemon D K g h) (made : IsMade old) (ran : Ran g h old new) where
+module _ {D : Type 0} {K : Type 0} (g : Ghosts D) (h : SinkGhosts K) (old new : Daemon D K g h) (made : IsMade old)
+    (ran : Ran g h old new) where
   -- all that was sent since the daemon was made are the records of the turns
   sent-all : sent_of new.flusher ≡ units_of ran.more
   sent-all = ran.sent ∙ ap (λ us. us ++ units_of ran.more) made.unsent
@@ -105,11 +107,13 @@ module _ {D : Type 0} {K : Type 0} (g : Ghosts D) (h : SinkGhosts K) (old new : 
         (in_flight-read new.fault (view_of new.flusher.seat) ran.cut ran.in_flight) (keeps.now c image)))
 
     -- each image holds the log that stood and the records sent, or with them those in flight
-    pub Ran-now : (c : List ℕ) → g.images new.flusher.disk.now c → HoldsLogOrMore (with_units opened (units_of ran.more)) (units_of ran.cut) c
+    pub Ran-now : (c : List ℕ) → g.images new.flusher.disk.now c
+        → HoldsLogOrMore (with_units opened (units_of ran.more)) (units_of ran.cut) c
     Ran-now c image = either-certain (with_units opened (units_of ran.more)) (units_of ran.cut) c
         (∥∥₁_elim (new.flusher.keeps (ran.same.flusher.honest.0 honest)) squash₁ (λ keeps. ∣ held-now c image keeps ∣₁))
 
-  same-records : (begun now : View) → (since : SentSince begun now) → begun.sending.sent ≡ [] → now.sending.sent ≡ units_of ran.more → since.more ≡ ran.more
+  same-records : (begun now : View) → (since : SentSince begun now) → begun.sending.sent ≡ [] → now.sending.sent ≡ units_of ran.more
+      → since.more ≡ ran.more
   same-records begun now since none sent =
       units_of-injective since.more ran.more (All-from_recursion IsSpellable since.more since.spellable)
       (All-from_recursion IsSpellable ran.more (spellable-left ran.more ran.cut ran.spellable))
@@ -141,7 +145,8 @@ module _ {D : Type 0} {K : Type 0} (g : Ghosts D) (h : SinkGhosts K) (old new : 
       (∥∥₁_elim new.told squash₁ (λ has. ∣ told-prefix has ∣₁))
 
   -- and all of them where nothing befell the daemon
-  pub Ran-told_all : new.fault ≡ None → Appends (h.held_bytes old.sink.now) (h.held_bytes new.sink.now) (text_of old.voice (durable old) ran.more)
+  pub Ran-told_all : new.fault ≡ None
+      → Appends (h.held_bytes old.sink.now) (h.held_bytes new.sink.now) (text_of old.voice (durable old) ran.more)
   Ran-told_all fine =
       let has = (ran.may_turn fine).all_told in
       subst (λ first. Appends (h.held_bytes first) (h.held_bytes new.sink.now) (text_of old.voice (durable old) ran.more)) sink-first

@@ -2,6 +2,9 @@
 use Rattle.std.proofs.Common.{◌≡◌, ◌≢◌, ◌<◌, ◌∙◌, sym, ap, refl, subst, inl, inr, ℕ, ◌+◌, ◌*◌, List, [], ◌++◌, length, length-append, append_assoc, append-nil, arith, Option, Some, None}
 use Rattle.std.proofs.lemmas.List.Concat.{flat_map-append}
 use Rattle.std.specs.List.{AllByRecursion}
+use Rattle.log_disk.specs.Costs.{Costs}
+use Rattle.log_disk.specs.Disk.{Leaves}
+use Rattle.log_disk.specs.Lengths.{GrowsAtMostTo}
 use Rattle.log_disk.specs.declared.disk.LogDisk.{Ghosts}
 use Rattle.log_disk.specs.declared.sink.Sink.{Ghosts as SinkGhosts}
 use Rattle.log_disk.proofs.Counting.{Costs-more, Costs-then, CountsWhere-after}
@@ -18,6 +21,7 @@ use Rattle.segment_file.proofs.LogLemmas.{with_units-append}
 use Rattle.segment_file.specs.Lengths.{most_end}
 use Rattle.segment_file.specs.Standing.{LogStands}
 use Rattle.flusher.specs.Flushing.{sent_of}
+use Rattle.daemon_turn.proofs.SameLemmas.{IsSame-refl, IsSame-trans}
 use Rattle.commit_pipeline.specs.declared.daemon.Daemon.{Daemon}
 use Rattle.stop_word.specs.declared.fault.DaemonFault.{DaemonFault}
 use Rattle.stop_word.specs.declared.fault.DaemonFault.TheVariants.{DiskFault, WriteFault}
@@ -35,27 +39,16 @@ use Rattle.end_lines.proofs.LineLemmas.{text_of-append, counted-append}
 pub IsSameDaemon-trans : {D : Type 0} {K : Type 0} {h : SinkGhosts K} (g : Ghosts D) (a b c : Daemon D K g h)
     → IsSameDaemon g a b → IsSameDaemon g b c → IsSameDaemon g a c
 IsSameDaemon-trans g a b c first second = record {
-  flusher = record {
-    table = second.flusher.table ∙ first.flusher.table;
-    seat = record {
-      table_is = second.flusher.seat.table_is ∙ first.flusher.seat.table_is;
-      slots = second.flusher.seat.slots ∙ first.flusher.seat.slots;
-      constants = second.flusher.seat.constants ∙ first.flusher.seat.constants;
-      entries = second.flusher.seat.entries ∙ first.flusher.seat.entries;
-      books = second.flusher.seat.books ∙ first.flusher.seat.books;
-    };
-    workers = second.flusher.workers ∙ first.flusher.workers;
-    disk = second.flusher.disk ∙ first.flusher.disk;
-    honest = (λ honest. second.flusher.honest.0 (first.flusher.honest.0 honest), λ honest. first.flusher.honest.1 (second.flusher.honest.1 honest));
-    attached = second.flusher.attached ∙ first.flusher.attached;
-    later = omega (arith, first.flusher.later, second.flusher.later);
-    first = second.flusher.first ∙ first.flusher.first;
-  };
+  flusher = IsSame-trans g a.flusher b.flusher c.flusher first.flusher second.flusher;
   sink = second.sink ∙ first.sink;
   voice = second.voice ∙ first.voice;
   first = second.first ∙ first.first;
   begun = second.begun ∙ first.begun;
 }
+
+pub IsSameDaemon-refl : {D : Type 0} {K : Type 0} {h : SinkGhosts K} (g : Ghosts D) (d : Daemon D K g h) → IsSameDaemon g d d
+IsSameDaemon-refl g d =
+    record { flusher = IsSame-refl g d.flusher; sink = refl; voice = refl; first = refl; begun = refl }
 
 -- a front of what follows the first few is, behind these, a front of all
 HoldsFront-behind : (before : Log) (done more : List Rec) (bytes : List ℕ) → HoldsFront (with_units before (units_of done)) more bytes
@@ -69,8 +62,8 @@ HoldsFront-behind before done more bytes some = record {
 }
 
 -- what was written then is a front of the lines of all the records, and not all
-pub TellsFront-part : (voice : Voice) (at : ℕ) (records : List Rec) (text : List ℕ) (before after : Tally) → TellsFront voice at records text before after
-    → (rest : List ℕ) × (0 < length rest) × (text_of voice at records ≡ text ++ rest)
+pub TellsFront-part : (voice : Voice) (at : ℕ) (records : List Rec) (text : List ℕ) (before after : Tally)
+    → TellsFront voice at records text before after → (rest : List ℕ) × (0 < length rest) × (text_of voice at records ≡ text ++ rest)
 TellsFront-part voice at records text before after front =
     let later : List ℕ = text_of voice (at + length (units_of front.told)) front.untold in (
       front.unwritten ++ later,
@@ -79,8 +72,8 @@ TellsFront-part voice at records text before after front =
           ∙ append_assoc text front.unwritten later,
     )
 
-pub TellsFront-text : (voice : Voice) (at : ℕ) (records : List Rec) (text : List ℕ) (before after : Tally) → TellsFront voice at records text before after
-    → (rest : List ℕ) × (text_of voice at records ≡ text ++ rest)
+pub TellsFront-text : (voice : Voice) (at : ℕ) (records : List Rec) (text : List ℕ) (before after : Tally)
+    → TellsFront voice at records text before after → (rest : List ℕ) × (text_of voice at records ≡ text ++ rest)
 TellsFront-text voice at records text before after front =
     let part = TellsFront-part voice at records text before after front in (part.0, part.2)
 
@@ -105,7 +98,8 @@ none-in_flight fault view cut fine flight = (subst (λ f. InFlight f view cut) f
 extra-fine : (fault : Option DaemonFault) → fault ≡ None → extra fault ≡ 0
 extra-fine fault fine = ap extra fine
 
-module _ {D : Type 0} {K : Type 0} (g : Ghosts D) (h : SinkGhosts K) (a b c : Daemon D K g h) (first : Ran g h a b) (second : Ran g h b c) where
+module _ {D : Type 0} {K : Type 0} (g : Ghosts D) (h : SinkGhosts K) (a b c : Daemon D K g h) (first : Ran g h a b)
+    (second : Ran g h b c) where
   fine : b.fault ≡ None
   fine = second.was_fine
 
@@ -121,17 +115,19 @@ module _ {D : Type 0} {K : Type 0} (g : Ghosts D) (h : SinkGhosts K) (a b c : Da
   records : (first.more ++ second.more) ++ second.cut ≡ first.more ++ (second.more ++ second.cut)
   records = append_assoc first.more second.more second.cut
 
-  HoldsFront-first : (log : Log) (c' : List ℕ) → HoldsFront log (first.more ++ first.cut) c' → HoldsFront log ((first.more ++ second.more) ++ second.cut) c'
-  HoldsFront-first log c' some =
-      subst (λ rs. HoldsFront log rs c') (sym records)
-      (HoldsFront-more log first.more (second.more ++ second.cut) c' (subst (λ rs. HoldsFront log rs c') no_cut some))
+  HoldsFront-first : (log : Log) (bytes : List ℕ) → HoldsFront log (first.more ++ first.cut) bytes
+      → HoldsFront log ((first.more ++ second.more) ++ second.cut) bytes
+  HoldsFront-first log bytes some =
+      subst (λ rs. HoldsFront log rs bytes) (sym records)
+      (HoldsFront-more log first.more (second.more ++ second.cut) bytes (subst (λ rs. HoldsFront log rs bytes) no_cut some))
 
-  HoldsFront-second : (log : Log) (c' : List ℕ) → HoldsFront (with_units log (units_of first.more)) (second.more ++ second.cut) c'
-      → HoldsFront log ((first.more ++ second.more) ++ second.cut) c'
-  HoldsFront-second log c' some =
-      subst (λ rs. HoldsFront log rs c') (sym records) (HoldsFront-behind log first.more (second.more ++ second.cut) c' some)
+  HoldsFront-second : (log : Log) (bytes : List ℕ) → HoldsFront (with_units log (units_of first.more)) (second.more ++ second.cut) bytes
+      → HoldsFront log ((first.more ++ second.more) ++ second.cut) bytes
+  HoldsFront-second log bytes some =
+      subst (λ rs. HoldsFront log rs bytes) (sym records) (HoldsFront-behind log first.more (second.more ++ second.cut) bytes some)
 
-  both : (log : Log) → with_units (with_units log (units_of first.more)) (units_of second.more) ≡ with_units log (units_of (first.more ++ second.more))
+  both : (log : Log)
+      → with_units (with_units log (units_of first.more)) (units_of second.more) ≡ with_units log (units_of (first.more ++ second.more))
   both log = with_units-append log (units_of first.more) (units_of second.more)
       ∙ ap (λ us. with_units log us) (sym (flat_map-append spelling first.more second.more))
 
@@ -155,54 +151,87 @@ module _ {D : Type 0} {K : Type 0} (g : Ghosts D) (h : SinkGhosts K) (a b c : Da
     sink = CountsWhere-after _ _ _ _ (first.reason.sink.fine (kept WriteFault)) second.reason.sink;
   }
 
-  pub Ran-trans : Ran g h a c
-  Ran-trans = record {
-    was_fine = first.was_fine;
-    more = first.more ++ second.more;
-    cut = second.cut;
-    spellable = subst (AllByRecursion IsSpellable) (sym records)
-        (spellable-append first.more (second.more ++ second.cut) (subst (AllByRecursion IsSpellable) no_cut first.spellable) second.spellable);
-    same = IsSameDaemon-trans g a b c first.same second.same;
-    constants = second.constants ∙ first.constants;
-    sent = second.sent ∙ ap (λ us. us ++ units_of second.more) first.sent
-        ∙ append_assoc (sent_of a.flusher) (units_of first.more) (units_of second.more)
-        ∙ ap (λ us. sent_of a.flusher ++ us) (sym (flat_map-append spelling first.more second.more));
-    in_flight = second.in_flight;
-    may_turn = second.may_turn;
-    moments = λ honest log stood.
-        Leaves-trans g.moment g.images_since _ a.flusher.disk.now b.flusher.disk.now c.flusher.disk.now
-        (Leaves-weaken g.moment g.images_since _ _ a.flusher.disk.now b.flusher.disk.now (HoldsFront-first log) (first.moments honest log stood))
-        (Leaves-weaken g.moment g.images_since _ _ b.flusher.disk.now c.flusher.disk.now (HoldsFront-second log)
-        (second.moments (first.same.flusher.honest.0 honest) _ (first.stands (kept DiskFault) honest log stood)));
-    stands = λ sent honest log stood.
-        subst (λ l. LogStands c.flusher.tail l (g.images c.flusher.disk.now)) (both log)
-        (second.stands sent (first.same.flusher.honest.0 honest) _ (first.stands (kept DiskFault) honest log stood));
-    tallied = λ written.
-        second.tallied written ∙ ap (λ t. counted t second.more) (first.tallied (kept WriteFault)) ∙ sym (counted-append a.tally first.more second.more);
-    counts = (first.more ++ second.counts.0, second.counts.1, counted-both.0, counted-both.1);
-    part = second.part;
-    reason = reason;
-    count = λ honest.
+  spellable-both : AllByRecursion IsSpellable ((first.more ++ second.more) ++ second.cut)
+  spellable-both = subst (AllByRecursion IsSpellable) (sym records)
+      (spellable-append first.more (second.more ++ second.cut) (subst (AllByRecursion IsSpellable) no_cut first.spellable) second.spellable)
+
+  sent-both : sent_of c.flusher ≡ sent_of a.flusher ++ units_of (first.more ++ second.more)
+  sent-both = second.sent ∙ ap (λ us. us ++ units_of second.more) first.sent
+      ∙ append_assoc (sent_of a.flusher) (units_of first.more) (units_of second.more)
+      ∙ ap (λ us. sent_of a.flusher ++ us) (sym (flat_map-append spelling first.more second.more))
+
+  tallied-both : c.fault ≢ Some WriteFault → c.tally ≡ counted a.tally (first.more ++ second.more)
+  tallied-both written = second.tallied written ∙ ap (λ t. counted t second.more) (first.tallied (kept WriteFault))
+      ∙ sym (counted-append a.tally first.more second.more)
+
+  module _ (honest : g.honest a.flusher.disk.now) where
+    still : g.honest b.flusher.disk.now
+    still = first.same.flusher.honest.0 honest
+
+    count-both : Costs g (4 * length (first.more ++ second.more) + extra c.fault) (4 * length (first.more ++ second.more) + extra c.fault)
+        a.flusher.disk.now c.flusher.disk.now
+    count-both =
         let extra_none = extra-fine b.fault fine in
         let long = length-append first.more second.more in
         Costs-more g _ _ _ _ a.flusher.disk.now c.flusher.disk.now (omega (arith, extra_none, long)) (omega (arith, extra_none, long))
         (Costs-then g (4 * length first.more + extra b.fault) (4 * length second.more + extra c.fault)
         (4 * length first.more + extra b.fault) (4 * length second.more + extra c.fault)
-        a.flusher.disk.now b.flusher.disk.now c.flusher.disk.now (first.count honest) (second.count (first.same.flusher.honest.0 honest)));
-    tail = omega (arith, first.tail, second.tail, ends);
-    grows = λ honest.
+        a.flusher.disk.now b.flusher.disk.now c.flusher.disk.now (first.count honest) (second.count still))
+
+    grows-both : GrowsAtMostTo g (most_end (place_of a) (end_of (first.more ++ second.more)) (ring_of a))
+        a.flusher.disk.now c.flusher.disk.now
+    grows-both =
         let same_ring : ring_of b ≡ ring_of a = ap (λ (k : Constants). k.ring) first.constants in
         GrowsAtMostTo-trans g _ a.flusher.disk.now b.flusher.disk.now c.flusher.disk.now
         (GrowsAtMostTo-more g (most_end (place_of a) (end_of first.more) (ring_of a)) _ a.flusher.disk.now b.flusher.disk.now
         (omega (arith, ends)) (first.grows honest))
         (GrowsAtMostTo-more g (most_end (place_of b) (end_of second.more) (ring_of b)) _ b.flusher.disk.now c.flusher.disk.now
-        (omega (arith, ends, first.tail, same_ring)) (second.grows (first.same.flusher.honest.0 honest)));
+        (omega (arith, ends, first.tail, same_ring)) (second.grows still))
+
+    module _ (log : Log) (stood : LogStands a.flusher.tail log (g.images a.flusher.disk.now)) where
+      stood-between : LogStands b.flusher.tail (with_units log (units_of first.more)) (g.images b.flusher.disk.now)
+      stood-between = first.stands (kept DiskFault) honest log stood
+
+      moments-both : Leaves g.moment g.images_since (HoldsFront log ((first.more ++ second.more) ++ second.cut))
+          a.flusher.disk.now c.flusher.disk.now
+      moments-both = Leaves-trans g.moment g.images_since _ a.flusher.disk.now b.flusher.disk.now c.flusher.disk.now
+          (Leaves-weaken g.moment g.images_since _ _ a.flusher.disk.now b.flusher.disk.now (HoldsFront-first log)
+          (first.moments honest log stood))
+          (Leaves-weaken g.moment g.images_since _ _ b.flusher.disk.now c.flusher.disk.now (HoldsFront-second log)
+          (second.moments still _ stood-between))
+
+      stands-both : c.fault ≢ Some DiskFault
+          → LogStands c.flusher.tail (with_units log (units_of (first.more ++ second.more))) (g.images c.flusher.disk.now)
+      stands-both sent = subst (λ l. LogStands c.flusher.tail l (g.images c.flusher.disk.now)) (both log)
+          (second.stands sent still _ stood-between)
+
+  pub Ran-trans : Ran g h a c
+  Ran-trans = record {
+    was_fine = first.was_fine;
+    more = first.more ++ second.more;
+    cut = second.cut;
+    spellable = spellable-both;
+    same = IsSameDaemon-trans g a b c first.same second.same;
+    constants = second.constants ∙ first.constants;
+    sent = sent-both;
+    in_flight = second.in_flight;
+    may_turn = second.may_turn;
+    moments = moments-both;
+    stands = λ sent honest log stood. stands-both honest log stood sent;
+    tallied = tallied-both;
+    counts = (first.more ++ second.counts.0, second.counts.1, counted-both.0, counted-both.1);
+    part = second.part;
+    reason = reason;
+    count = count-both;
+    tail = omega (arith, first.tail, second.tail, ends);
+    grows = grows-both;
   }
 
 pub Later-refl : {D : Type 0} {K : Type 0} (g : Ghosts D) (h : SinkGhosts K) (d : Daemon D K g h) → Later g h d d
 Later-refl g h d = inl refl
 
-pub Later-trans : {D : Type 0} {K : Type 0} (g : Ghosts D) (h : SinkGhosts K) (a b c : Daemon D K g h) → Later g h a b → Later g h b c → Later g h a c
+pub Later-trans : {D : Type 0} {K : Type 0} (g : Ghosts D) (h : SinkGhosts K) (a b c : Daemon D K g h) → Later g h a b → Later g h b c
+    → Later g h a c
 Later-trans g h a b c (inl same) second = subst (λ d. Later g h d c) same second
 Later-trans g h a b c (inr first) (inl same) = inr (subst (λ d. Ran g h a d) (sym same) first)
 Later-trans g h a b c (inr first) (inr second) = inr (Ran-trans g h a b c first second)
@@ -215,22 +244,7 @@ Later-standing g h a b (inr ran) = ran.same.flusher.workers
 
 -- it is the same daemon
 pub Later-same : {D : Type 0} {K : Type 0} (g : Ghosts D) (h : SinkGhosts K) (a b : Daemon D K g h) → Later g h a b → IsSameDaemon g a b
-Later-same g h a b (inl same) = subst (IsSameDaemon g a) (sym same) (record {
-  flusher = record {
-    table = refl;
-    seat = record { table_is = refl; slots = refl; constants = refl; entries = refl; books = refl };
-    workers = refl;
-    disk = refl;
-    honest = (λ honest. honest, λ honest. honest);
-    attached = refl;
-    later = omega arith;
-    first = refl;
-  };
-  sink = refl;
-  voice = refl;
-  first = refl;
-  begun = refl;
-})
+Later-same g h a b (inl same) = subst (IsSameDaemon g a) (sym same) (IsSameDaemon-refl g a)
 Later-same g h a b (inr ran) = ran.same
 
 -- what befell it since nothing had, has its reason

@@ -1,5 +1,5 @@
 -- One turn, and one question whether the log is drained, as what turns leave.
-use Rattle.std.proofs.Common.{◌≡◌, ◌≢◌, ◌↔◌, ◌∙◌, sym, ap, refl, subst, ℕ, ◌+◌, ◌*◌, ◌≤◌, ◌<◌, List, [], ◌∷◌, ◌++◌, length, append-nil, arith, Some, None}
+use Rattle.std.proofs.Common.{◌≡◌, ◌≢◌, ◌∙◌, sym, ap, refl, subst, ℕ, ◌+◌, ◌*◌, ◌≤◌, ◌<◌, List, [], ◌∷◌, ◌++◌, length, append-nil, arith, Some, None}
 use Rattle.log_disk.proofs.Counting.{Costs-more}
 use Rattle.log_disk.specs.declared.disk.LogDisk.{Ghosts}
 use Rattle.log_disk.specs.declared.sink.Sink.{Ghosts as SinkGhosts}
@@ -15,6 +15,7 @@ use Rattle.flusher.specs.declared.flusher.Flusher.{Flusher}
 use Rattle.flusher.specs.Flushing.{Asks, ChangesSeat, IsSameSeat, sent_of}
 use Rattle.log_record.specs.LogList.{AreUnitsOf}
 use Rattle.flusher.proofs.Flushes.{IsSameSeat-becomes}
+use Rattle.daemon_turn.proofs.SameLemmas.{IsSame-seat}
 use Rattle.commit_pipeline.specs.declared.daemon.Daemon.{Daemon}
 use Rattle.daemon_turn.specs.declared.one_turn.Turn.{Turn}
 use Rattle.daemon_turn.specs.declared.one_turn.Turn.TheVariants.{Idle, Sent}
@@ -49,20 +50,21 @@ module _ {D : Type 0} {K : Type 0} (g : Ghosts D) (h : SinkGhosts K) (old new : 
     sent = flew.sent;
     in_flight = in_flight;
     may_turn = may_turn;
-    moments = flew.moments;
-    stands = λ sent. flew.stands (cuts sent);
+    moments = flew.wrote.moments;
+    stands = λ sent. flew.wrote.stands (cuts sent);
     tallied = tallied;
     counts = counts;
     part = part;
     reason = reason;
-    count = λ honest. Costs-more g most _ most _ old.flusher.disk.now new.flusher.disk.now count count (flew.count honest);
-    tail = flew.tail;
-    grows = flew.grows;
+    count = λ honest. Costs-more g most _ most _ old.flusher.disk.now new.flusher.disk.now count count (flew.wrote.count honest);
+    tail = flew.wrote.tail;
+    grows = flew.wrote.grows;
   }
 
   -- and no fault was counted
   fine-reason : new.fault ≡ None → (view_of new.flusher.seat).sending.stop ≡ (view_of old.flusher.seat).sending.stop
-      → g.faults new.flusher.disk.now ≡ g.faults old.flusher.disk.now → h.faults new.sink.now ≡ h.faults old.sink.now → HasReason g h old new
+      → g.faults new.flusher.disk.now ≡ g.faults old.flusher.disk.now → h.faults new.sink.now ≡ h.faults old.sink.now
+      → HasReason g h old new
   fine-reason fine stop disk_fine sink_fine = record {
     stop = subst (StopTells old new) (sym fine) stop;
     disk = record { counted = λ failed. absurd (none≢some DiskFault (sym fine ∙ failed)); fine = λ sent. disk_fine };
@@ -103,23 +105,25 @@ module _ {D : Type 0} {K : Type 0} (g : Ghosts D) (h : SinkGhosts K) (old new : 
       (omega (arith, some, ap extra may.fine))
 
   -- the disk failed
+  lost-reason : LosesUnits g old new → new.fault ≡ Some DiskFault → HasReason g h old new
+  lost-reason lost fault = record {
+    stop = subst (StopTells old new) (sym fault) (ap (λ m. m.0.sending.stop) lost.stops.seat.me);
+    disk = record { counted = λ failed. lost.rose; fine = λ sent. absurd (sent fault) };
+    sink = record { counted = λ failed. absurd cc; fine = λ written. ap (λ (d : Daemon D K g h). h.faults d.sink.now) lost.rest.1 };
+  }
+
+  tally-lost : LosesUnits g old new → new.tally ≡ counted old.tally []
+  tally-lost lost = ap (λ (d : Daemon D K g h). d.tally) lost.rest.1 ∙ counted-none old.tally
+
   Ran-lost : MayTurn g old → LosesUnits g old new → IsSameDaemon g old new → Ran g h old new
   Ran-lost ready lost same =
       let fault : new.fault ≡ Some DiskFault = ap (λ (d : Daemon D K g h). d.fault) lost.rest.1 in
-      let is = ap (λ m. m.0) lost.stops.seat.me in
       let flew = Flew-stop g [] lost.flush.records 4 1 old.flusher lost.lost new.flusher
       (Flew-loses g old.flusher lost.lost ready.flusher lost.flush) lost.stops in
       Ran-of [] lost.flush.records 4 ready.fine lost.flush.spelled.spellable flew same
       (subst (λ f. InFlight f (view_of new.flusher.seat) lost.flush.records) (sym fault) flew.read)
-      (λ fine. absurd (none≢some DiskFault (sym fine ∙ fault))) (λ sent. absurd (sent fault))
-      (λ written. ap (λ (d : Daemon D K g h). d.tally) lost.rest.1 ∙ counted-none old.tally)
-      ([], [], refl, ap (λ (d : Daemon D K g h). d.tally) lost.rest.1 ∙ counted-none old.tally) (λ failed. absurd cc)
-      (record {
-        stop = subst (StopTells old new) (sym fault) (ap (λ (v : View). v.sending.stop) is);
-        disk = record { counted = λ failed. lost.rose; fine = λ sent. absurd (sent fault) };
-        sink = record { counted = λ failed. absurd cc; fine = λ written. ap (λ (d : Daemon D K g h). h.faults d.sink.now) lost.rest.1 };
-      })
-      (omega (arith, ap extra fault))
+      (λ fine. absurd (none≢some DiskFault (sym fine ∙ fault))) (λ sent. absurd (sent fault)) (λ written. tally-lost lost)
+      ([], [], refl, tally-lost lost) (λ failed. absurd cc) (lost-reason lost fault) (omega (arith, ap extra fault))
 
   -- a part of the lines was written, of a daemon that had told all it sent before
   told-unwritten : MayTurn g old → LosesLines g h old new → IsSameDaemon g old new
@@ -130,17 +134,26 @@ module _ {D : Type 0} {K : Type 0} (g : Ghosts D) (h : SinkGhosts K) (old new : 
       let (rest, some, lines) = TellsFront-part old.voice (durable old) lost.flush.records lost.text old.tally new.tally lost.tells in
       subst (λ (p : K × Voice × Seat). HasToldPart h p.0 new.sink.now p.1 (view_of p.2) (view_of new.flusher.seat))
       (λ i. (sym same.first i, sym same.voice i, sym same.begun i))
-      (HasToldPart-more h old.first.value old.voice (view_of old.begun.value) old.sink.now (view_of old.flusher.seat) (view_of new.flusher.seat)
-      (ap (λ (v : View). v.constants) stopped ∙ ap (λ (v : View). v.constants) flushed) ready.all_told lost.flush.units lost.flush.records
-      lost.flush.spelled
+      (HasToldPart-more h old.first.value old.voice (view_of old.begun.value) old.sink.now (view_of old.flusher.seat)
+      (view_of new.flusher.seat) (ap (λ (v : View). v.constants) stopped ∙ ap (λ (v : View). v.constants) flushed)
+      ready.all_told lost.flush.units lost.flush.records lost.flush.spelled
       (ap (λ (v : View). v.sending.sent) stopped ∙ ap (λ (v : View). v.sending.sent) flushed
       ∙ ap (λ us. sent_of old.flusher ++ (us ++ lost.flush.units)) ready.flusher.unread)
       new.sink.now lost.text lost.appended rest some lines)
 
   -- the sink failed
+  unwritten-reason : LosesLines g h old new → HasReason g h old new
+  unwritten-reason lost = record {
+    stop = subst (StopTells old new) (sym lost.fault) (
+      ap (λ m. m.0.sending.stop) lost.stops.seat.me,
+      TellsFront-speaks old.voice (durable old) lost.flush.records lost.text old.tally new.tally lost.tells,
+    );
+    disk = record { counted = λ failed. absurd cc; fine = λ sent. lost.disk_fine };
+    sink = record { counted = λ failed. lost.rose; fine = λ written. absurd (written lost.fault) };
+  }
+
   Ran-unwritten : MayTurn g old → LosesLines g h old new → IsSameDaemon g old new → Ran g h old new
   Ran-unwritten ready lost same =
-      let is = ap (λ m. m.0) lost.stops.seat.me in
       let flew = Flew-stop g lost.flush.records [] 4 2 old.flusher lost.sent new.flusher
       (Flew-sends g old.flusher lost.sent (durable old) lost.to ready.flusher lost.flush) lost.stops in
       let some = some-records lost.flush.units lost.flush.records lost.flush.spelled (omega (arith, lost.flush.some, lost.flush.whole)) in
@@ -149,32 +162,14 @@ module _ {D : Type 0} {K : Type 0} (g : Ghosts D) (h : SinkGhosts K) (old new : 
       (subst (λ f. InFlight f (view_of new.flusher.seat) []) (sym lost.fault) (refl, flew.read))
       (λ fine. absurd (none≢some WriteFault (sym fine ∙ lost.fault))) (λ sent. refl) (λ written. absurd (written lost.fault))
       (lost.tells.told, lost.tells.untold, lost.tells.whole, lost.tells.counts) (λ failed. told-unwritten ready lost same)
-      (record {
-        stop = subst (StopTells old new) (sym lost.fault) (
-          ap (λ (v : View). v.sending.stop) is,
-          TellsFront-speaks old.voice (durable old) lost.flush.records lost.text old.tally new.tally lost.tells,
-        );
-        disk = record { counted = λ failed. absurd cc; fine = λ sent. lost.disk_fine };
-        sink = record { counted = λ failed. lost.rose; fine = λ written. absurd (written lost.fault) };
-      })
-      (omega (arith, some, ap extra lost.fault))
+      (unwritten-reason lost) (omega (arith, some, ap extra lost.fault))
 
   module _ (rest : ChangesFlusher old.fault old new) (seat_alone : ChangesSeat old.flusher new.flusher) where
     -- where the seat alone made steps, it is the same daemon
-    IsSameDaemon-step : IsSameSeat old.flusher.seat new.flusher.seat → (view_of new.flusher.seat).standing ≡ (view_of old.flusher.seat).standing
-        → IsSameDaemon g old new
+    IsSameDaemon-step : IsSameSeat old.flusher.seat new.flusher.seat
+        → (view_of new.flusher.seat).standing ≡ (view_of old.flusher.seat).standing → IsSameDaemon g old new
     IsSameDaemon-step seat workers = record {
-      flusher = record {
-        table = ap (λ (f : Flusher D g). f.table) seat_alone.1;
-        seat = seat;
-        workers = workers;
-        disk = ap (λ (f : Flusher D g). f.disk.ghost_name) seat_alone.1;
-        honest = subst (λ (f : Flusher D g). g.honest old.flusher.disk.now ↔ g.honest f.disk.now) (sym seat_alone.1)
-            (λ honest. honest, λ honest. honest);
-        attached = ap (λ (f : Flusher D g). g.attached f.disk.now) seat_alone.1;
-        later = omega (arith, ap (λ (f : Flusher D g). g.moment f.disk.now) seat_alone.1);
-        first = ap (λ (f : Flusher D g). f.first.value) seat_alone.1;
-      };
+      flusher = IsSame-seat g old.flusher new.flusher seat_alone seat workers;
       sink = ap (λ (d : Daemon D K g h). d.sink.ghost_name) rest.1;
       voice = ap (λ (d : Daemon D K g h). d.voice) rest.1;
       first = ap (λ (d : Daemon D K g h). d.first.value) rest.1;
@@ -194,7 +189,8 @@ module _ {D : Type 0} {K : Type 0} (g : Ghosts D) (h : SinkGhosts K) (old new : 
         (Flew-step g old.flusher new.flusher seat_alone (ap (λ (v : View). v.constants) is ∙ constants)
         (ap (λ (v : View). v.sending.sent) is ∙ sent)
         (ap (λ (v : View). v.sending.read) is ∙ read ∙ ready.flusher.unread))
-        (IsSameDaemon-step (IsSameSeat-becomes _ _ view becomes constants entries books) (ap (λ (v : View). v.standing) is ∙ standing)) may rest (ap (λ (v : View). v.sending.stop) is ∙ stop)
+        (IsSameDaemon-step (IsSameSeat-becomes _ _ view becomes constants entries books) (ap (λ (v : View). v.standing) is ∙ standing))
+        may rest (ap (λ (v : View). v.sending.stop) is ∙ stop)
         (ap (λ (f : Flusher D g). g.faults f.disk.now) seat_alone.1)
 
     pub Ran-asked : (answer : Drained) → Asks old.flusher new.flusher answer → MayTurn g old → MayTurn g new → Ran g h old new

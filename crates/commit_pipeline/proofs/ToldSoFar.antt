@@ -63,7 +63,8 @@ module _ {K : Type 0} (h : SinkGhosts K) (first : K) (voice : Voice) (begun : Vi
   pub HasToldAll-none : HasToldAll h first first voice begun begun
   HasToldAll-none = record {
     since = SentSince-none begun;
-    told = subst (Appends (h.held_bytes first) (h.held_bytes first)) (text_of-none voice (sent_to begun)) (Appends-nil (h.held_bytes first));
+    told = subst (Appends (h.held_bytes first) (h.held_bytes first)) (text_of-none voice (sent_to begun))
+        (Appends-nil (h.held_bytes first));
   }
 
   -- all is a prefix
@@ -73,7 +74,8 @@ module _ {K : Type 0} (h : SinkGhosts K) (first : K) (voice : Voice) (begun : Vi
       record { since = all.since; told = (text, [], sym (append-nil text), all.told) }
 
   module _ (sink : K) (now later : View) (constants : later.constants ≡ now.constants) where
-    pub HasToldAll-step : HasToldAll h first sink voice begun now → later.sending.sent ≡ now.sending.sent → HasToldAll h first sink voice begun later
+    pub HasToldAll-step : HasToldAll h first sink voice begun now → later.sending.sent ≡ now.sending.sent
+        → HasToldAll h first sink voice begun later
     HasToldAll-step all sent = record { since = SentSince-step begun now later all.since constants sent; told = all.told }
 
     pub HasTold-step : HasTold h first sink voice begun now → later.sending.sent ≡ now.sending.sent → HasTold h first sink voice begun later
@@ -119,4 +121,5 @@ pub HasToldAll-made : {K : Type 0} (h : SinkGhosts K) (first sink : K) (voice : 
     → HasToldAll h first sink voice (view_of begun) (view_of seat)
 HasToldAll-made h first sink voice begun seat sink_is seat_is =
     subst (λ first. HasToldAll h first sink voice (view_of begun) (view_of seat)) (sym sink_is)
-    (subst (λ begun. HasToldAll h sink sink voice (view_of begun) (view_of seat)) (sym seat_is) (HasToldAll-none h sink voice (view_of seat)))
+    (subst (λ begun. HasToldAll h sink sink voice (view_of begun) (view_of seat)) (sym seat_is)
+    (HasToldAll-none h sink voice (view_of seat)))

@@ -26,7 +26,8 @@ module _ {D : Type 0} {K : Type 0} (g : Ghosts D) (h : SinkGhosts K) (voice : Vo
   now = view_of old.seat
 
   -- what a flush sent is behind all that was sent
-  sent-behind : (sent : Flusher D g) (from to : ℕ) (sends : Sends g old sent from to) → (view_of sent.seat).sending.sent ≡ now.sending.sent ++ sends.units
+  sent-behind : (sent : Flusher D g) (from to : ℕ) (sends : Sends g old sent from to)
+      → (view_of sent.seat).sending.sent ≡ now.sending.sent ++ sends.units
   sent-behind sent from to sends =
       ap (λ (v : View). v.sending.sent) (ap (λ m. m.0) sends.seat.me) ∙ ap (λ us. now.sending.sent ++ (us ++ sends.units)) unread
 
@@ -34,15 +35,19 @@ module _ {D : Type 0} {K : Type 0} (g : Ghosts D) (h : SinkGhosts K) (voice : Vo
   told-idle found =
       let is = ap (λ m. m.0) found.flush.seat.me in
       subst (λ s. HasToldAll h first s voice begun (view_of new.seat)) (sym found.sink_is)
-      (HasToldAll-step h first voice begun sink now (view_of new.seat) (ap (λ (v : View). v.constants) is) all (ap (λ (v : View). v.sending.sent) is))
+      (HasToldAll-step h first voice begun sink now (view_of new.seat) (ap (λ (v : View). v.constants) is) all
+      (ap (λ (v : View). v.sending.sent) is))
 
-  told-sent : (lines to : ℕ) → SendsAndTells g h voice old new sink sink' tally tally' lines to → HasToldAll h first sink' voice begun (view_of new.seat)
+  told-sent : (lines to : ℕ) → SendsAndTells g h voice old new sink sink' tally tally' lines to
+      → HasToldAll h first sink' voice begun (view_of new.seat)
   told-sent lines to sent =
-      HasToldAll-more h first voice begun sink now (view_of new.seat) (ap (λ (v : View). v.constants) (ap (λ m. m.0) sent.flush.seat.me)) all
-      sent.flush.units sent.flush.records sent.flush.spelled (sent-behind new _ to sent.flush) sink' sent.text sent.appended sent.tells.text_is
+      HasToldAll-more h first voice begun sink now (view_of new.seat) (ap (λ (v : View). v.constants) (ap (λ m. m.0) sent.flush.seat.me))
+      all sent.flush.units sent.flush.records sent.flush.spelled (sent-behind new _ to sent.flush) sink' sent.text sent.appended
+      sent.tells.text_is
 
   -- a turn that succeeded told all that it sent
-  pub HasToldAll-made : (turn : Turn) → Made g h voice old new sink sink' tally tally' turn → HasToldAll h first sink' voice begun (view_of new.seat)
+  pub HasToldAll-made : (turn : Turn) → Made g h voice old new sink sink' tally tally' turn
+      → HasToldAll h first sink' voice begun (view_of new.seat)
   HasToldAll-made Idle found = told-idle found
   HasToldAll-made (Sent lines to) sent = told-sent lines to sent
 
@@ -53,7 +58,8 @@ module _ {D : Type 0} {K : Type 0} (g : Ghosts D) (h : SinkGhosts K) (voice : Vo
       let stopped = ap (λ m. m.0) lost.stops.seat.me in
       HasTold-all h first voice begun sink' (view_of new.seat)
       (subst (λ s. HasToldAll h first s voice begun (view_of new.seat)) (sym lost.sink_is)
-      (HasToldAll-step h first voice begun sink now (view_of new.seat) (ap (λ (v : View). v.constants) stopped ∙ ap (λ (v : View). v.constants) read)
+      (HasToldAll-step h first voice begun sink now (view_of new.seat)
+      (ap (λ (v : View). v.constants) stopped ∙ ap (λ (v : View). v.constants) read)
       all (ap (λ (v : View). v.sending.sent) stopped ∙ ap (λ (v : View). v.sending.sent) read)))
 
   -- the sink failed: a part of the lines was told
@@ -62,11 +68,13 @@ module _ {D : Type 0} {K : Type 0} (g : Ghosts D) (h : SinkGhosts K) (voice : Vo
       let stopped = ap (λ m. m.0) cut.stops.seat.me in
       let (rest, lines) = TellsFront-text voice _ cut.flush.records cut.text tally tally' cut.tells in
       HasTold-step h first voice begun sink' (view_of cut.sent.seat) (view_of new.seat) (ap (λ (v : View). v.constants) stopped)
-      (HasTold-more h first voice begun sink now (view_of cut.sent.seat) (ap (λ (v : View). v.constants) (ap (λ m. m.0) cut.flush.seat.me)) all
+      (HasTold-more h first voice begun sink now (view_of cut.sent.seat)
+      (ap (λ (v : View). v.constants) (ap (λ m. m.0) cut.flush.seat.me)) all
       cut.flush.units cut.flush.records cut.flush.spelled (sent-behind cut.sent _ cut.to cut.flush) sink' cut.text cut.appended rest lines)
       (ap (λ (v : View). v.sending.sent) stopped)
 
-  told-failed : (fault : DaemonFault) → Failed g h voice old new sink sink' tally tally' fault → HasTold h first sink' voice begun (view_of new.seat)
+  told-failed : (fault : DaemonFault) → Failed g h voice old new sink sink' tally tally' fault
+      → HasTold h first sink' voice begun (view_of new.seat)
   told-failed DiskFault lost = told-lost lost
   told-failed WriteFault cut = told-cut cut
 

@@ -12,12 +12,13 @@ use Rattle.flusher.specs.Flushing.{IsSame}
 use Rattle.flusher.specs.declared.flusher.Flusher.{Flusher}
 use Rattle.daemon_turn.specs.declared.one_turn.Turn.{Turn}
 use Rattle.daemon_turn.specs.declared.one_turn.Turn.TheVariants.{Idle, Sent}
-use Rattle.daemon_turn.specs.OneTurn.{MayGoOn, Made, Failed}
+use Rattle.daemon_turn.specs.OneTurn.{CannotSend, CannotTell, MayGoOn, Made, Failed}
 use Rattle.commit_pipeline.specs.declared.daemon.Daemon.{Daemon}
 use Rattle.commit_pipeline.specs.Told.{HasTold, HasToldAll}
-use Rattle.commit_pipeline.specs.Turning.{ChangesFlusher, MayTurn, IsSameDaemon, Turns, Fails}
+use Rattle.commit_pipeline.specs.Turning.{ChangesFlusher, LosesLines, LosesUnits, MayTurn, IsSameDaemon, Turns, Fails}
 
-pub MayGoOn-turn : {D : Type 0} {K : Type 0} {h : SinkGhosts K} (g : Ghosts D) (d : Daemon D K g h) → MayTurn g d → MayGoOn g d.flusher d.tally
+pub MayGoOn-turn : {D : Type 0} {K : Type 0} {h : SinkGhosts K} (g : Ghosts D) (d : Daemon D K g h) → MayTurn g d
+    → MayGoOn g d.flusher d.tally
 MayGoOn-turn g d ready = record { flusher = ready.flusher; running = ready.running; counted = ready.counted }
 
 module _ {D : Type 0} {K : Type 0} (g : Ghosts D) (h : SinkGhosts K) (old : Daemon D K g h) (f : Flusher D g) (sink : K) (tally : Tally)
@@ -55,16 +56,19 @@ module _ {D : Type 0} {K : Type 0} (g : Ghosts D) (h : SinkGhosts K) (old : Daem
     sink_fine = sent.sink_fine;
   }
 
-  pub Fails-made : (fault : DaemonFault) → Failed g h old.voice old.flusher f old.sink.now sink old.tally tally fault
-      → Fails g h old (next (Some fault)) fault
-  Fails-made DiskFault lost = record {
+  LosesUnits-made : CannotSend g h old.voice old.flusher f old.sink.now sink old.tally tally
+      → LosesUnits g old (next (Some DiskFault))
+  LosesUnits-made lost = record {
     lost = lost.lost;
     flush = lost.flush;
     stops = lost.stops;
     rest = next-rest (Some DiskFault) lost.sink_is lost.tally_is;
     rose = lost.rose;
   }
-  Fails-made WriteFault lost = record {
+
+  LosesLines-made : CannotTell g h old.voice old.flusher f old.sink.now sink old.tally tally
+      → LosesLines g h old (next (Some WriteFault))
+  LosesLines-made lost = record {
     to = lost.to;
     sent = lost.sent;
     flush = lost.flush;
@@ -76,6 +80,11 @@ module _ {D : Type 0} {K : Type 0} (g : Ghosts D) (h : SinkGhosts K) (old : Daem
     rose = lost.rose;
     disk_fine = lost.disk_fine;
   }
+
+  pub Fails-made : (fault : DaemonFault) → Failed g h old.voice old.flusher f old.sink.now sink old.tally tally fault
+      → Fails g h old (next (Some fault)) fault
+  Fails-made DiskFault lost = LosesUnits-made lost
+  Fails-made WriteFault lost = LosesLines-made lost
 
   pub MayTurn-made : MayGoOn g f tally → old.fault ≡ None
       → HasToldAll h old.first.value sink old.voice (view_of old.begun.value) (view_of f.seat) → MayTurn g (next old.fault)

@@ -39,7 +39,8 @@ StopTells old new None = (view_of new.flusher.seat).sending.stop ≡ (view_of ol
 StopTells old new (Some DiskFault) = (view_of new.flusher.seat).sending.stop ≡ stop_word DiskFault
 StopTells old new (Some WriteFault) = ((view_of new.flusher.seat).sending.stop ≡ stop_word WriteFault) × (old.voice ≡ Lines)
 
--- What befell the daemon has its reason: the stop word tells it, and the object that it names counted one fault. No other fault was counted.
+-- What befell the daemon has its reason: the stop word tells it, and the object that it names counted one fault. No other fault was
+-- counted.
 pub record HasReason {D : Type 0} {K : Type 0} (g : Ghosts D) (h : SinkGhosts K) (old new : Daemon D K g h) : Type 0 where
   pub stop : StopTells old new new.fault
   pub disk : CountsWhere (new.fault ≡ Some DiskFault) (g.faults old.flusher.disk.now) (g.faults new.flusher.disk.now)

@@ -1,4 +1,5 @@
 pub mod Later
+pub mod Making
 pub mod Told
 pub mod Turning
 pub use Rattle.end_lines.specs.EndLines

@@ -1,12 +1,12 @@
 -- What a turn of a daemon asks for, and what it leaves. `g` is what a disk shows and `h` what a sink shows; `old` and `new` are
 -- the daemon before and after.
-use Rattle.std.specs.Prelude.{◌≡◌, ℕ, ◌+◌, ◌≤◌, List, [], length, Option, Some, None, ⊤}
+use Rattle.std.specs.Prelude.{◌≡◌, ℕ, ◌+◌, ◌≤◌, true, List, [], length, Option, Some, None, ⊤}
 use Rattle.std.specs.Io.KnownBytes.{Appends}
 use Rattle.log_disk.specs.declared.disk.LogDisk.{Ghosts}
 use Rattle.log_disk.specs.declared.sink.Sink.{Ghosts as SinkGhosts}
 use Rattle.log_disk.specs.Faults.{Rose}
 use Rattle.log_table.specs.Seats.{view_of}
-use Rattle.log_rule.specs.Views.{sent_to}
+use Rattle.log_rule.specs.Views.{knows_all_enrolled, sent_to}
 use Rattle.flusher.specs.declared.flusher.Drained.{Drained}
 use Rattle.flusher.specs.declared.flusher.Drained.TheVariants.{At, Active, Behind}
 use Rattle.flusher.specs.declared.flusher.Flusher.{Flusher}
@@ -24,6 +24,10 @@ use Rattle.commit_pipeline.specs.Told.{HasToldAll}
 -- where the next units go
 abbrev pub durable : {D : Type 0} → {K : Type 0} → {g : Ghosts D} → {h : SinkGhosts K} → Daemon D K g h → ℕ
 durable d = sent_to (view_of d.flusher.seat)
+
+-- its seat knows each worker made as enrolled
+abbrev pub KnowsWorkers : {D : Type 0} → {K : Type 0} → {g : Ghosts D} → {h : SinkGhosts K} → Daemon D K g h → Type 0
+KnowsWorkers d = knows_all_enrolled (view_of d.flusher.seat).standing ≡ true
 
 -- the log has not come to its end: workers are active, or units are exposed beyond durable
 abbrev pub GoesOn : Drained → Type 0

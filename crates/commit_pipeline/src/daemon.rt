@@ -1,10 +1,11 @@
-ghost use Rattle.std.specs.Prelude.{◌≡◌, ◌≤◌, ◌+◌, None};
+//! The daemon: a flusher, and the sink of the lines. Here is what it is made of, what it takes in, and what is left of it.
+ghost use Rattle.std.specs.Prelude.{◌≡◌, ◌≤◌, ◌+◌};
 ghost use Rattle.log_rule.specs.May.{MayClose, MayMerge};
 ghost use Rattle.log_rule.specs.CrewViews.{takes_in};
 ghost use Rattle.log_rule.specs.Sound.{HasReadStop};
 ghost use Rattle.log_table.specs.Seats.{Becomes, IsOf, view_of};
 ghost use Rattle.flusher.specs.Flushing.{ChangesSeat};
-ghost use Rattle.commit_pipeline.specs.Told.{HasTold, HasToldAll};
+ghost use Rattle.commit_pipeline.specs.Told.{HasTold};
 
 mod turning;
 
@@ -32,20 +33,12 @@ pub struct Daemon<'a, D: LogDisk, K: Sink> {
 }
 
 impl<'a, D: LogDisk, K: Sink> Daemon<'a, D, K> {
+    ghost use Rattle.commit_pipeline.specs.Making.{IsMadeOf};
     ghost use Rattle.commit_pipeline.specs.Turning.{ChangesFlusher, HasCounted, durable};
 
     /// A daemon to which nothing has befallen, and which has counted and written nothing.
     pub fn make(flusher: Flusher<'a, D>, sink: &'a mut K, voice: Voice) -> Daemon<'a, D, K>
-        ensures flusher { result.flusher ≡ flusher.entry }
-        ensures sink { result.sink ≡ sink.entry }
-        ensures voice { result.voice ≡ voice }
-        ensures done { result.tally.done ≡ 0 }
-        ensures refused { result.tally.refused ≡ 0 }
-        ensures fine { result.fault ≡ None }
-        ensures first { result.first.value ≡ sink.old }
-        ensures begun { result.begun.value ≡ flusher.entry.seat }
-        ensures told { HasToldAll K.Sink result.first.value result.sink.now result.voice (view_of result.begun.value)
-            (view_of result.flusher.seat) }
+        ensures { IsMadeOf K.Sink flusher.entry sink.entry voice sink.old result }
     {
         let tally = Tally {
             done: 0,

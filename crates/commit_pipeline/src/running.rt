@@ -1,11 +1,10 @@
 //! Turns until the log has come to its end.
-ghost use Rattle.std.specs.Prelude.{◌≡◌, IfOk, IfErr, OnOk, IfSome, IfNone, true, Some};
+ghost use Rattle.std.specs.Prelude.{◌≡◌, IfOk, IfErr, OnOk, IfSome, IfNone, Some};
 ghost use Rattle.log_table.specs.Seats.{view_of};
 ghost use Rattle.log_rule.specs.Sends.{IsDrained};
-ghost use Rattle.log_rule.specs.Views.{knows_all_enrolled};
 ghost use Rattle.flusher.specs.Flushing.{Asks};
 ghost use Rattle.commit_pipeline.specs.Later.{Later};
-ghost use Rattle.commit_pipeline.specs.Turning.{GoesOn, MayTurn, durable};
+ghost use Rattle.commit_pipeline.specs.Turning.{GoesOn, KnowsWorkers, MayTurn, durable};
 
 use crate::daemon::Daemon;
 use daemon_turn::Turn;
@@ -22,7 +21,7 @@ impl<'a, D: LogDisk, K: Sink> Daemon<'a, D, K> {
     /// waits for the workers.
     pub fn run_until_drained<R: Wait + Clock>(&mut self, rt: &R) -> Result<Lsn, DaemonFault>
         requires ready { MayTurn D.LogDisk self.old }
-        requires told { knows_all_enrolled (view_of self.old.flusher.seat).standing ≡ true }
+        requires told { KnowsWorkers self.old }
         ensures drained { IfOk result (λ lsn. IsDrained (view_of self.new.flusher.seat) × (lsn ≡ durable self.new)) }
         ensures ready { OnOk result (MayTurn D.LogDisk self.new) }
         ensures fault { IfErr result (λ fault. self.new.fault ≡ Some fault) }
@@ -43,7 +42,7 @@ impl<'a, D: LogDisk, K: Sink> Daemon<'a, D, K> {
     /// The end of the log, exactly where it has come to that.
     fn end(&mut self) -> Option<Lsn>
         requires ready { MayTurn D.LogDisk self.old }
-        requires told { knows_all_enrolled (view_of self.old.flusher.seat).standing ≡ true }
+        requires told { KnowsWorkers self.old }
         ensures at { IfSome result (λ lsn. Asks self.old.flusher self.new.flusher (Drained.At lsn)) }
         ensures none { IfNone result ((drained : Drained) × GoesOn drained × Asks self.old.flusher self.new.flusher drained) }
         ensures ready { MayTurn D.LogDisk self.new }
@@ -59,7 +58,7 @@ impl<'a, D: LogDisk, K: Sink> Daemon<'a, D, K> {
     /// Whether workers are active, and where none is, whether all that is exposed is on the disk.
     pub fn ask(&mut self) -> Drained
         requires ready { MayTurn D.LogDisk self.old }
-        requires told { knows_all_enrolled (view_of self.old.flusher.seat).standing ≡ true }
+        requires told { KnowsWorkers self.old }
         ensures asks { Asks self.old.flusher self.new.flusher result }
         ensures ready { MayTurn D.LogDisk self.new }
         ensures later { Later D.LogDisk K.Sink self.old self.new }

@@ -13,12 +13,14 @@ returns-in_err-turn-clause-later g c =
 pub returns-in-Some-end-clause-later : goal.returns-in-Some-end-clause-later
 returns-in-Some-end-clause-later g c =
     Later-trans g.D.LogDisk g.K.Sink c.args.self.now c.turn.new.self c.end.new.self
-    (Later-trans g.D.LogDisk g.K.Sink c.args.self.now c.loop.self c.turn.new.self c.loop.invariant.later c.turn.ensures.later) c.end.ensures.later
+    (Later-trans g.D.LogDisk g.K.Sink c.args.self.now c.loop.self c.turn.new.self c.loop.invariant.later c.turn.ensures.later)
+    c.end.ensures.later
 
 pub loop-preserved : goal.loop-preserved
 loop-preserved g c =
     let later = Later-trans g.D.LogDisk g.K.Sink c.args.self.now c.turn.new.self c.end.new.self
-    (Later-trans g.D.LogDisk g.K.Sink c.args.self.now c.loop.self c.turn.new.self c.loop.invariant.later c.turn.ensures.later) c.end.ensures.later in
+    (Later-trans g.D.LogDisk g.K.Sink c.args.self.now c.loop.self c.turn.new.self c.loop.invariant.later c.turn.ensures.later)
+    c.end.ensures.later in
     record {
       later = later;
       ready = c.end.ensures.ready;

@@ -11,7 +11,8 @@ pub invariant_of-flusher : goal.invariant_of-flusher
 invariant_of-flusher g c =
     let is = ap (λ m. m.0) c.merge.ensures.view.me in
     record {
-      keeps = keeps-step c.args.self.now.flusher c.merge.new.seat (ap (λ (v : View). v.sending.sent) is) (ap (λ (v : View). v.sending.read) is);
+      keeps = keeps-step c.args.self.now.flusher c.merge.new.seat (ap (λ (v : View). v.sending.sent) is)
+          (ap (λ (v : View). v.sending.read) is);
     }
 
 pub invariant_of-self : goal.invariant_of-self
