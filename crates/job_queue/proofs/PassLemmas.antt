@@ -63,7 +63,8 @@ module _ (queue : Queue) (old new : Rows) (before after : Pass ℕ Takings) (was
   none-before : (view before).own_marks ≡ []
   none-before = sym (ap marks_by was) ∙ none
 
-  pub takes-place : (number : ℕ) (job : Job) → x < length queue.script → number ≡ number_at (jobs_of queue) x → job ≡ job_at (jobs_of queue) x
+  pub takes-place : (number : ℕ) (job : Job) → x < length queue.script → number ≡ number_at (jobs_of queue) x
+      → job ≡ job_at (jobs_of queue) x
       → TakesPlace queue number job old new
   takes-place number job within number_is job_is =
       ⊎_elim (λ place. record {

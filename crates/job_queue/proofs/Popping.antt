@@ -1,5 +1,5 @@
 -- A pass takes what is next: that keeps the rule of the queue. `me` is the pass's number and `v` what it knows before.
-use Rattle.std.proofs.Common.{◌≡◌, ◌⊎◌, ◌<◌, ◌≤◌, ◌+◌, ℕ, suc, cond, true, true≢false, List, [], ◌∷◌, length, set, sym, refl, ap, ◌∙◌, subst, ⊎_elim, inl, inr, arith, length-append}
+use Rattle.std.proofs.Common.{◌≡◌, ◌≢◌, ◌⊎◌, ◌<◌, ◌≤◌, ◌+◌, ℕ, suc, cond, true, true≢false, List, [], ◌∷◌, length, set, sym, refl, ap, ◌∙◌, subst, ⊎_elim, inl, inr, arith, length-append}
 use Rattle.std.specs.List.{AllByRecursion}
 use mathlib.Core.Logic.{dite}
 use native.Mathlib.Decide.{ℕ_discrete, dec_lt, dec_le}
@@ -30,6 +30,12 @@ record Took (next : ℕ) (v w : Takings) : Type 0 where
 still-below : (next : ℕ) (places : List ℕ) → AllByRecursion (λ y. y < next) places → AllByRecursion (λ y. y < suc next) places
 still-below next places all = all-weaker (λ y. y < next) (λ y. y < suc next) places (λ y less. omega (arith, less)) all
 
+IsInOrder-place : (next : ℕ) (v : Takings) → IsInOrder next v → IsInOrder (suc next) (took_place next v)
+IsInOrder-place next v order = (
+  Rises-push v.places next order.0 order.1,
+  all-append (λ y. y < suc next) v.places (next ∷ []) (still-below next v.places order.1) (omega arith, tt),
+)
+
 Took-place : (next : ℕ) (v : Takings) → next < v.count → Took next v (took_place next v)
 Took-place next v less = record {
   live = refl;
@@ -39,10 +45,7 @@ Took-place next v less = record {
   times = λ y. omega (arith, times-push y v.places next);
   left = inl (less, refl);
   budget = λ same. same;
-  order = λ order. (
-    Rises-push v.places next order.0 order.1,
-    all-append (λ y. y < suc next) v.places (next ∷ []) (still-below next v.places order.1) (omega arith, tt),
-  );
+  order = IsInOrder-place next v;
 }
 
 Took-mark : (next : ℕ) (v : Takings) → v.count ≤ next → 1 ≤ v.marks_left → Took next v (took_mark next v)
@@ -67,27 +70,32 @@ record Boss (views : List Takings) (boss : Takings) : Type 0 where
   pub out : now.out ≡ boss.out
   pub budget : CountsMarks now
 
-boss-stays : (items : List ℕ) (views : List Takings) (me : ℕ) (v w : Takings) (next : ℕ) (s : IsShared items views)
-    → get_elem? views me ≡ some v → Took next v w → Boss (set views me w) s.boss
-boss-stays items views me v w next s at took = dite (ℕ_discrete me 0)
-    (λ here. let boss = sym (boss-same items views me v s at here) in record {
-      now = w;
-      first = subst (λ i. get_elem? (set views me w) i ≡ some w) here (set_here views me w (there-is views me v at));
-      live = took.live ∙ ap (λ (u : Takings). u.live) boss;
-      count = took.count ∙ ap (λ (u : Takings). u.count) boss;
-      marks = took.marks ∙ ap (λ (u : Takings). u.marks) boss;
-      out = took.out ∙ ap (λ (u : Takings). u.out) boss;
-      budget = took.budget (subst CountsMarks (sym boss) s.budget);
-    })
-    (λ away. record {
-      now = s.boss;
-      first = set_else views me 0 w (λ e. away (sym e)) ∙ s.first;
-      live = refl;
-      count = refl;
-      marks = refl;
-      out = refl;
-      budget = s.budget;
-    })
+module _ (items : List ℕ) (views : List Takings) (me : ℕ) (v w : Takings) (next : ℕ) (s : IsShared items views)
+    (at : get_elem? views me ≡ some v) (took : Took next v w) where
+  boss-here : me ≡ 0 → Boss (set views me w) s.boss
+  boss-here here = let boss = sym (boss-same items views me v s at here) in record {
+    now = w;
+    first = subst (λ i. get_elem? (set views me w) i ≡ some w) here (set_here views me w (there-is views me v at));
+    live = took.live ∙ ap (λ (u : Takings). u.live) boss;
+    count = took.count ∙ ap (λ (u : Takings). u.count) boss;
+    marks = took.marks ∙ ap (λ (u : Takings). u.marks) boss;
+    out = took.out ∙ ap (λ (u : Takings). u.out) boss;
+    budget = took.budget (subst CountsMarks (sym boss) s.budget);
+  }
+
+  boss-away : me ≢ 0 → Boss (set views me w) s.boss
+  boss-away away = record {
+    now = s.boss;
+    first = set_else views me 0 w (λ e. away (sym e)) ∙ s.first;
+    live = refl;
+    count = refl;
+    marks = refl;
+    out = refl;
+    budget = s.budget;
+  }
+
+  boss-stays : Boss (set views me w) s.boss
+  boss-stays = dite (ℕ_discrete me 0) boss-here boss-away
 
 -- the rule is kept where a pass takes the least number that is left
 keeps : (me : ℕ) (v w : Takings) (x : ℕ) (items : List ℕ) (views : List Takings) → v.live ≡ true → (s : IsShared (x ∷ items) views)
@@ -116,25 +124,33 @@ keeps me v w x items views on s at number took =
           (λ u h. (h.0, still-below s.next u.places h.1));
     }
 
+-- which is a place, or a mark
+module _ (me : ℕ) (v : Takings) (on : v.live ≡ true) (x : ℕ) (items : List ℕ) (views : List Takings) (s : IsShared (x ∷ items) views)
+    (at : get_elem? views me ≡ some v) where
+  number : x ≡ s.next
+  number = (counted-first x s.next items s.items_are).0
+
+  gets-place : s.next < v.count → (w : Takings) × IsShared items (set views me w) × TakesNext v x w
+  gets-place less = (
+    took_place s.next v,
+    keeps me v (took_place s.next v) x items views on s at number (Took-place s.next v less),
+    inl (
+      omega (arith, number, less),
+      subst (λ n. AllByRecursion (λ place. place < n) v.places) (sym number) (s.in_order me v at).1,
+      ap (λ n. took_place n v) (sym number),
+    ),
+  )
+
+  gets-mark : 1 ≤ v.marks_left → v.count ≤ s.next → (w : Takings) × IsShared items (set views me w) × TakesNext v x w
+  gets-mark some' more = (
+    took_mark s.next v,
+    keeps me v (took_mark s.next v) x items views on s at number (Took-mark s.next v more some'),
+    inr (omega (arith, number, more), ap (λ n. took_mark n v) (sym number)),
+  )
+
 pub takes : (me : ℕ) (v : Takings) → v.live ≡ true → 1 ≤ v.marks_left → Pops IsShared me v (TakesNext v)
-takes me v on some' x items views s at = dite (dec_lt s.next v.count)
-    (λ less. (
-      took_place s.next v,
-      keeps me v (took_place s.next v) x items views on s at number (Took-place s.next v less),
-      inl (
-        omega (arith, number, less),
-        subst (λ n. AllByRecursion (λ place. place < n) v.places) (sym number) (s.in_order me v at).1,
-        ap (λ n. took_place n v) (sym number),
-      ),
-    ))
-    (λ more. (
-      took_mark s.next v,
-      keeps me v (took_mark s.next v) x items views on s at number (Took-mark s.next v (omega (arith, more)) some'),
-      inr (omega (arith, number, more), ap (λ n. took_mark n v) (sym number)),
-    ))
-  where
-    number : x ≡ s.next
-    number = (counted-first x s.next items s.items_are).0
+takes me v on some' x items views s at = dite (dec_lt s.next v.count) (gets-place me v on x items views s at)
+    (λ more. gets-mark me v on x items views s at some' (omega (arith, more)))
 
 -- while a mark may be taken, the queue holds something
 pub holds-some : (me : ℕ) (v : Takings) → Learns IsShared me v (λ items. 1 ≤ v.marks_left → 1 ≤ length items)

@@ -1,3 +1,4 @@
+pub mod Lending
 pub mod Passes
 pub mod Rule
 pub mod Takings

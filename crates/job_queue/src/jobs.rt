@@ -1,6 +1,8 @@
-ghost use Rattle.std.specs.Prelude.{◌≡◌, ◌≤◌, ◌<◌, ◌+◌, ◌++◌, [], length, None, IfOk, OnErr};
+//! The transfers of a script in a queue: how it is made, how workers get its passes and give them back, and what all took.
+ghost use Rattle.std.specs.Prelude.{◌≡◌, ◌≤◌, ◌<◌, ◌+◌, [], length, None, IfOk};
 ghost use Rattle.log_record.specs.declared.limits.TheConstants.{LAST_TXN};
-ghost use Rattle.job_queue.specs.Passes.{pass_in, rows_in, places_in, marks_in, places_back, marks_back, passes_out, workers_of, AreAllTaken, AreTakenOnce, HasFirstPass, HasPassOf, IsSameQueue, KeepsRows};
+ghost use Rattle.job_queue.specs.Lending.{EnlistsRows, DismissesRows};
+ghost use Rattle.job_queue.specs.Passes.{pass_in, rows_in, places_back, marks_back, passes_out, workers_of, AreAllTaken, HasFirstPass, HasPassOf, IsSameQueue};
 
 use crate::filling::filled;
 use crate::queue::Queue;
@@ -68,14 +70,7 @@ impl Jobs {
         requires empty { rows_in rows.old ≡ [] }
         requires none { pass_in rows.old ≡ None }
         requires mark { passes_out self.old + length (marks_back self.old) < workers_of self.old }
-        ensures enlisted { OnErr result ⊥ }
-        ensures jobs { HasFirstPass self.new }
-        ensures same { IsSameQueue self.old self.new }
-        ensures out { passes_out self.new ≡ passes_out self.old + 1 }
-        ensures back { (places_back self.new ≡ places_back self.old) × (marks_back self.new ≡ marks_back self.old) }
-        ensures pass { HasPassOf self.new.queue rows.new }
-        ensures fresh { (places_in rows.new ≡ []) × (marks_in rows.new ≡ []) }
-        ensures rows { KeepsRows rows.old rows.new }
+        ensures { EnlistsRows self.old self.new rows.old rows.new result }
     {
         let queue = &self.queue;
         rows.pass = Some(queue.line.another::<Enlists>(&mut self.pass));
@@ -86,14 +81,7 @@ impl Jobs {
     pub fn dismiss(&mut self, rows: Rows) -> Rows
         requires jobs { HasFirstPass self.old }
         requires pass { HasPassOf self.old.queue rows }
-        ensures jobs { HasFirstPass self.new }
-        ensures same { IsSameQueue self.old self.new }
-        ensures out { passes_out self.new + 1 ≡ passes_out self.old }
-        ensures places { places_back self.new ≡ places_back self.old ++ places_in rows }
-        ensures marks { marks_back self.new ≡ marks_back self.old ++ marks_in rows }
-        ensures once { AreTakenOnce (places_back self.new) (marks_back self.new) }
-        ensures none { pass_in result ≡ None }
-        ensures rows { KeepsRows rows result }
+        ensures { DismissesRows self.old self.new rows result }
     {
         let mut rows = rows;
         let Some(pass) = rows.pass.take() else {

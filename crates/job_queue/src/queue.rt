@@ -1,3 +1,4 @@
+//! What workers share: the transfers of a script, and the queue of their places.
 ghost use Rattle.std.specs.Prelude.{◌≤◌, ◌+◌, length};
 ghost use Rattle.log_record.specs.declared.limits.TheConstants.{LAST_TXN};
 

@@ -1,3 +1,4 @@
+//! The rows of a worker, and its pass of the queue.
 ghost use Rattle.std.specs.Prelude.{◌≡◌, ◌≤◌, ◌<◌, [], length, None, IfOk};
 ghost use Rattle.txn_jobs.specs.Rows.{IsTold};
 ghost use Rattle.job_queue.specs.Passes.{pass_in, rows_in, room_of};
