@@ -15,25 +15,23 @@ use Rattle.batch_lines.proofs.ToldLemmas.{ToldUpTo, size_of-some, window-within,
 abbrev pub IsSeen : List ℕ → ℕ → Option Rec → ℕ → Type 0
 IsSeen units at end size = (rec : Rec) × BeginsWith (drop at units) rec × (end ≡ ended rec) × (size ≡ length (spelling rec))
 
--- it begins there, and has so many units
+-- it begins there, has so many units, and ends within the batch
 pub record Stands (units : List ℕ) (at size : ℕ) (rec : Rec) : Type 0 where
   pub begins : BeginsWith (drop at units) rec
   pub size_is : size ≡ size_of rec
+  pub within : at + size ≤ length units
 
 module _ (units : List ℕ) (at size units_read : ℕ) (end : Option Rec) (seen : IsSeen units at end size) (read : units_read ≡ size) where
-  pub seen-stands : Stands units at units_read seen.0
-  seen-stands = record { begins = seen.1; size_is = read ∙ seen.3 }
-
-  -- it ends within the batch, and has a unit
-  pub seen-within : at ≤ length units → at + units_read ≤ length units
-  seen-within within = omega (arith, window-within units at seen.0 within seen.1, seen-stands.size_is)
-
   pub seen-some : 0 < units_read
-  seen-some = omega (arith, size_of-some seen.0, seen-stands.size_is)
+  seen-some = omega (arith, size_of-some seen.0, read, seen.3)
+
+  pub seen-within : at ≤ length units → at + units_read ≤ length units
+  seen-within inside = omega (arith, window-within units at seen.0 inside seen.1, read, seen.3)
 
   -- the record that was found to end a transaction is this one
-  pub seen-ended : (rec : Rec) → end ≡ Some rec → Stands units at units_read rec
-  seen-ended rec is = subst (Stands units at units_read) (sym (ended-same seen.0 rec (sym seen.2 ∙ is))) seen-stands
+  pub seen-ended : at ≤ length units → (rec : Rec) → end ≡ Some rec → Stands units at units_read rec
+  seen-ended inside rec is = subst (Stands units at units_read) (sym (ended-same seen.0 rec (sym seen.2 ∙ is)))
+      record { begins = seen.1; size_is = read ∙ seen.3; within = seen-within inside }
 
 -- the records whose units end at this index were told, and the others were not, whatever they are
 abbrev pub IsToldUpTo : Voice → ℕ → ℕ → List ℕ → List ℕ → ℕ → Tally → Tally → Type 0

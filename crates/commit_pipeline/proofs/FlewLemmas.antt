@@ -32,7 +32,8 @@ pub record Wrote {D : Type 0} (g : Ghosts D) (more cut : List Rec) (most : ℕ) 
       → LogStands end (with_units log (units_of more)) (g.images disk)
   pub count : g.honest old.disk.now → Costs g most most old.disk.now disk
   pub tail : end.at ≤ old.tail.at + 13 * end_of more
-  pub grows : g.honest old.disk.now → GrowsAtMostTo g (most_end old.tail.at (end_of more) (view_of old.seat).constants.ring) old.disk.now disk
+  pub grows : g.honest old.disk.now
+      → GrowsAtMostTo g (most_end old.tail.at (end_of more) (view_of old.seat).constants.ring) old.disk.now disk
 
 -- and what of it the seat knows
 pub record Flew {D : Type 0} (g : Ghosts D) (more cut : List Rec) (most : ℕ) (old new : Flusher D g) : Type 0 where

@@ -45,7 +45,7 @@ pub returns-in_err-lines : goal.returns-in_err-lines
 returns-in_err-lines g c =
     let was = c.records.invariant in
     let tally = c.count-in-records.ensures in
-    let stands = seen-ended _ _ _ _ _ c.end_at-end.ensures c.from.ensures c.in-Some.rec c.in-Some.is in
+    let stands = seen-ended _ _ _ _ _ c.end_at-end.ensures c.from.ensures was.within c.in-Some.rec c.in-Some.is in
     let failed = err_from_is_err_and c.from_residual.result c.from_residual.ensures.1 in
     let cut = AppendsBut-part _ _ _ was.told.0 _ was.told.1 _ c.in_err-lines.ensures.prefix in
     let cause = c.in_err-lines.ensures.cause in
@@ -59,7 +59,7 @@ returns-in_err-lines g c =
       );
       few = omega (
         arith,
-        seen-within _ _ _ _ _ c.end_at-end.ensures c.from.ensures was.within,
+        stands.within,
         was.few,
         tally.done,
         tally.refused,
@@ -73,11 +73,11 @@ pub records-preserved : goal.records-preserved
 records-preserved g c =
     let was = c.records.invariant in
     let tally = c.count-in-records.ensures in
-    let stands = seen-ended _ _ _ _ _ c.end_at-end.ensures c.from.ensures c.in-Some.rec c.in-Some.is in
+    let stands = seen-ended _ _ _ _ _ c.end_at-end.ensures c.from.ensures was.within c.in-Some.rec c.in-Some.is in
     let line = c.in_ok-lines.ensures.all in
     record {
       same = refl;
-      within = seen-within _ _ _ _ _ c.end_at-end.ensures c.from.ensures was.within;
+      within = stands.within;
       lines_few = omega (arith, was.lines_few, line.1, count_said-few c.args.voice c.in-Some.rec, stands.size_is);
       few = omega (arith, was.few, tally.done, tally.refused, ends-few c.in-Some.rec, stands.size_is);
       told = (
@@ -139,10 +139,11 @@ new-requires g c =
 pub overflow_add-lines : goal.overflow_add-lines
 overflow_add-lines g c =
     let was = c.records.invariant in
-    let stands = seen-ended c.args.batch.now.units c.records.at _ _ _ c.end_at-end.ensures c.from.ensures c.in-Some.rec c.in-Some.is in
+    let stands = seen-ended c.args.batch.now.units c.records.at _ _ _ c.end_at-end.ensures c.from.ensures was.within
+    c.in-Some.rec c.in-Some.is in
     omega (
       arith,
-      seen-within _ _ _ _ _ c.end_at-end.ensures c.from.ensures was.within,
+      stands.within,
       c.requires.end,
       was.lines_few,
       c.in_ok-lines.ensures.all.1,
