@@ -6,7 +6,8 @@ use Rattle.log_disk.specs.Streams.{AppendsPart, AppendsBut}
 use Rattle.log_disk.specs.declared.sink.Sink.{Ghosts}
 
 -- the piece is put behind what waits in the block, of which the last bytes wait then; at a fault a part of all this was written
-pub record Puts {K T E : Type 0} (g : Ghosts K) (piece : List ℕ) (old new : K) (waits waits_new : List ℕ) (result : Result T E) : Type 0 where
+pub record Puts {K T E : Type 0} (g : Ghosts K) (piece : List ℕ) (old new : K) (waits waits_new : List ℕ)
+    (result : Result T E) : Type 0 where
   pub all : OnOk result (AppendsBut (g.held_bytes old) (g.held_bytes new) (waits ++ piece) waits_new)
   pub prefix : OnErr result (AppendsPart (g.held_bytes old) (g.held_bytes new) (waits ++ piece))
   pub cause : HasCause (g.faults old) (g.faults new) result

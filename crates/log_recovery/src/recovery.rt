@@ -6,7 +6,8 @@ ghost use Rattle.segment_file.specs.Log.{Log, HoldsLog};
 ghost use Rattle.segment_file.specs.Scan.{IsScanFaultOf, Scans};
 ghost use Rattle.log_recovery.specs.Judging.{IsUnitsFaultOf};
 ghost use Rattle.log_recovery.specs.Opened.{OpenedList};
-ghost use Rattle.log_recovery.specs.Recovery.{HoldsList, HoldsLawful, JudgesBytes, ListsBytes, TakesBytes, Recovers, TellsRecovered, IsFaultOf, IsListedFaultOf};
+ghost use Rattle.log_recovery.specs.Recovery.{HoldsList, HoldsLawful, JudgesBytes, ListsBytes, TakesBytes, Recovers};
+ghost use Rattle.log_recovery.specs.Recovery.{TellsRecovered, IsFaultOf, IsListedFaultOf};
 
 use crate::judging::{UnitsFault, taken_units};
 use crate::list_result::Listed;
