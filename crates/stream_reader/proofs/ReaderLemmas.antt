@@ -168,6 +168,53 @@ nothing-more at next room units begun past piece after (Whole first frames) r so
 
 -- ---- more bytes
 
+-- a head alone
+head-read : (bytes : List ℕ) (first : ℕ) → bytes ≡ head_bytes first → first ≤ LAST → HasFrames bytes first [] []
+head-read bytes first is fits = record {
+  each = tt;
+  total = omega (arith, fits);
+  whole = is ∙ sym (append-nil (head_bytes first)) ∙ sym (append-nil (head_bytes first ++ []));
+}
+
+-- behind whole frames stands a count, and this tail
+module _ (past : List ℕ) (first at : ℕ) (frames : List (List Rec)) (part piece after tail : List ℕ) (count : ℕ)
+    (reads : HasFrames past first frames part) (place : at + length part ≡ length past)
+    (behind : part ++ (piece ++ after) ≡ to_be_bytes w32 count ++ tail) where
+  counted-read : HasFrames (past ++ piece ++ after) first frames (to_be_bytes w32 count ++ tail)
+  counted-read = subst (λ list. HasFrames list first frames (to_be_bytes w32 count ++ tail)) (sym (append_assoc past piece after))
+      (frames-same (past ++ (piece ++ after)) first frames (part ++ (piece ++ after)) _ behind
+      (frames-more past first frames part (piece ++ after) reads))
+
+  counted-place : at + length (to_be_bytes w32 count ++ tail) ≡ length (past ++ piece ++ after)
+  counted-place = omega (
+    arith,
+    place,
+    ap length behind,
+    length-append part (piece ++ after),
+    length-append past (piece ++ after),
+    ap length (append_assoc past piece after),
+  )
+
+  -- it is bad, where it is no frame
+  pub counted-bad : 0 < count → count < 4294967296 → HasNoFrame (frames_end first frames) (to_be_bytes w32 count ++ tail)
+      → IsBadBehind (Open first frames) (past ++ piece ++ after) at
+  counted-bad some fits none = (
+    to_be_bytes w32 count ++ tail,
+    counted-read,
+    none,
+    (λ other whole. let number = same_number count 0 tail other fits (omega arith) whole in omega (arith, some, number.0)),
+    counted-place,
+  )
+
+-- a count that no frame has here
+count-none : (lsn count : ℕ) (tail : List ℕ) → count < 4294967296 → (count ≤ MOST_FRAME_UNITS → lsn + count ≤ LAST → ⊥)
+    → HasNoFrame lsn (to_be_bytes w32 count ++ tail)
+unfolding counted_bytes
+count-none lsn count tail fits none records other frame room whole =
+    let number = same_number count (end_of records) tail (flat_map unit_bytes (units_of records) ++ other) fits
+    (omega (arith, frame.most)) whole in
+    none (omega (arith, frame.most, number.0)) (omega (arith, room, number.0))
+
 module _ (at next room : ℕ) (units begun past more : List ℕ) where
   pub head-more : (came : Came) → ReadsAt Head at next room units begun past came → length (begun ++ more) < 11
       → ReadsAt Head at next room units (begun ++ more) (past ++ more) came
@@ -189,11 +236,7 @@ module _ (at next room : ℕ) (units begun past more : List ℕ) where
         refl,
         record {
           stage_is = (omega arith, omega arith);
-          reads = record {
-            each = tt;
-            total = omega (arith, fits);
-            whole = bytes ∙ sym (append-nil (head_bytes first)) ∙ sym (append-nil (head_bytes first ++ []));
-          };
+          reads = head-read (past ++ more) first bytes fits;
           place = omega (arith, ap length bytes);
           room_is = r.room_is;
         },
@@ -270,38 +313,28 @@ module _ (at next room : ℕ) (units begun past more : List ℕ) where
       → begun ++ more ≡ to_be_bytes w32 count
       → 0 < count → count < 4294967296 → (count ≤ MOST_FRAME_UNITS → next + count ≤ LAST → ⊥) → piece ≡ more ++ rest
       → IsBadBehind came (past ++ piece ++ after) at
-  unfolding counted_bytes
   count-bad NoHead count piece rest after r is some fits none split = absurd r.stage_is
   count-bad (Open first frames) count piece rest after r is some fits none split =
-      let behind : begun ++ (piece ++ after) ≡ to_be_bytes w32 count ++ (rest ++ after) =
-      ap (λ list. begun ++ (list ++ after)) split ∙ ap (λ list. begun ++ list) (append_assoc more rest after)
-      ∙ sym (append_assoc begun more (rest ++ after))
-      ∙ ap (λ list. list ++ (rest ++ after)) is in (
-        to_be_bytes w32 count ++ (rest ++ after),
-        subst (λ list. HasFrames list first frames (to_be_bytes w32 count ++ (rest ++ after))) (sym (append_assoc past piece after))
-            (frames-same (past ++ (piece ++ after)) first frames (begun ++ (piece ++ after)) _ behind
-            (frames-more past first frames begun (piece ++ after) r.reads)),
-        (λ records other frame room whole.
-            let number =
-            same_number count (end_of records) (rest ++ after) (flat_map unit_bytes (units_of records) ++ other) fits
-            (omega (arith, frame.most)) whole in
-            none (omega (arith, frame.most, number.0)) (omega (arith, room, number.0, r.stage_is.0))),
-        (λ other whole. let number = same_number count 0 (rest ++ after) other fits (omega arith) whole in omega (arith, some, number.0)),
-        omega (
-          arith,
-          r.place,
-          ap length behind,
-          length-append begun (piece ++ after),
-          length-append past (piece ++ after),
-          ap length (append_assoc past piece after),
-        ),
-      )
+      counted-bad past first at frames begun piece after (rest ++ after) count r.reads r.place
+      (ap (λ list. begun ++ (list ++ after)) split ∙ ap (λ list. begun ++ list) (append_assoc more rest after)
+      ∙ sym (append_assoc begun more (rest ++ after)) ∙ ap (λ list. list ++ (rest ++ after)) is) some fits
+      (count-none (frames_end first frames) count (rest ++ after) fits (λ most room. none most (omega (arith, room, r.stage_is.0))))
   count-bad (Whole first frames) count piece rest after r is some fits none split = absurd r.stage_is
 
   pub units-fit : (came : Came) (count : ℕ) → ReadsAt (Units count) at next room units begun past came → AreUnits units
   units-fit NoHead count r = absurd r.stage_is
   units-fit (Open first frames) count r = r.stage_is.1.each
   units-fit (Whole first frames) count r = absurd r.stage_is
+
+  -- a count, and more of the units behind it
+  units-read : (first : ℕ) (frames : List (List Rec)) (count : ℕ) (new left : List ℕ)
+      → units_bytes new left ≡ units_bytes units begun ++ more
+      → HasFrames past first frames (to_be_bytes w32 count ++ units_bytes units begun)
+      → HasFrames (past ++ more) first frames (to_be_bytes w32 count ++ units_bytes new left)
+  units-read first frames count new left is reads =
+      frames-same (past ++ more) first frames _ (to_be_bytes w32 count ++ units_bytes new left)
+      (ap (λ list. to_be_bytes w32 count ++ list) (sym is))
+      (frames-more past first frames (to_be_bytes w32 count ++ units_bytes units begun) more reads)
 
   -- units have come, and not yet all
   pub units-more : (came : Came) (count : ℕ) (new left : List ℕ) → ReadsAt (Units count) at next room units begun past came
@@ -310,9 +343,7 @@ module _ (at next room : ℕ) (units begun past more : List ℕ) where
   units-more NoHead count new left r is under short fit = absurd r.stage_is
   units-more (Open first frames) count new left r is under short fit = record {
     stage_is = (r.stage_is.0, record { under = under; most = r.stage_is.1.most; fits = r.stage_is.1.fits; short = short; each = fit });
-    reads = frames-same (past ++ more) first frames _ (to_be_bytes w32 count ++ units_bytes new left)
-        (ap (λ list. to_be_bytes w32 count ++ list) (sym is))
-        (frames-more past first frames (to_be_bytes w32 count ++ units_bytes units begun) more r.reads);
+    reads = units-read first frames count new left is r.reads;
     place = omega (arith, r.place, ap length is, length-append (units_bytes units begun) more, length-append past more);
     room_is = r.room_is;
   }
@@ -378,45 +409,32 @@ module _ (at next room : ℕ) (units begun past more : List ℕ) where
         )
     units-frame (Whole first frames) records r are = absurd r.stage_is
 
-    -- the units are no whole spellings
+    -- a count and units that are no whole spellings
+    units-none : (lsn : ℕ) (tail : List ℕ) → count ≤ MOST_FRAME_UNITS → ((records : List Rec) → AreUnitsOf new records → ⊥)
+        → AreUnits new → HasNoFrame lsn (to_be_bytes w32 count ++ (flat_map unit_bytes new ++ tail))
+    unfolding counted_bytes
+    units-none lsn tail most none fit records other frame room whole =
+        let number = same_number count (end_of records) _ (flat_map unit_bytes (units_of records) ++ other) (omega (arith, most))
+        (omega (arith, frame.most)) whole in
+        none records record {
+          spellable = frame.spellable;
+          units_are = same_units new (units_of records) tail other (All-from_recursion IsUnit new fit)
+              (spellings-fit records frame.spellable) (omega (arith, all, number.0)) number.1;
+        }
+
     pub units-bad : (came : Came) (piece rest after : List ℕ) → ReadsAt (Units count) at next room units begun past came
         → ((records : List Rec) → AreUnitsOf new records → ⊥) → AreUnits new → piece ≡ more ++ rest
         → IsBadBehind came (past ++ piece ++ after) at
-    unfolding counted_bytes
     units-bad NoHead piece rest after r none fit split = absurd r.stage_is
     units-bad (Open first frames) piece rest after r none fit split =
+        let count_bytes = to_be_bytes w32 count in
         let body : List ℕ = units_bytes units begun in
-        let behind : (to_be_bytes w32 count ++ body) ++ (piece ++ after)
-        ≡ to_be_bytes w32 count ++ (flat_map unit_bytes new ++ (rest ++ after)) =
-        ap (λ list. to_be_bytes w32 count ++ (body ++ (list ++ after))) split
-        ∙ ap (λ list. to_be_bytes w32 count ++ (body ++ list)) (append_assoc more rest after)
-        ∙ ap (λ list. to_be_bytes w32 count ++ list) (sym (append_assoc body more (rest ++ after))
-        ∙ ap (λ list. list ++ (rest ++ after)) (sym is ∙ append-nil (flat_map unit_bytes new))) in (
-          to_be_bytes w32 count ++ (flat_map unit_bytes new ++ (rest ++ after)),
-          subst (λ list. HasFrames list first frames (to_be_bytes w32 count ++ (flat_map unit_bytes new ++ (rest ++ after))))
-              (sym (append_assoc past piece after))
-              (frames-same (past ++ (piece ++ after)) first frames _ _ behind
-              (frames-more past first frames (to_be_bytes w32 count ++ body) (piece ++ after) r.reads)),
-          (λ records other frame room whole.
-              let number =
-              same_number count (end_of records) _ (flat_map unit_bytes (units_of records) ++ other) (omega (arith, r.stage_is.1.most))
-              (omega (arith, frame.most)) whole in
-              none records (record {
-                spellable = frame.spellable;
-                units_are =
-                    same_units new (units_of records) (rest ++ after) other (All-from_recursion IsUnit new fit)
-                    (spellings-fit records frame.spellable)
-                    (omega (arith, all, number.0)) number.1;
-              })),
-          (λ other whole. let number = same_number count 0 _ other (omega (arith, r.stage_is.1.most)) (omega arith) whole in
-              omega (arith, r.stage_is.1.under, number.0)),
-          omega (
-            arith,
-            r.place,
-            ap length behind,
-            length-append (to_be_bytes w32 count ++ body) (piece ++ after),
-            length-append past (piece ++ after),
-            ap length (append_assoc past piece after),
-          ),
-        )
+        let behind : (count_bytes ++ body) ++ (piece ++ after) ≡ count_bytes ++ (flat_map unit_bytes new ++ (rest ++ after)) =
+        ap (λ list. count_bytes ++ (body ++ (list ++ after))) split
+        ∙ ap (λ list. count_bytes ++ (body ++ list)) (append_assoc more rest after)
+        ∙ ap (λ list. count_bytes ++ list) (sym (append_assoc body more (rest ++ after))
+        ∙ ap (λ list. list ++ (rest ++ after)) (sym is ∙ append-nil (flat_map unit_bytes new))) in
+        counted-bad past first at frames (count_bytes ++ body) piece after (flat_map unit_bytes new ++ (rest ++ after)) count r.reads r.place
+        behind (omega (arith, r.stage_is.1.under)) (omega (arith, r.stage_is.1.most))
+        (units-none (frames_end first frames) (rest ++ after) r.stage_is.1.most none fit)
     units-bad (Whole first frames) piece rest after r none fit split = absurd r.stage_is

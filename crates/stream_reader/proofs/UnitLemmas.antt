@@ -1,11 +1,14 @@
 -- How the units of a frame are taken from bytes.
 use Rattle.std.proofs.Common.{◌≡◌, ◌<◌, ◌≤◌, ◌∙◌, sym, ap, subst, refl, ℕ, ◌+◌, ◌-◌, ◌*◌, ◌^◌, List, [], ◌∷◌, ◌++◌, length, take, drop, arith, length-append, append_assoc, append-nil}
 use Rattle.std.specs.List.{flat_map, AllByRecursion}
+use Rattle.std.proofs.lemmas.List.{length-drop}
 use Rattle.std.proofs.Math.Seq.{take-add, take-append_seam}
 use Rattle.std.proofs.lemmas.List.Concat.{flat_map-append}
 use Rattle.lsn_space.specs.Unit.{unit_bytes}
 use Rattle.lsn_space.proofs.TilingLemmas.{all-push}
 use Rattle.segment_file.specs.File.{AreUnits}
+use Rattle.segment_file.specs.Packing.{BatchState}
+use Rattle.stream_reader.specs.Pushing.{PushesBytes}
 use Rattle.stream_reader.specs.Reader.{units_bytes}
 
 -- what was taken of a piece of which this rest is left
@@ -40,15 +43,24 @@ pushing-more old new piece rest after after_units unit before fits front pushed 
   fit = λ fit. subst AreUnits (sym pushed) (all-push (λ unit. unit < 2 ^ 64) new unit (before.fit fit) fits);
 }
 
-pub pushing-bytes : (old new piece rest : List ℕ) → IsPushing old new piece rest
+pushing-bytes : (old new piece rest : List ℕ) → IsPushing old new piece rest
     → units_bytes new [] ≡ units_bytes old [] ++ take (length piece - length rest) piece
 pushing-bytes old new piece rest pushing =
     append-nil (flat_map unit_bytes new) ∙ pushing.bytes
     ∙ ap (λ list. flat_map unit_bytes old ++ list) (sym (taken-front piece pushing.taken rest pushing.split))
     ∙ ap (λ list. list ++ take (length piece - length rest) piece) (sym (append-nil (flat_map unit_bytes old)))
 
-pub pushing-length : (old new piece rest : List ℕ) → IsPushing old new piece rest → length rest ≤ length piece
+pushing-length : (old new piece rest : List ℕ) → IsPushing old new piece rest → length rest ≤ length piece
 pushing-length old new piece rest pushing = omega (arith, ap length pushing.split, length-append pushing.taken rest)
+
+pub pushes-whole : (old new : BatchState) (piece rest : List ℕ) → IsPushing old.units new.units piece rest → new.room ≡ old.room
+    → PushesBytes old new [] [] piece (length piece - length rest)
+pushes-whole old new piece rest pushing room = record {
+  within = omega arith;
+  bytes = pushing-bytes old.units new.units piece rest pushing;
+  fit = pushing.fit;
+  room = room;
+}
 
 -- two fronts, one behind the other
 pub bytes-two : (x y z piece : List ℕ) (a b : ℕ) → y ≡ x ++ take a piece → z ≡ y ++ take b (drop a piece) → z ≡ x ++ take (a + b) piece
@@ -65,13 +77,33 @@ module _ (old begun mid after new piece rest : List ℕ) (a b : ℕ) (rest_is : 
       (subst (λ list. units_bytes mid list ≡ units_bytes old begun ++ take a piece) empty first) (second
       ∙ ap (λ list. units_bytes mid [] ++ take b list) rest_is)
 
-  pub bytes-pushed : units_bytes new after ≡ units_bytes old begun ++ take (a + b) piece
+  bytes-pushed : units_bytes new after ≡ units_bytes old begun ++ take (a + b) piece
   bytes-pushed = ap (λ list. units_bytes new list) empty ∙ pushed
 
   -- and the bytes of one that isn't whole
-  pub bytes-left : (left behind : List ℕ) (c : ℕ) → behind ≡ drop (a + b) piece → left ≡ after ++ take c behind
+  bytes-left : (left behind : List ℕ) (c : ℕ) → behind ≡ drop (a + b) piece → left ≡ after ++ take c behind
       → units_bytes new left ≡ units_bytes old begun ++ take (a + b + c) piece
   bytes-left left behind c behind_is left_is =
       bytes-two (units_bytes old begun) (units_bytes new []) (units_bytes new left) piece (a + b) c pushed
       (ap (λ list. units_bytes new list) (left_is ∙ ap (λ list. list ++ take c behind) empty ∙ ap (take c) behind_is)
       ∙ ap (λ list. list ++ take c (drop (a + b) piece)) (sym (append-nil (flat_map unit_bytes new))))
+
+module _ {old mid new : BatchState} {begun after piece rest : List ℕ} {a b : ℕ} (rest_is : rest ≡ drop a piece) (empty : after ≡ [])
+    (first : PushesBytes old mid begun after piece a) (second : PushesBytes mid new [] [] rest b) where
+  pub pushes-two : PushesBytes old new begun after piece (a + b)
+  pushes-two = record {
+    within = omega (arith, first.within, second.within, ap length rest_is, length-drop a piece);
+    bytes = bytes-pushed old.units begun mid.units after new.units piece rest a b rest_is empty first.bytes second.bytes;
+    fit = λ fit. second.fit (first.fit fit);
+    room = second.room ∙ first.room;
+  }
+
+  pub pushes-left : (left behind : List ℕ) (c : ℕ) → behind ≡ drop (a + b) piece → c ≤ length behind → left ≡ after ++ take c behind
+      → PushesBytes old new begun left piece (a + b + c)
+  pushes-left left behind c behind_is within left_is = record {
+    within = omega (arith, pushes-two.within, within, ap length behind_is, length-drop (a + b) piece);
+    bytes = bytes-left old.units begun mid.units after new.units piece rest a b rest_is empty first.bytes second.bytes
+        left behind c behind_is left_is;
+    fit = pushes-two.fit;
+    room = pushes-two.room;
+  }

@@ -1,9 +1,8 @@
 //! The units of a frame, from the bytes that come.
 
-ghost use Rattle.std.specs.Prelude.{◌≡◌, ◌⊎◌, ◌<◌, ◌≤◌, ◌+◌, ◌++◌, [], length, take, IfSome, IfNone};
+ghost use Rattle.std.specs.Prelude.{◌≡◌, ◌⊎◌, ◌<◌, ◌≤◌, ◌+◌, [], length, IfSome, IfNone};
 ghost use Rattle.std.specs.Int.{w64, to_be_bytes};
-ghost use Rattle.segment_file.specs.File.{AreUnits};
-ghost use Rattle.stream_reader.specs.Reader.{units_bytes};
+ghost use Rattle.stream_reader.specs.Pushing.{PushesBytes};
 
 use crate::begun::Begun;
 use segment_file::Batch;
@@ -18,13 +17,10 @@ pub(crate) fn push_bytes(batch: &mut Batch, begun: &mut Begun, count: u32, piece
     requires under { length batch.old.units < count }
     requires room { count ≤ batch.old.room }
     requires begun { length begun.old < 8 }
-    ensures within { result ≤ length piece.now }
-    ensures bytes { units_bytes batch.new.units begun.new ≡ units_bytes batch.old.units begun.old ++ take result piece.now }
-    ensures fit { AreUnits batch.old.units → AreUnits batch.new.units }
+    ensures taken { PushesBytes batch.old batch.new begun.old begun.new piece.now result }
     ensures begun { length begun.new < 8 }
     ensures more { length batch.new.units < count → result ≡ length piece.now }
     ensures whole { count ≤ length batch.new.units → (length batch.new.units ≡ count) × (begun.new ≡ []) }
-    ensures room { batch.new.room ≡ batch.old.room }
 {
     let first = end_unit(batch, begun, piece);
     if begun.count() > 0 {
@@ -41,13 +37,10 @@ pub(crate) fn push_bytes(batch: &mut Batch, begun: &mut Begun, count: u32, piece
 fn end_unit(batch: &mut Batch, begun: &mut Begun, piece: &[u8]) -> usize
     requires room { length batch.old.units < batch.old.room }
     requires begun { length begun.old < 8 }
-    ensures within { result ≤ length piece.now }
-    ensures bytes { units_bytes batch.new.units begun.new ≡ units_bytes batch.old.units begun.old ++ take result piece.now }
-    ensures fit { AreUnits batch.old.units → AreUnits batch.new.units }
+    ensures taken { PushesBytes batch.old batch.new begun.old begun.new piece.now result }
     ensures more { length batch.new.units ≤ length batch.old.units + 1 }
     ensures begun { (begun.new ≡ [])
         ⊎ ((length begun.new < 8) × (result ≡ length piece.now) × (length batch.new.units ≡ length batch.old.units)) }
-    ensures room { batch.new.room ≡ batch.old.room }
 {
     if begun.count() == 0 {
         return 0;
@@ -64,12 +57,9 @@ fn end_unit(batch: &mut Batch, begun: &mut Begun, piece: &[u8]) -> usize
 fn push_whole(batch: &mut Batch, count: u32, piece: &[u8]) -> usize
     requires under { length batch.old.units ≤ count }
     requires room { count ≤ batch.old.room }
-    ensures within { result ≤ length piece.now }
-    ensures bytes { units_bytes batch.new.units [] ≡ units_bytes batch.old.units [] ++ take result piece.now }
-    ensures fit { AreUnits batch.old.units → AreUnits batch.new.units }
+    ensures taken { PushesBytes batch.old batch.new [] [] piece.now result }
     ensures most { length batch.new.units ≤ count }
     ensures more { length batch.new.units < count → length piece.now < result + 8 }
-    ensures room { batch.new.room ≡ batch.old.room }
 {
     let mut rest = piece;
     'units: while batch.count() < count {

@@ -1,6 +1,6 @@
 use Rattle.std.proofs.Common.{rules, ◌∙◌, ◌∷◌, [], ap, length, length-append, arith}
 use Rattle.segment_file.specs.Packing.{BatchState}
-use Rattle.stream_reader.proofs.UnitLemmas.{pushing-more}
+use Rattle.stream_reader.proofs.UnitLemmas.{pushing-more, pushes-whole}
 use Rattle.stream_reader.proofs.units.push_whole.Goals as goal
 
 pub units-preserved : goal.units-preserved
@@ -16,3 +16,6 @@ units-preserved c = record {
   );
   room = ap (λ (b : BatchState). b.room) c.push.ensures ∙ c.units.invariant.room;
 }
+
+pub returns-clause-taken : goal.returns-clause-taken
+returns-clause-taken c = pushes-whole _ _ _ _ c.units.invariant.pushing c.units.invariant.room

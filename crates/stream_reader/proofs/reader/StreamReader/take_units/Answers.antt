@@ -16,13 +16,13 @@ returns-then-not-is_whole c =
     let all = c.push_bytes-used.ensures.whole (omega (arith, c.if-count.false, c.count.ensures)) in
     let bytes =
     subst (λ begun. units_bytes new begun ≡ units_bytes self.batch.units self.begun ++ take used piece) all.1
-    c.push_bytes-used.ensures.bytes in
+    c.push_bytes-used.ensures.taken.bytes in
     takes-bad self _ piece self.at (λ past came read more.
     let reads = at-stage self (Units c.args.count) past came c.requires.stage read in
     units-bad self.at self.next self.batch.room self.batch.units self.begun past (take used piece) c.args.count new bytes all.0 came piece
     (drop used piece) more reads
     (λ records are. true≢false (sym (c.if-not-is_whole.ensures.1 (records, are))))
-    (c.push_bytes-used.ensures.fit (units-fit self.at self.next self.batch.room self.batch.units self.begun past [] came c.args.count
+    (c.push_bytes-used.ensures.taken.fit (units-fit self.at self.next self.batch.room self.batch.units self.begun past [] came c.args.count
     reads))
     (sym (take-append-drop used piece)))
 
@@ -40,13 +40,13 @@ returns c =
     let all = c.push_bytes-used.ensures.whole (omega (arith, c.if-count.false, c.count.ensures)) in
     let bytes =
     subst (λ begun. units_bytes new begun ≡ units_bytes self.batch.units self.begun ++ take used piece) all.1
-    c.push_bytes-used.ensures.bytes in
+    c.push_bytes-used.ensures.taken.bytes in
     let records = c.if-not-is_whole.ensures.0 refl in
     let some = units-some self.at self.next self.batch.room self.batch.units self.begun c.requires.read.0 (take used piece) c.args.count
     new bytes all.0 c.requires.read.1
     (at-stage self (Units c.args.count) c.requires.read.0 c.requires.read.1 c.requires.stage c.requires.read.2) in
-    takes-part self _ piece used part.Frame c.push_bytes-used.ensures.within
-    (omega (arith, some, length-take-le used piece c.push_bytes-used.ensures.within))
+    takes-part self _ piece used part.Frame c.push_bytes-used.ensures.taken.within
+    (omega (arith, some, length-take-le used piece c.push_bytes-used.ensures.taken.within))
     (λ past came read.
     let whole =
     units-frame self.at self.next self.batch.room self.batch.units self.begun past (take used piece) c.args.count new bytes all.0 came
@@ -60,5 +60,5 @@ returns c =
       frame = whole.3;
       units = records.1.units_are;
       read = as-read _ Count (self.at + 4 + 8 * c.args.count) (self.next + c.args.count) self.batch.room new [] _ _ refl (omega arith)
-          (omega (arith, c.new-self.ensures, c.units.ensures)) c.push_bytes-used.ensures.room refl all.1 whole.4;
+          (omega (arith, c.new-self.ensures, c.units.ensures)) c.push_bytes-used.ensures.taken.room refl all.1 whole.4;
     })
