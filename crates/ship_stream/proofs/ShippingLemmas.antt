@@ -1,14 +1,12 @@
 -- How a list is shipped, record by record and frame by frame.
-use Rattle.std.proofs.Common.{◌≡◌, ◌<◌, ◌≤◌, ◌∙◌, sym, ap, subst, refl, ℕ, ◌+◌, List, [], ◌∷◌, ◌++◌, Option, length, drop, arith, length-append, append_assoc, append-nil, take, get_or, Result}
+use Rattle.std.proofs.Common.{◌≡◌, ◌<◌, ◌≤◌, ◌∙◌, sym, ap, subst, refl, ℕ, ◌+◌, List, [], ◌∷◌, ◌++◌, Option, length, drop, arith, length-append, append_assoc, append-nil, take, get_or}
 use Rattle.std.specs.List.{flat_map, AllByRecursion}
 use Rattle.std.proofs.lemmas.List.{flat_map_more, take_more, take-append-drop}
 use Rattle.std.proofs.lemmas.List.Concat.{flat_map-append}
-use Rattle.std.specs.Int.{w32, to_be_bytes}
 use Rattle.lsn_space.specs.Unit.{unit_bytes}
 use Rattle.std.proofs.lemmas.List.Elements.{All-from_recursion}
 use Rattle.std.proofs.Math.Seq.{take-append_seam, drop-append_seam}
 use Rattle.lsn_space.proofs.TilingLemmas.{all-push}
-use Rattle.log_disk.specs.Faults.{HasCause}
 use Rattle.log_disk.specs.Streams.{AppendsPart, AppendsBut}
 use Rattle.log_disk.proofs.Blocks.{AppendsBut-more, AppendsBut-part, AppendsPart-first}
 use Rattle.log_record.specs.declared.rec.Rec.{Rec}
@@ -297,11 +295,6 @@ module _ (from : ℕ) (units rest waiting : List ℕ) (old mid : Option (List �
 
 -- ---- the units of a frame
 
-pub counted-is : (block : List ℕ) (count : ℕ) (units : List ℕ)
-    → (block ++ to_be_bytes w32 count) ++ flat_map unit_bytes units ≡ block ++ counted_bytes count units
-unfolding counted_bytes
-counted-is block count units = append_assoc block (to_be_bytes w32 count) (flat_map unit_bytes units)
-
 module _ (block units waiting : List ℕ) (i unit : ℕ) (old mid : Option (List ℕ)) (within : i < length units) (is : unit ≡ get_or units i 0)
     (before : AppendsBut old mid (block ++ flat_map unit_bytes (take i units)) waiting) where
   one-more : (block ++ flat_map unit_bytes (take i units)) ++ unit_bytes unit ≡ block ++ flat_map unit_bytes (take (i + 1) units)
@@ -324,8 +317,3 @@ module _ (block units waiting : List ℕ) (i unit : ℕ) (old mid : Option (List
       AppendsPart-first old new _ _ rest (AppendsBut-part old mid new _ waiting before (unit_bytes unit) cut)
       (ap (λ list. block ++ list) whole ∙ sym (append_assoc block (flat_map unit_bytes (take (i + 1) units)) rest)
       ∙ ap (λ list. list ++ rest) (sym one-more))
-
--- where no fault was counted until then
-pub cause-since : {T E : Type 0} (first before now : ℕ) (result : Result T E) → before ≡ first → HasCause before now result
-    → HasCause first now result
-cause-since first before now result same cause = subst (λ count. HasCause count now result) same cause

@@ -35,8 +35,8 @@ abbrev pub IsBadBehind : Came → List ℕ → ℕ → Type 0
 IsBadBehind NoHead bytes offset = HasNoHead bytes × (offset ≡ 0)
 IsBadBehind (Open first frames) bytes offset = (rest : List ℕ) × HasFrames bytes first frames rest
     × HasNoFrame (frames_end first frames) rest × HasNoEnd rest × (offset + length rest ≡ length bytes)
-IsBadBehind (Whole first frames) bytes offset = (behind : List ℕ) × HasFrames bytes first frames (end_bytes ++ behind) × (0 < length behind)
-    × (offset + length behind ≡ length bytes)
+IsBadBehind (Whole first frames) bytes offset = (behind : List ℕ) × HasFrames bytes first frames (end_bytes ++ behind)
+    × (0 < length behind) × (offset + length behind ≡ length bytes)
 
 -- the bytes are no stream, and the first bad part is at this place
 abbrev pub IsBadStream : List ℕ → ℕ → Type 0

@@ -1,4 +1,5 @@
 pub mod Came
 pub mod Packing
+pub mod Putting
 pub mod Shipping
 pub mod Stream

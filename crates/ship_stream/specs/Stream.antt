@@ -1,4 +1,5 @@
--- The stream that carries the records of a log to another: a head, frames of whole records, and an end. Numbers stand highest byte first.
+-- The stream that carries the records of a log to another: a head, frames of whole records, and an end. Numbers stand highest byte
+-- first.
 use Rattle.std.specs.Prelude.{◌≡◌, ◌<◌, ◌≤◌, ℕ, ◌+◌, List, ◌++◌, codes}
 use Rattle.std.specs.List.{flat_map, AllByRecursion}
 use Rattle.std.specs.Int.{w32, to_be_bytes}

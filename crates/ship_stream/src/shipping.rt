@@ -5,12 +5,13 @@ ghost use Rattle.std.specs.List.{flat_map};
 ghost use Rattle.std.specs.Int.{w32, to_be_bytes};
 ghost use Rattle.std.specs.Io.KnownBytes.{Appends};
 ghost use Rattle.log_disk.specs.Faults.{HasCause};
-ghost use Rattle.log_disk.specs.Streams.{AppendsPart, AppendsBut};
+ghost use Rattle.log_disk.specs.Streams.{AppendsPart};
 ghost use Rattle.log_record.specs.declared.rec.Rec.{Rec};
 ghost use Rattle.log_record.specs.LogList.{size_of, AreUnitsOf};
 ghost use Rattle.log_record.specs.Spelling.{spelling, IsSpellable};
 ghost use Rattle.lsn_space.specs.Unit.{unit_bytes};
 ghost use Rattle.ship_stream.specs.Packing.{stream_of};
+ghost use Rattle.ship_stream.specs.Putting.{Puts};
 ghost use Rattle.ship_stream.specs.Shipping.{BeginsFrame};
 ghost use Rattle.ship_stream.specs.Stream.{head_bytes, counted_bytes};
 
@@ -44,9 +45,7 @@ pub fn put_stream<K: Sink>(from: Lsn, units: &[u64], sink: &mut K) -> Result<(),
 /// Puts the head.
 #[tactic(auto, unfolding(crate::specs::Stream::head_bytes))]
 fn put_head<K: Sink>(from: Lsn, block: &mut OutputBlock, sink: &mut K) -> Result<(), WriteFault>
-    ensures all { OnOk result (AppendsBut (K.held_bytes sink.old) (K.held_bytes sink.new) (block.old ++ head_bytes from) block.new) }
-    ensures prefix { OnErr result (AppendsPart (K.held_bytes sink.old) (K.held_bytes sink.new) (block.old ++ head_bytes from)) }
-    ensures cause { HasCause (K.faults sink.old) (K.faults sink.new) result }
+    ensures { Puts K.Sink (head_bytes from) sink.old sink.new block.old block.new result }
 {
     let [a, b, c, d] = from.units().to_be_bytes();
     block.put(
@@ -57,9 +56,7 @@ fn put_head<K: Sink>(from: Lsn, block: &mut OutputBlock, sink: &mut K) -> Result
 
 /// Puts a count.
 fn put_number<K: Sink>(count: u32, block: &mut OutputBlock, sink: &mut K) -> Result<(), WriteFault>
-    ensures all { OnOk result (AppendsBut (K.held_bytes sink.old) (K.held_bytes sink.new) (block.old ++ to_be_bytes w32 count) block.new) }
-    ensures prefix { OnErr result (AppendsPart (K.held_bytes sink.old) (K.held_bytes sink.new) (block.old ++ to_be_bytes w32 count)) }
-    ensures cause { HasCause (K.faults sink.old) (K.faults sink.new) result }
+    ensures { Puts K.Sink (to_be_bytes w32 count) sink.old sink.new block.old block.new result }
 {
     block.put(sink, &count.to_be_bytes())
 }
@@ -71,11 +68,7 @@ fn put_counted<K: Sink>(
     sink: &mut K,
 ) -> Result<(), WriteFault>
     requires { length units.now < 2 ^ 32 }
-    ensures all { OnOk result (AppendsBut (K.held_bytes sink.old) (K.held_bytes sink.new)
-        (block.old ++ counted_bytes (length units.now) units.now) block.new) }
-    ensures prefix { OnErr result (AppendsPart (K.held_bytes sink.old) (K.held_bytes sink.new)
-        (block.old ++ counted_bytes (length units.now) units.now)) }
-    ensures cause { HasCause (K.faults sink.old) (K.faults sink.new) result }
+    ensures { Puts K.Sink (counted_bytes (length units.now) units.now) sink.old sink.new block.old block.new result }
 {
     put_number(units.len() as u32, block, sink)?;
     put_units(units, block, sink)
@@ -87,11 +80,7 @@ fn put_units<K: Sink>(
     block: &mut OutputBlock,
     sink: &mut K,
 ) -> Result<(), WriteFault>
-    ensures all { OnOk result (AppendsBut (K.held_bytes sink.old) (K.held_bytes sink.new)
-        (block.old ++ flat_map unit_bytes units.now) block.new) }
-    ensures prefix { OnErr result (AppendsPart (K.held_bytes sink.old) (K.held_bytes sink.new)
-        (block.old ++ flat_map unit_bytes units.now)) }
-    ensures cause { HasCause (K.faults sink.old) (K.faults sink.new) result }
+    ensures { Puts K.Sink (flat_map unit_bytes units.now) sink.old sink.new block.old block.new result }
 {
     'units: for unit in units {
         block.put(sink, &bytes_of(*unit))?;

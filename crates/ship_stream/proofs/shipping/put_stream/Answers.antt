@@ -4,7 +4,8 @@ use Rattle.std.proofs.lemmas.Result.{err_from_is_err_and, on_ok_weaker, on_err_w
 use Rattle.log_disk.specs.Streams.{AppendsPart, AppendsBut}
 use Rattle.log_disk.proofs.Blocks.{AppendsBut-all, AppendsBut-cut, AppendsPart-first}
 use Rattle.ship_stream.specs.Stream.{head_bytes, end_bytes}
-use Rattle.ship_stream.proofs.ShippingLemmas.{cause-since, shipping-none, shipping-more, shipping-cut, shipping-end, shipping-end_cut}
+use Rattle.ship_stream.proofs.PuttingLemmas.{cause-since}
+use Rattle.ship_stream.proofs.ShippingLemmas.{shipping-none, shipping-more, shipping-cut, shipping-end, shipping-end_cut}
 use Rattle.ship_stream.proofs.shipping.put_stream.Goals as goal
 
 pub returns-in_err-put_head-clause-prefix : goal.returns-in_err-put_head-clause-prefix
