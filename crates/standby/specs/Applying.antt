@@ -35,8 +35,8 @@ pub record HoldsFront (list : OpenedList) (frames : List (List Rec)) (bytes : Li
   pub whole : frames ≡ front ++ rest
   pub holds : HoldsLawful bytes (with_frames list front)
 
--- Only these frames came to the disk, each as one batch: at every moment each image holds the list with a front of them. At most 4 calls
--- were made for each, and the file ends at most behind them and the next gate, where it wasn't longer before.
+-- Only these frames came to the disk, each as one batch: at every moment each image holds the list with a front of them. At most 4
+-- calls were made for each, and the file ends at most behind them and the next gate, where it wasn't longer before.
 pub record Wrote {D : Type 0} (g : Ghosts D) (base : Base D) (frames : List (List Rec)) (disk : D) : Type 0 where
   pub moments : g.honest base.disk → Leaves g.moment g.images_since (HoldsFront base.list frames) base.disk disk
   pub count : g.honest base.disk → Costs g (4 * length frames) (4 * length frames) base.disk disk

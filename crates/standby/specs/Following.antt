@@ -47,6 +47,14 @@ pub record Follows {D : Type 0} (g : Ghosts D) (base : Base D) (fed : List ℕ) 
   pub goes_on : GoesOn base.list came
   pub applied : HasApplied g base (whole_frames came) s.judge s.tail s.disk.now
 
+-- from some beginning it follows the bytes of a stream
+abbrev pub IsFollowing : {D : Type 0} → Ghosts D → Standby D → Type 0
+IsFollowing {D} g s = (base : Base D) × (fed : List ℕ) × Follows g base fed s
+
+-- its disk is the same
+abbrev pub KeepsDisk : {D : Type 0} → Standby D → Standby D → Type 0
+KeepsDisk old new = new.disk.ghost_name ≡ old.disk.ghost_name
+
 -- The reader holds this frame, the last of the whole ones that have come. Those before it were judged and applied.
 pub record HasFrame {D : Type 0} (g : Ghosts D) (base : Base D) (fed : List ℕ) (frames : List (List Rec)) (records : List Rec)
     (s : Standby D)
@@ -80,8 +88,8 @@ IsReason list fed frames cut DiskFault = (frame : List Rec) × (rest : List ℕ)
     × HasFrames fed (list_end list) (frames ++ cut) rest
 IsReason list fed frames cut NoMemory = cut ≡ []
 
--- At the fault the frames before were applied, and stay. Each image holds them, and one that the disk failed to take whole or not at all.
--- One fault is counted where the disk failed, and else none.
+-- At the fault the frames before were applied, and stay. Each image holds them, and one that the disk failed to take whole or not at
+-- all. One fault is counted where the disk failed, and else none.
 pub record Stops {D : Type 0} (g : Ghosts D) (base : Base D) (fed : List ℕ) (fault : StandbyFault) (disk : D) : Type 0 where
   pub frames : List (List Rec)
   pub cut : List (List Rec)
@@ -90,6 +98,10 @@ pub record Stops {D : Type 0} (g : Ghosts D) (base : Base D) (fed : List ℕ) (f
   pub images : g.honest base.disk → (c : List ℕ) → g.images disk c → HoldsFront (with_frames base.list frames) cut c
   pub wrote : Wrote g base (frames ++ cut) disk
   pub faults : CountsWhere (fault ≡ DiskFault) (g.faults base.disk) (g.faults disk)
+
+-- it stops where these bytes come behind those that it followed
+abbrev pub StopsBehind : {D : Type 0} → Ghosts D → Standby D → List ℕ → StandbyFault → D → Type 0
+StopsBehind {D} g s bytes fault disk = (base : Base D) (fed : List ℕ) → Follows g base fed s → Stops g base (fed ++ bytes) fault disk
 
 -- the stream has ended here: each of its frames was applied, and the judge has the accounts of the whole list
 pub record HasFollowed {D : Type 0} (g : Ghosts D) (base : Base D) (fed : List ℕ) (lsn : ℕ) (s : Standby D) : Type 0 where

@@ -18,8 +18,8 @@ use Rattle.standby.specs.declared.fault.StandbyFault.TheVariants.{BadStream, Gap
 abbrev pub HasTakenList : OpenedList → Judge → Type 0
 HasTakenList list judge = HasJudged (opening_of list.opening) judge (placed list)
 
--- Why the records of a frame behind the list aren't taken: one of them is the first that fails a test. Want of memory says nothing of them,
--- and the other faults have other causes.
+-- Why the records of a frame behind the list aren't taken: one of them is the first that fails a test. Want of memory says nothing of
+-- them, and the other faults have other causes.
 abbrev pub IsFrameFault : OpenedList → List Rec → StandbyFault → Type 0
 IsFrameFault list records (StreamUnlawful lsn why) = IsUnlawfulAt (opening_before list) (placed (with_records list records)) lsn why
 IsFrameFault list records NoMemory = Unit {0}

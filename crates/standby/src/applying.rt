@@ -3,7 +3,7 @@
 ghost use Rattle.std.specs.Prelude.{◌≡◌, List, ℕ, OnOk, IfErr};
 ghost use Rattle.log_record.specs.declared.rec.Rec.{Rec};
 ghost use Rattle.standby.specs.Applying.{Base};
-ghost use Rattle.standby.specs.Following.{HasFrame, Follows, Stops};
+ghost use Rattle.standby.specs.Following.{HasFrame, Follows, KeepsDisk, Stops};
 
 use crate::fault::StandbyFault;
 use crate::judging::judge_frame;
@@ -20,7 +20,7 @@ impl<'a, D: LogDisk> Standby<'a, D> {
             → HasFrame D.LogDisk base fed frames records self.old → Follows D.LogDisk base fed self.new) }
         ensures fault { IfErr result (λ fault. (base : Base D) (fed : List ℕ) (frames : List (List Rec)) (records : List Rec)
             → HasFrame D.LogDisk base fed frames records self.old → Stops D.LogDisk base fed fault self.new.disk.now) }
-        ensures same { self.new.disk.ghost_name ≡ self.old.disk.ghost_name }
+        ensures same { KeepsDisk self.old self.new }
     {
         if let Err(fault) = judge_frame(&mut self.judge, self.tail.next, &self.reader.batch) {
             return Err(fault);

@@ -3,7 +3,7 @@
 ghost use Rattle.std.specs.Prelude.{◌≡◌, ◌≢◌, ◌<◌, ◌≤◌, ◌++◌, List, ℕ, length, take, IfOk, IfErr, IfSome, IfNone};
 ghost use Rattle.log_disk.specs.Disk.{Leaves};
 ghost use Rattle.standby.specs.Applying.{Base};
-ghost use Rattle.standby.specs.Following.{Follows, Stops, TellsEnd, HoldsFollowed};
+ghost use Rattle.standby.specs.Following.{Follows, HoldsFollowed, IsFollowing, KeepsDisk, StopsBehind, TellsEnd};
 
 use crate::fault::StandbyFault;
 use crate::standby::{Fed, Standby};
@@ -12,19 +12,18 @@ use lsn_space::Lsn;
 use stream_reader::Part;
 
 impl<'a, D: LogDisk> Standby<'a, D> {
-    /// Takes the next bytes of the stream, which may be none. Each frame that is whole now is judged and then appended as one batch. After
-    /// a fault the standby is spent.
+    /// Takes the next bytes of the stream, which may be none. Each frame that is whole now is judged and then appended as one batch.
+    /// After a fault the standby is spent.
     pub fn feed(&mut self, bytes: &[u8]) -> Result<Fed, StandbyFault>
-        requires ready { (base : Base D) × (fed : List ℕ) × Follows D.LogDisk base fed self.old }
+        requires ready { IsFollowing D.LogDisk self.old }
         ensures follows { IfOk result (λ _. (base : Base D) (fed : List ℕ) → Follows D.LogDisk base fed self.old
             → Follows D.LogDisk base (fed ++ bytes.now) self.new) }
         ensures ended { IfOk result (λ answer. (base : Base D) (fed : List ℕ) → Follows D.LogDisk base fed self.old
             → TellsEnd (fed ++ bytes.now) answer) }
-        ensures stops { IfErr result (λ fault. (base : Base D) (fed : List ℕ) → Follows D.LogDisk base fed self.old
-            → Stops D.LogDisk base (fed ++ bytes.now) fault self.new.disk.now) }
+        ensures stops { IfErr result (λ fault. StopsBehind D.LogDisk self.old bytes.now fault self.new.disk.now) }
         ensures images { (base : Base D) (fed : List ℕ) → Follows D.LogDisk base fed self.old → D.honest base.disk
             → Leaves D.moment D.images_since (HoldsFollowed base.list (fed ++ bytes.now)) base.disk self.new.disk.now }
-        ensures same { self.new.disk.ghost_name ≡ self.old.disk.ghost_name }
+        ensures same { KeepsDisk self.old self.new }
     {
         let mut rest = bytes;
         'parts: while !rest.is_empty() {
@@ -36,17 +35,17 @@ impl<'a, D: LogDisk> Standby<'a, D> {
         Ok(self.progress())
     }
 
-    /// Takes bytes up to the end of a part, or all of them where they end before it, and answers how many. What is whole now is acted on.
+    /// Takes bytes up to the end of a part, or all of them where they end before it, and answers how many. What is whole now is acted
+    /// on.
     fn take_part(&mut self, bytes: &[u8]) -> Result<usize, StandbyFault>
-        requires ready { (base : Base D) × (fed : List ℕ) × Follows D.LogDisk base fed self.old }
+        requires ready { IsFollowing D.LogDisk self.old }
         requires some { 0 < length bytes.now }
         ensures some { IfOk result (λ used. 0 < used) }
         ensures within { IfOk result (λ used. used ≤ length bytes.now) }
         ensures follows { IfOk result (λ used. (base : Base D) (fed : List ℕ) → Follows D.LogDisk base fed self.old
             → Follows D.LogDisk base (fed ++ take used bytes.now) self.new) }
-        ensures stops { IfErr result (λ fault. (base : Base D) (fed : List ℕ) → Follows D.LogDisk base fed self.old
-            → Stops D.LogDisk base (fed ++ bytes.now) fault self.new.disk.now) }
-        ensures same { self.new.disk.ghost_name ≡ self.old.disk.ghost_name }
+        ensures stops { IfErr result (λ fault. StopsBehind D.LogDisk self.old bytes.now fault self.new.disk.now) }
+        ensures same { KeepsDisk self.old self.new }
     {
         let (used, part) = match self.reader.take(bytes) {
             Ok(taken) => taken,

@@ -20,8 +20,8 @@ pub(crate) fn judge_frame(judge: &mut Judge, from: Lsn, batch: &Batch) -> Result
     requires fits { from + length batch.now.units ≤ LAST }
     ensures taken { OnOk result ((list : OpenedList) (records : List Rec) → HasTakenList list judge.old → from ≡ list_end list
         → AreUnitsOf batch.now.units records → HasTakenList (with_records list records) judge.new) }
-    ensures fault { IfErr result (λ fault. (list : OpenedList) (records : List Rec) → HasTakenList list judge.old → from ≡ list_end list
-        → AreUnitsOf batch.now.units records → IsFrameFault list records fault) }
+    ensures fault { IfErr result (λ fault. (list : OpenedList) (records : List Rec) → HasTakenList list judge.old
+        → from ≡ list_end list → AreUnitsOf batch.now.units records → IsFrameFault list records fault) }
 {
     let mut at = 0;
     'records: while at < batch.count() {

@@ -1,5 +1,5 @@
-//! A standby: a log that follows the stream of another. Each frame of the stream is appended as one batch, once it is whole and each of its
-//! records was judged lawful.
+//! A standby: a log that follows the stream of another. Each frame of the stream is appended as one batch, once it is whole and each
+//! of its records was judged lawful.
 #![tactic(auto)]
 
 mod applying;

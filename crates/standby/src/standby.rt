@@ -1,3 +1,5 @@
+//! A standby, and how it begins.
+
 ghost use Rattle.std.specs.Prelude.{◌≡◌, [], IfOk, MatchResult};
 ghost use Rattle.log_recovery.specs.Opened.{OpenedList};
 ghost use Rattle.standby.specs.Keeping.{KeepsList};
@@ -35,8 +37,8 @@ pub struct Unmade<'a, D> {
 }
 
 impl<'a, D: LogDisk> Standby<'a, D> {
-    /// A standby that no byte has come to. The tail is as `settle` or `append` leaves it, and the judge has taken the list that each image
-    /// holds. It asks for room for the longest frame.
+    /// A standby that no byte has come to. The tail is as `settle` or `append` leaves it, and the judge has taken the list that each
+    /// image holds. It asks for room for the longest frame.
     pub fn make(
         alloc: Global,
         disk: &'a mut D,
