@@ -1,1 +1,2 @@
 pub mod NotedJobs
+pub mod Tables

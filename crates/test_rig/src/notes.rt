@@ -4,6 +4,7 @@ ghost use Rattle.log_record.specs.Spelling.{IsTxn};
 ghost use Rattle.log_table.specs.Seats.{IsOf, view_of};
 ghost use Rattle.ring_buffer.specs.Calls.{HasReserved};
 ghost use Rattle.test_rig.specs.NotedJobs.{AreNoteUnits, IsNotedJob, MayInsert};
+ghost use Rattle.test_rig.specs.Tables.{KeepsStanding};
 
 use lock_core::{Job, Legs, Remark};
 use log_record::{Rec, Text, Units, spell};
@@ -73,7 +74,7 @@ pub fn insert_note<G: Gate>(
     requires accounts { table.now.accounts ≡ 2 }
     requires job { IsNotedJob job.now }
     ensures worker { MayInsert table.now (number + 1) seat.new }
-    ensures standing { (view_of seat.new).standing ≡ (view_of seat.old).standing }
+    ensures standing { KeepsStanding seat.old seat.new }
 {
     table.take_job(seat, number, job);
     gate.at(seat.worker(), Place::JobTaken);
@@ -95,7 +96,7 @@ pub fn insert_all(
     requires accounts { table.now.accounts ≡ 2 }
     requires job { IsNotedJob job.now }
     ensures worker { MayInsert table.now (first + times) seat.new }
-    ensures standing { (view_of seat.new).standing ≡ (view_of seat.old).standing }
+    ensures standing { KeepsStanding seat.old seat.new }
     ensures count { result.0 ≤ times }
 {
     let mut done = 0;

@@ -3,6 +3,7 @@ ghost use Rattle.std.specs.Prelude.{◌≡◌, [], IfOk};
 ghost use Rattle.log_rule.specs.declared.view.Role.TheVariants.{Flusher};
 ghost use Rattle.log_table.specs.Seats.{IsOf, view_of};
 ghost use Rattle.log_rule.specs.Views.{sent_to};
+ghost use Rattle.test_rig.specs.Tables.{SendsAll};
 
 use log_table::{LogTable, Seat};
 use lsn_space::Lsn;
@@ -20,11 +21,7 @@ pub fn send_all(
     requires flusher { (view_of boss.old).standing.role ≡ Flusher }
     requires rests { (view_of boss.old).sending.read ≡ [] }
     requires from { sent_to (view_of boss.old) ≡ from }
-    ensures boss { IfOk result (λ sent. IsOf table.now boss.new) }
-    ensures standing { IfOk result (λ sent. (view_of boss.new).standing ≡ (view_of boss.old).standing) }
-    ensures entries { IfOk result (λ sent. (view_of boss.new).entries ≡ (view_of boss.old).entries) }
-    ensures rests { IfOk result (λ sent. (view_of boss.new).sending.read ≡ []) }
-    ensures to { IfOk result (λ sent. sent_to (view_of boss.new) ≡ sent.1) }
+    ensures { IfOk result (λ sent. SendsAll table.now sent.1 boss.old boss.new) }
 {
     let to = table.load_exposed(boss);
     let mut units = Vec::new(alloc);

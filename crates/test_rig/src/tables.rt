@@ -5,8 +5,8 @@ ghost use Rattle.log_record.specs.Spelling.{IsTxn};
 ghost use Rattle.lock_core.specs.Transfers.{IsAllowedJob};
 ghost use Rattle.log_rule.specs.declared.layout.TheConstants.{MOST_SLOTS};
 ghost use Rattle.log_table.specs.Hiring.{HasHired};
-ghost use Rattle.log_table.specs.Seats.{view_of, key_of};
 ghost use Rattle.test_rig.specs.NotedJobs.{IsNew, MayInsert};
+ghost use Rattle.test_rig.specs.Tables.{AreBalances, IsTableOf};
 
 use lock_core::{Job, Legs};
 use log_table::{LogTable, Seat, Start};
@@ -16,13 +16,8 @@ use std::alloc::Global;
 /// A table of two accounts with these balances, over a log that ends here, and the flusher's seat. The
 /// ring has 1024 units, and there are no slots.
 pub fn table_of(alloc: Global, balances: (u32, u32), end: u32) -> Result<(LogTable, Seat), NoMemory>
-    requires balances { (balances.0 ≤ MOST_BALANCE) × (balances.1 ≤ MOST_BALANCE) }
-    ensures boss { IfOk result (λ made. HasHired made.0 0 made.1) }
-    ensures ring { IfOk result (λ made. made.0.ring ≡ 1024) }
-    ensures slots { IfOk result (λ made. made.0.slots ≡ 0) }
-    ensures accounts { IfOk result (λ made. made.0.accounts ≡ 2) }
-    ensures start { IfOk result (λ made. (key_of made.0).start ≡ end) }
-    ensures rows { IfOk result (λ made. (key_of made.0).accounts.rows ≡ (balances.0, 0) ∷ (balances.1, 0) ∷ []) }
+    requires balances { AreBalances balances }
+    ensures { IfOk result (λ made. IsTableOf balances end 0 made.0 made.1) }
 {
     table_with_slots(alloc, balances, end, 0)
 }
@@ -34,14 +29,9 @@ pub fn table_with_slots(
     end: u32,
     slots: u32,
 ) -> Result<(LogTable, Seat), NoMemory>
-    requires balances { (balances.0 ≤ MOST_BALANCE) × (balances.1 ≤ MOST_BALANCE) }
+    requires balances { AreBalances balances }
     requires slots { slots ≤ MOST_SLOTS }
-    ensures boss { IfOk result (λ made. HasHired made.0 0 made.1) }
-    ensures ring { IfOk result (λ made. made.0.ring ≡ 1024) }
-    ensures slots { IfOk result (λ made. made.0.slots ≡ slots) }
-    ensures accounts { IfOk result (λ made. made.0.accounts ≡ 2) }
-    ensures start { IfOk result (λ made. (key_of made.0).start ≡ end) }
-    ensures rows { IfOk result (λ made. (key_of made.0).accounts.rows ≡ (balances.0, 0) ∷ (balances.1, 0) ∷ []) }
+    ensures { IfOk result (λ made. IsTableOf balances end slots made.0 made.1) }
 {
     let mut accounts = Balances::make(alloc, 2)?;
     accounts.push(balances.0, 0);
