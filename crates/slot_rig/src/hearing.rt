@@ -1,8 +1,8 @@
 //! A member hears what became of its group, and fills its piece.
 ghost use Rattle.std.specs.Prelude.{◌≡◌, ◌+◌, ◌≤◌, [], length, IfSome};
 ghost use Rattle.lsn_space.specs.declared.lsn.TheConstants.{LAST};
-ghost use Rattle.log_rule.specs.declared.group_view.MemberStep.TheVariants.{Waits, Fills, Leaves};
-ghost use Rattle.slot_rig.specs.Shares.{IsMember};
+ghost use Rattle.log_rule.specs.declared.group_view.MemberStep.TheVariants.{Fills, Leaves};
+ghost use Rattle.slot_rig.specs.Shares.{Awaits, HasFilled, IsMember};
 
 use crate::share::{Refusal, Share};
 use log_table::{LogTable, Seat};
@@ -11,7 +11,7 @@ use slot_word::Phase;
 
 /// Hears where the range of the seat's group begins. None: the group isn't told, or was refused.
 pub fn hear(table: &LogTable, seat: &mut Seat, share: &Share) -> Option<Lsn>
-    requires waits { IsMember table.now share.now Waits seat.old }
+    requires waits { Awaits table.now share.now seat.old }
     ensures heard { IfSome result (λ base. IsMember table.now share.now (Fills base []) seat.new) }
 {
     match table.load_slot(seat, share.slot).phase() {
@@ -23,7 +23,7 @@ pub fn hear(table: &LogTable, seat: &mut Seat, share: &Share) -> Option<Lsn>
 
 /// Hears by which tail and which durable the seat's group was refused. None: it isn't told, or has its range.
 pub fn hear_refusal(table: &LogTable, seat: &mut Seat, share: &Share) -> Option<Refusal>
-    requires waits { IsMember table.now share.now Waits seat.old }
+    requires waits { Awaits table.now share.now seat.old }
     ensures heard { IfSome result (λ refusal. IsMember table.now share.now (Leaves refusal.tail refusal.durable) seat.new) }
 {
     match table.load_slot(seat, share.slot).phase() {
@@ -41,7 +41,7 @@ pub fn hear_refusal(table: &LogTable, seat: &mut Seat, share: &Share) -> Option<
 /// no LSN.
 pub fn fill_piece(table: &LogTable, seat: &mut Seat, share: &Share, base: Lsn) -> Option<Lsn>
     requires heard { IsMember table.now share.now (Fills base []) seat.old }
-    ensures filled { IfSome result (λ end. IsMember table.now share.now (Fills base share.now.units) seat.new) }
+    ensures filled { IfSome result (λ end. HasFilled table.now share.now base seat.new) }
     ensures end { IfSome result (λ end. end ≡ base + share.now.offset + length share.now.units) }
 {
     let list = share.units.as_slice();

@@ -1,8 +1,8 @@
 //! The leader of a group closes it, reserves for it and tells it, or refuses it.
 ghost use Rattle.std.specs.Prelude.{◌≡◌, ◌^◌, ◌<◌, IfSome};
-ghost use Rattle.log_rule.specs.declared.group_view.MemberStep.TheVariants.{Closes, Waits, Stores, Tells};
+ghost use Rattle.log_rule.specs.declared.group_view.MemberStep.TheVariants.{Stores, Tells};
 ghost use Rattle.log_rule.specs.Groups.{Granted, Refused};
-ghost use Rattle.slot_rig.specs.Shares.{IsMember, IsPlacing};
+ghost use Rattle.slot_rig.specs.Shares.{Awaits, IsMember, IsPlacing, Leads};
 
 use crate::share::{Refusal, Share};
 use log_table::{LogTable, Seat};
@@ -19,7 +19,7 @@ pub struct GroupRange {
 
 /// Closes the group that the seat leads. Answers its total.
 pub fn close(table: &LogTable, seat: &mut Seat, share: &Share) -> u32
-    requires leads { IsMember table.now share.now Closes seat.old }
+    requires leads { Leads table.now share.now seat.old }
     ensures closed { IsPlacing table.now share.now result seat.new }
 {
     table.close_slot(seat, share.slot).total()
@@ -54,7 +54,7 @@ fn store(table: &LogTable, seat: &mut Seat, share: &Share, range: &GroupRange)
 /// Tells the members that the group has its range.
 fn tell(table: &LogTable, seat: &mut Seat, share: &Share, range: &GroupRange)
     requires stored { IsMember table.now share.now (Tells range.now.total (Granted range.now.base)) seat.old }
-    ensures told { IsMember table.now share.now Waits seat.new }
+    ensures told { Awaits table.now share.now seat.new }
 {
     let told = SlotWord::published(range.total, range.total);
     table.publish(seat, share.slot, told);
@@ -63,8 +63,8 @@ fn tell(table: &LogTable, seat: &mut Seat, share: &Share, range: &GroupRange)
 /// Closes the group that the seat leads, reserves for it, and tells it. None: it has no room, or another worker
 /// was faster.
 pub fn lead(table: &LogTable, seat: &mut Seat, share: &Share) -> Option<GroupRange>
-    requires leads { IsMember table.now share.now Closes seat.old }
-    ensures told { IfSome result (λ range. IsMember table.now share.now Waits seat.new) }
+    requires leads { Leads table.now share.now seat.old }
+    ensures told { IfSome result (λ range. Awaits table.now share.now seat.new) }
 {
     let total = close(table, seat, share);
     let range = place(table, seat, share, total)?;
@@ -76,7 +76,8 @@ pub fn lead(table: &LogTable, seat: &mut Seat, share: &Share) -> Option<GroupRan
 /// Refuses the group that the seat has closed, by tail and durable as they are now. None: it has room.
 fn refuse(table: &LogTable, seat: &mut Seat, share: &Share, total: u32) -> Option<Refusal>
     requires closed { IsPlacing table.now share.now total seat.old }
-    ensures stored { IfSome result (λ refusal. IsMember table.now share.now (Tells total (Refused refusal.tail refusal.durable)) seat.new) }
+    ensures stored { IfSome result (λ refusal.
+        IsMember table.now share.now (Tells total (Refused refusal.tail refusal.durable)) seat.new) }
 {
     let tail = table.load_tail(seat);
     let durable = table.load_durable(seat);
@@ -91,8 +92,8 @@ fn refuse(table: &LogTable, seat: &mut Seat, share: &Share, total: u32) -> Optio
 
 /// Closes the group that the seat leads, for which the ring has no room, and tells it so. None: it has room.
 pub fn lead_without_room(table: &LogTable, seat: &mut Seat, share: &Share) -> Option<Refusal>
-    requires leads { IsMember table.now share.now Closes seat.old }
-    ensures told { IfSome result (λ refusal. IsMember table.now share.now Waits seat.new) }
+    requires leads { Leads table.now share.now seat.old }
+    ensures told { IfSome result (λ refusal. Awaits table.now share.now seat.new) }
 {
     let wanted = close(table, seat, share);
     let refusal = refuse(table, seat, share, wanted)?;

@@ -1,14 +1,13 @@
 //! Two workers of one group, from their joins to the end of the log.
 ghost use Rattle.std.specs.Prelude.{◌≡◌, ◌+◌, ◌≤◌, [], ◌∷◌, IfSome};
 ghost use Rattle.log_record.specs.Spelling.{IsTxn};
-ghost use Rattle.log_rule.specs.declared.group_view.MemberStep.TheVariants.{Closes, Waits};
 ghost use Rattle.log_rule.specs.declared.view.Call.TheVariants.{Idle};
 ghost use Rattle.log_rule.specs.declared.view.Role.TheVariants.{Flusher};
 ghost use Rattle.log_rule.specs.CrewViews.{merged_entries};
 ghost use Rattle.log_table.specs.Hiring.{HasHired};
 ghost use Rattle.log_rule.specs.May.{MayClose};
 ghost use Rattle.log_table.specs.Seats.{IsOf, view_of};
-ghost use Rattle.slot_rig.specs.Shares.{HasBoth, HasReleased, IsDone, IsMember};
+ghost use Rattle.slot_rig.specs.Shares.{ArePair, HasBoth, HasHiredBoth, HasReleased, IsDone};
 
 use crate::joining::{join_for_note, joiner};
 use crate::share::Share;
@@ -35,11 +34,7 @@ pub fn pair_of(table: &LogTable, boss: Seat, hired: u32, number: u32) -> Option<
     requires numbers { (IsTxn number) × (IsTxn (number + 1)) }
     requires slots { table.now.slots ≡ 1 }
     requires accounts { table.now.accounts ≡ 2 }
-    ensures boss { IfSome result (λ pair. HasHired table.now (hired + 2) pair.boss) }
-    ensures one { IfSome result (λ pair. IsMember table.now pair.ours Closes pair.one) }
-    ensures two { IfSome result (λ pair. IsMember table.now pair.theirs Waits pair.two) }
-    ensures workers { IfSome result (λ pair. (pair.ours.worker ≡ hired) × (pair.theirs.worker ≡ hired + 1)) }
-    ensures offsets { IfSome result (λ pair. (pair.ours.offset ≡ 0) × (pair.theirs.offset ≡ 2)) }
+    ensures { IfSome result (λ pair. ArePair table.now hired pair.boss pair.one pair.two pair.ours pair.theirs) }
 {
     let mut boss = boss;
     let mut one = joiner(table, &mut boss, hired, number);
@@ -75,15 +70,13 @@ pub fn pair_of(table: &LogTable, boss: Seat, hired: u32, number: u32) -> Option<
 
 /// The two workers that were hired leave, and the flusher's seat takes them in.
 fn take_in(table: &LogTable, boss: &mut Seat, one: Seat, two: Seat)
-    requires boss { IsOf table.now boss.old }
-    requires flusher { (view_of boss.old).standing.role ≡ Flusher }
-    requires made { (view_of boss.old).standing.made ≡ 1 ∷ 0 ∷ [] }
-    requires merged { (view_of boss.old).standing.merged ≡ [] }
+    requires boss { HasHiredBoth table.now boss.old }
     requires one { IsDone table.now 0 one }
     requires two { IsDone table.now 1 two }
     ensures boss { IsOf table.now boss.new }
     ensures may { MayClose (view_of boss.new) }
-    ensures gathered { (view_of boss.new).entries ≡ merged_entries (merged_entries (view_of boss.old).entries (view_of one).entries) (view_of two).entries }
+    ensures gathered { (view_of boss.new).entries
+        ≡ merged_entries (merged_entries (view_of boss.old).entries (view_of one).entries) (view_of two).entries }
 {
     let (mut first, mut second) = (one, two);
     table.leave(&mut first);

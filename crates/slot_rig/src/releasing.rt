@@ -1,9 +1,9 @@
 //! A member releases its piece. The last one marks the group's range, exposes it and opens the slot again.
 ghost use Rattle.std.specs.Prelude.{◌≡◌, ◌≢◌, length, IfSome};
 ghost use Rattle.log_rule.specs.declared.group_view.After.TheVariants.{Reopens};
-ghost use Rattle.log_rule.specs.declared.group_view.MemberStep.TheVariants.{Fills, Leaves};
-ghost use Rattle.log_rule.specs.declared.view.Call.TheVariants.{Idle, Emptying, Marked, Reopening};
-ghost use Rattle.slot_rig.specs.Shares.{HasLeft, HasReleased, IsMember};
+ghost use Rattle.log_rule.specs.declared.group_view.MemberStep.TheVariants.{Leaves};
+ghost use Rattle.log_rule.specs.declared.view.Call.TheVariants.{Idle, Marked, Reopening};
+ghost use Rattle.slot_rig.specs.Shares.{Empties, HasFilled, HasLeft, HasReleased, IsMember};
 
 use crate::share::{Refusal, Share};
 use log_table::{LogTable, Seat};
@@ -20,8 +20,8 @@ pub struct Left {
 
 /// Releases the seat's piece, which is filled. Answers the slot's state before.
 fn release(table: &LogTable, seat: &mut Seat, share: &Share, base: Lsn) -> SlotWord
-    requires filled { IsMember table.now share.now (Fills base share.now.units) seat.old }
-    ensures last { result.remaining ≡ length share.now.units → HasReleased table.now share.now base (Emptying share.now.slot base result.total) seat.new }
+    requires filled { HasFilled table.now share.now base seat.old }
+    ensures last { result.remaining ≡ length share.now.units → Empties table.now share.now base result.total seat.new }
     ensures others { result.remaining ≢ length share.now.units → HasReleased table.now share.now base Idle seat.new }
 {
     let n = share.units.as_slice().len() as u32;
@@ -36,7 +36,7 @@ fn mark_range(
     base: Lsn,
     total: u32,
 ) -> Option<Lsn>
-    requires emptying { HasReleased table.now share.now base (Emptying share.now.slot base total) seat.old }
+    requires emptying { Empties table.now share.now base total seat.old }
     ensures marked { IfSome result (λ end. HasReleased table.now share.now base (Marked (Reopens share.now.slot)) seat.new) }
 {
     let end = base.plus(total)?;
@@ -67,7 +67,7 @@ fn expose_range(table: &LogTable, seat: &mut Seat, share: &Share, base: Lsn) -> 
 
 /// Marks and exposes the group's range, and opens the slot again. Answers where exposed is then.
 fn empty(table: &LogTable, seat: &mut Seat, share: &Share, base: Lsn, total: u32) -> Option<Lsn>
-    requires emptying { HasReleased table.now share.now base (Emptying share.now.slot base total) seat.old }
+    requires emptying { Empties table.now share.now base total seat.old }
     ensures opened { IfSome result (λ at. HasReleased table.now share.now base Idle seat.new) }
 {
     mark_range(table, seat, share, base, total)?;
@@ -79,7 +79,7 @@ fn empty(table: &LogTable, seat: &mut Seat, share: &Share, base: Lsn, total: u32
 /// Releases the seat's piece, which is filled, and empties the slot, if no more remained. None: the range could not be
 /// exposed.
 pub fn leave(table: &LogTable, seat: &mut Seat, share: &Share, base: Lsn) -> Option<Left>
-    requires filled { IsMember table.now share.now (Fills base share.now.units) seat.old }
+    requires filled { HasFilled table.now share.now base seat.old }
     ensures left { IfSome result (λ left. HasReleased table.now share.now base Idle seat.new) }
 {
     let n = share.units.as_slice().len() as u32;
