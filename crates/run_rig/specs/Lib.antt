@@ -1,1 +1,3 @@
+pub mod Disks
 pub mod Enlisted
+pub mod Queued

@@ -1,10 +1,8 @@
 //! Workers, each with a seat and rows of its own, and all of them in threads.
-ghost use Rattle.std.specs.Prelude.{◌≡◌, ◌≤◌, ◌<◌, ◌+◌, All, IfSome, OnSome};
-ghost use Rattle.std.specs.List.{AllByRecursion};
+ghost use Rattle.std.specs.Prelude.{◌≤◌, ◌<◌, IfSome, OnSome};
 ghost use Rattle.log_table.specs.Hiring.{HasHired};
-ghost use Rattle.lock_core.specs.Transfers.{IsAllowedJob};
 ghost use Rattle.job_queue.specs.Passes.{IsSameQueue, workers_of};
-ghost use Rattle.run_rig.specs.Enlisted.{HasEnlisted, IsHand};
+ghost use Rattle.run_rig.specs.Enlisted.{AllowsAll, AreHands, HasEnlisted, Hires, IsHand};
 
 use crate::workers::{enlisted, work_queue};
 use log_table::{LogTable, Seat};
@@ -36,10 +34,7 @@ fn hire(
     requires boss { HasHired table.now number boss.old }
     requires jobs { HasEnlisted number jobs.old }
     requires mark { number < workers_of jobs.old }
-    ensures boss { OnSome result (HasHired table.now (number + 1) boss.new) }
-    ensures jobs { OnSome result (HasEnlisted (number + 1) jobs.new) }
-    ensures same { OnSome result (IsSameQueue jobs.old jobs.new) }
-    ensures hand { IfSome result (IsHand table.now jobs.new.queue) }
+    ensures { IfSome result (Hires table.now number boss.new jobs.old jobs.new) }
 {
     let Ok(rows) = enlisted(alloc, jobs, number) else {
         return None;
@@ -61,7 +56,7 @@ pub fn hands(
     requires marks { count ≤ workers_of jobs.old }
     ensures boss { OnSome result (HasHired table.now count boss.new) }
     ensures same { OnSome result (IsSameQueue jobs.old jobs.new) }
-    ensures hands { IfSome result (λ hands. AllByRecursion (IsHand table.now jobs.new.queue) hands.items) }
+    ensures hands { IfSome result (λ hands. AreHands table.now jobs.new.queue hands.items) }
 {
     let mut hands = Vec::new(alloc);
     for number in 0..count {
@@ -74,7 +69,7 @@ pub fn hands(
 /// A worker's whole life: the transfers that it takes of the queue, and the end. Answers how many rows it has.
 fn live<R: Wait + Clock>(rt: &R, table: &LogTable, queue: &Queue, hand: Hand) -> usize
     requires hand { IsHand table.now queue.now hand }
-    requires allowed { All (IsAllowedJob table.now.accounts) queue.now.script }
+    requires allowed { AllowsAll table.now queue.now }
 {
     let Hand { mut seat, mut rows } = hand;
     let mut relief = YieldRelief::new(rt);
@@ -101,13 +96,13 @@ fn start_all<'a, R: Threads + Wait + Clock + Sync, E>(
     hands: Vec<Hand>,
     rows: &'a AtomicUsize,
 )
-    requires hands { AllByRecursion (IsHand table.now queue.now) hands.items }
-    requires allowed { All (IsAllowedJob table.now.accounts) queue.now.script }
+    requires hands { AreHands table.now queue.now hands.items }
+    requires allowed { AllowsAll table.now queue.now }
 {
     for hand in hands {
         let started = scope.spawn(
             move ||
-                requires { IsHand table.now queue.now hand × All (IsAllowedJob table.now.accounts) queue.now.script }
+                requires { IsHand table.now queue.now hand × AllowsAll table.now queue.now }
             {
                 rows.fetch_add(live(rt, table, queue, hand), Ordering::SeqCst);
             },
@@ -126,15 +121,15 @@ pub fn live_all<'a, R: Threads + Wait + Clock + Sync>(
     hands: Vec<Hand>,
     rows: &'a AtomicUsize,
 )
-    requires hands { AllByRecursion (IsHand table.now queue.now) hands.items }
-    requires allowed { All (IsAllowedJob table.now.accounts) queue.now.script }
+    requires hands { AreHands table.now queue.now hands.items }
+    requires allowed { AllowsAll table.now queue.now }
 {
     thread::scope(
         thread::scope_env(),
         rt,
         move |scope|
-            requires hands { AllByRecursion (IsHand table.now queue.now) hands.items }
-            requires allowed { All (IsAllowedJob table.now.accounts) queue.now.script }
+            requires hands { AreHands table.now queue.now hands.items }
+            requires allowed { AllowsAll table.now queue.now }
         { start_all(rt, scope, table, queue, hands, rows) },
     );
 }

@@ -1,11 +1,11 @@
 //! A flusher and a daemon over a disk without a log, on which the log of two accounts is made.
 ghost use Rattle.std.specs.Prelude.{◌≡◌, ℕ, true, length, IfOk, IfSome};
-ghost use Rattle.segment_file.specs.Standing.{IsStableGate};
 ghost use Rattle.log_table.specs.Hiring.{HasHired};
 ghost use Rattle.log_table.specs.Seats.{view_of, key_of};
 ghost use Rattle.log_rule.specs.Views.{knows_all_enrolled};
 ghost use Rattle.flusher.specs.Flushing.{MayFlush};
 ghost use Rattle.commit_pipeline.specs.Turning.{MayTurn};
+ghost use Rattle.run_rig.specs.Disks.{HasStableGate};
 
 use commit_pipeline::{Daemon, Voice};
 use flusher::Flusher;
@@ -45,7 +45,7 @@ pub fn flusher_on<'a, D: LogDisk>(
     requires boss { (n : ℕ) × HasHired table.now n seat }
     requires start { (key_of table.now).start ≡ 4 }
     requires ring { table.now.ring ≡ 1024 }
-    requires disk { D.honest disk.old → IsStableGate 0 (D.images disk.old) }
+    requires disk { HasStableGate D.LogDisk disk.old }
     ensures ready { IfSome result (MayFlush D.LogDisk) }
     ensures seat { IfSome result (λ flusher. flusher.seat ≡ seat) }
 {
@@ -70,7 +70,7 @@ pub fn daemon_on<'a, D: LogDisk>(
     requires boss { (n : ℕ) × HasHired table.now n seat }
     requires start { (key_of table.now).start ≡ 4 }
     requires ring { table.now.ring ≡ 1024 }
-    requires disk { D.honest disk.old → IsStableGate 0 (D.images disk.old) }
+    requires disk { HasStableGate D.LogDisk disk.old }
     ensures ready { IfSome result (MayTurn D.LogDisk) }
     ensures told { IfSome result (λ daemon. knows_all_enrolled (view_of daemon.flusher.seat).standing ≡ true) }
 {

@@ -12,10 +12,21 @@ work-requires-clause-worked g c =
     (HasWorked-none (jobs_of c.args.queue.now) (view_of c.args.seat.now) c.requires.unused.entries
     (ap (λ (books : Books). books.jobs) c.requires.unused.books))
 
-pub returns-clause-works : goal.returns-clause-works
-returns-clause-works g c = subst (λ before. Works (jobs_of c.args.queue.now) before (places_in c.work.new.rows)
-    c.args.wait c.work.result (view_of c.work.new.seat)) c.requires.rows.places c.work.ensures.works
-
-pub returns-clause-jobs : goal.returns-clause-jobs
-returns-clause-jobs g c = jobs-from_none (jobs_of c.args.queue.now) _ _ (view_of c.args.seat.now) (view_of c.work.new.seat)
-    c.requires.rows.places (ap (λ (books : Books). books.jobs) c.requires.unused.books) c.work.ensures.jobs
+pub returns : goal.returns
+returns g c =
+    let made = jobs_of c.args.queue.now in
+    let view = view_of c.work.new.seat in
+    let places = c.requires.rows.places in
+    let none_taken = ap (λ (books : Books). books.jobs) c.requires.unused.books in
+    record {
+      seat = c.work.ensures.seat;
+      ready = c.work.ensures.ready;
+      none_held = c.work.ensures.none_held;
+      standing = search rules;
+      pass = c.work.ensures.pass;
+      jobs = jobs-from_none made _ _ (view_of c.args.seat.now) view places none_taken c.work.ensures.jobs;
+      places = search rules;
+      works = subst (λ before. Works made before (places_in c.work.new.rows) c.args.wait c.work.result view) places c.work.ensures.works;
+      all = c.work.ensures.all;
+      relief = c.work.ensures.relief;
+    }
