@@ -4,6 +4,7 @@ use Rattle.std.specs.Io.KnownBytes.{Keeps}
 use Rattle.command_line.specs.CommandLine.{AreTaken, IsCommandLine}
 use Rattle.command_line.specs.declared.command.Command.{Command}
 use Rattle.command_line.specs.declared.command.Command.TheVariants.{New, Run, Recover, Dump, Demo, Cut, Upgrade, Ship, Follow, AsOf, Statement}
+use Rattle.command_line.specs.declared.options.RunOptions.{RunOptions}
 use Rattle.command_line.proofs.Asking.{asks-one}
 use Rattle.log_disk.proofs.Counting.{Costs-more, Costs-none}
 use Rattle.log_disk.specs.Costs.{Costs}
@@ -12,6 +13,7 @@ use Rattle.log_disk.specs.declared.source.Source.{Ghosts as SourceGhosts}
 use Rattle.log_disk.specs.declared.sink.Sink.{Ghosts as SinkGhosts}
 use Rattle.log_disk.proofs.Moments.{Leaves-refl}
 use Rattle.cli_shared.specs.Opening.{most_calls}
+use Rattle.cli_shared.specs.Outside.{OnlyReads, outside}
 use Rattle.cli_shared.specs.declared.report.Detail.{Detail}
 use Rattle.cli_shared.specs.declared.report.Detail.TheVariants.{NoMemory, Usage, Read, Write, Disk}
 use Rattle.cli_shared.specs.Answers.{StaysSilent}
@@ -22,13 +24,15 @@ use Rattle.cli_reports.specs.Reports.{IsAnswerOnAccount, IsAnswerAtLsn}
 use Rattle.cli_reports.proofs.ReportedLemmas.{read-whole, reported-none}
 use Rattle.cli_standby.specs.Following.{IsAnswerToFollow}
 use Rattle.cli_new.specs.Answers.{IsAnswerToNew}
+use Rattle.cli_new.specs.Command.{DoesNew}
 use Rattle.cli_cut.specs.Answers.{IsAnswerToCut}
+use Rattle.cli_cut.specs.Command.{DoesCut, DoesUpgrade}
 use Rattle.cli_run.specs.RunAnswers.{IsAnswerToRun}
 use Rattle.cli_demo.specs.Demo.{IsAnswerToDemo}
 use Rattle.cli_shared.specs.World.{TellsFaults, World}
 use Rattle.cli_world.specs.Alone.{AnsweredAlone, DoesAlone}
 use Rattle.cli_world.specs.declared.answer.Answer.TheVariants.{Done}
-use Rattle.cli_top.specs.Answered.{Answered, Does, Obeys}
+use Rattle.cli_top.specs.Answered.{Answered, Does, DoesDemo, Obeys}
 use Rattle.cli_top.specs.Asks.{AsksCut, AsksDemo, AsksFollow, AsksNew, AsksRun, AsksUpgrade}
 use Rattle.cli_top.proofs.DemoTold.{silent-told}
 
@@ -55,11 +59,16 @@ module _ {D S K : Type 0} (g : Ghosts D) (h : SourceGhosts S) (i : SinkGhosts K)
       → IfSome (h.left script) (λ bytes. Answers bytes (h.left script) (i.held_bytes out) (i.held_bytes out) NoMemory)
       → HasReported h i Answers IsAnswer script script out out NoMemory
   nothing-reported Answers IsAnswer script out range answer =
-      reported-none h i Answers IsAnswer script script out NoMemory range (read-whole _ _ NoMemory refl (λ tells. tells)) (kept-text _) (λ tells. tells) answer
+      reported-none h i Answers IsAnswer script script out NoMemory range (read-whole _ _ NoMemory refl (λ tells. tells)) (kept-text _)
+      (λ tells. tells) answer
 
-  -- a call that did nothing has done what a command without memory does
-  nothing-done : (old : World D S K) (command : Command) → Does g h i command old old NoMemory
-  nothing-done old (New log) = record {
+  -- the disk was not looked at, and nothing was written
+  nothing-read : (disk : D) (left text : Option (List ℕ)) → OnlyReads g (outside disk left text) (outside disk left text)
+  nothing-read disk left text =
+      record { silent = kept-text _; disk = record { images = Leaves-refl _ _ _ _; reads = refl; count = costs-looks disk } }
+
+  no-new : (old : World D S K) (log : List ℕ) → DoesNew g h i log old old NoMemory
+  no-new old log = record {
     answer = nothing-said _;
     silent = kept-text _;
     range = tt;
@@ -72,25 +81,9 @@ module _ {D S K : Type 0} (g : Ghosts D) (h : SourceGhosts S) (i : SinkGhosts K)
     attached = λ honest. inl refl;
     grows = λ honest. inl refl;
   }
-  nothing-done old (Run log options) = record {
-    answer = λ honest. record { silent = kept-text _; disk = record { images = Leaves-refl _ _ _ _; reads = refl; count = costs-looks old.disk } };
-    silent = kept-text _;
-    range = tt;
-    attached = λ honest. inl refl;
-  }
-  nothing-done old Recover = record { report = nothing-reported _ _ _ _ tt (nothing-said _); untouched = refl }
-  nothing-done old Dump = record { report = nothing-reported _ _ _ _ tt (nothing-said _); untouched = refl }
-  nothing-done old (Demo log n seed options) = record {
-    demonstrated = record {
-      answer = λ honest. record { images = Leaves-refl _ _ _ _; reads = refl; count = costs-looks old.disk };
-      text = kept-text _;
-      range = tt;
-      exists = λ honest. tt;
-      attached = λ honest. inl refl;
-    };
-    unread = refl;
-  }
-  nothing-done old (Cut log) = record {
+
+  no-cut : (old : World D S K) (log : List ℕ) → DoesCut g h i log old old NoMemory
+  no-cut old log = record {
     answer = nothing-said _;
     silent = kept-text _;
     range = tt;
@@ -103,7 +96,9 @@ module _ {D S K : Type 0} (g : Ghosts D) (h : SourceGhosts S) (i : SinkGhosts K)
     attached = λ honest. inl refl;
     grows = λ honest. inl refl;
   }
-  nothing-done old (Upgrade log) = record {
+
+  no-upgrade : (old : World D S K) (log : List ℕ) → DoesUpgrade g h i log old old NoMemory
+  no-upgrade old log = record {
     answer = nothing-said _;
     silent = kept-text _;
     range = tt;
@@ -116,15 +111,30 @@ module _ {D S K : Type 0} (g : Ghosts D) (h : SourceGhosts S) (i : SinkGhosts K)
     attached = λ honest. inl refl;
     grows = λ honest. inl refl;
   }
-  nothing-done old (Ship from) = record { report = nothing-reported _ _ _ _ tt (nothing-said _); untouched = refl }
-  nothing-done old (AsOf lsn) = record { report = nothing-reported _ _ _ _ tt (nothing-said _); untouched = refl }
-  nothing-done old (Statement account) = record { report = nothing-reported _ _ _ _ tt (nothing-said _); untouched = refl }
-  nothing-done old (Follow log) = record {
-    answer = λ honest. inl (record { silent = kept-text _; disk = record { images = Leaves-refl _ _ _ _; reads = refl; count = costs-looks old.disk } });
-    silent = kept-text _;
-    range = tt;
-    attached = λ honest. inl refl;
+
+  no-demo : (old : World D S K) (log : List ℕ) (n seed : ℕ) (options : RunOptions) → DoesDemo g i log n seed options old old NoMemory
+  no-demo old log n seed options = record {
+    demonstrated = record {
+      answer = λ honest. record { images = Leaves-refl _ _ _ _; reads = refl; count = costs-looks old.disk };
+      text = kept-text _;
+      range = tt;
+      exists = λ honest. tt;
+      attached = λ honest. inl refl;
+    };
+    unread = refl;
   }
+
+  -- a call that did nothing has done what a command without memory does
+  nothing-done : (old : World D S K) (command : Command) → Does g h i command old old NoMemory
+  nothing-done old (New log) = no-new old log
+  nothing-done old (Cut log) = no-cut old log
+  nothing-done old (Upgrade log) = no-upgrade old log
+  nothing-done old (Demo log n seed options) = no-demo old log n seed options
+  nothing-done old (Run log options) =
+      record { answer = λ honest. nothing-read _ _ _; silent = kept-text _; range = tt; attached = λ honest. inl refl }
+  nothing-done old (Follow log) =
+      record { answer = λ honest. inl (nothing-read _ _ _); silent = kept-text _; range = tt; attached = λ honest. inl refl }
+  nothing-done old command = record { report = nothing-reported _ _ _ _ tt (nothing-said _); untouched = refl }
 
   no-faults : (old : World D S K) (detail : Detail) → (IsFault detail → ⊥) → TellsFaults g h i old old detail
   no-faults old detail none = record {
@@ -147,57 +157,44 @@ module _ {D S K : Type 0} (g : Ghosts D) (h : SourceGhosts S) (i : SinkGhosts K)
   not-usage old new detail (AsOf lsn) done usage = subst IsAnswerAtLsn usage done.report.range
   not-usage old new detail (Statement account) done usage = subst IsAnswerOnAccount usage done.report.range
 
-  done-untouched : (words : List (List ℕ)) (old new : World D S K) (detail : Detail) (command : Command) → IsCommandLine words command
-      → Does g h i command old new detail → (AsksNew words → ⊥) → (AsksRun words → ⊥) → (AsksDemo words → ⊥) → (AsksCut words → ⊥)
-      → (AsksUpgrade words → ⊥) → (AsksFollow words → ⊥) → new.disk ≡ old.disk
-  done-untouched words old new detail (New log) asked done not_new not_run not_demo not_cut not_upgrade not_follow = absurd (not_new (log, asked))
-  done-untouched words old new detail (Run log options) asked done not_new not_run not_demo not_cut not_upgrade not_follow = absurd (not_run (log, options, asked))
-  done-untouched words old new detail Recover asked done not_new not_run not_demo not_cut not_upgrade not_follow = done.untouched
-  done-untouched words old new detail Dump asked done not_new not_run not_demo not_cut not_upgrade not_follow = done.untouched
-  done-untouched words old new detail (Demo log n seed options) asked done not_new not_run not_demo not_cut not_upgrade not_follow =
-      absurd (not_demo (log, n, seed, options, asked))
-  done-untouched words old new detail (Cut log) asked done not_new not_run not_demo not_cut not_upgrade not_follow = absurd (not_cut (log, asked))
-  done-untouched words old new detail (Upgrade log) asked done not_new not_run not_demo not_cut not_upgrade not_follow = absurd (not_upgrade (log, asked))
-  done-untouched words old new detail (Ship from) asked done not_new not_run not_demo not_cut not_upgrade not_follow = done.untouched
-  done-untouched words old new detail (Follow log) asked done not_new not_run not_demo not_cut not_upgrade not_follow = absurd (not_follow (log, asked))
-  done-untouched words old new detail (AsOf lsn) asked done not_new not_run not_demo not_cut not_upgrade not_follow = done.untouched
-  done-untouched words old new detail (Statement account) asked done not_new not_run not_demo not_cut not_upgrade not_follow = done.untouched
+  module _ (words : List (List ℕ)) (old new : World D S K) (detail : Detail) where
+    -- only the commands that work on the disk change it
+    done-untouched : (command : Command) → IsCommandLine words command → Does g h i command old new detail → (AsksNew words → ⊥)
+        → (AsksRun words → ⊥) → (AsksDemo words → ⊥) → (AsksCut words → ⊥) → (AsksUpgrade words → ⊥) → (AsksFollow words → ⊥)
+        → new.disk ≡ old.disk
+    done-untouched (New log) asked done making running demonstrating cutting upgrading following = absurd (making (log, asked))
+    done-untouched (Run log options) asked done making running demonstrating cutting upgrading following =
+        absurd (running (log, options, asked))
+    done-untouched (Demo log n seed options) asked done making running demonstrating cutting upgrading following =
+        absurd (demonstrating (log, n, seed, options, asked))
+    done-untouched (Cut log) asked done making running demonstrating cutting upgrading following = absurd (cutting (log, asked))
+    done-untouched (Upgrade log) asked done making running demonstrating cutting upgrading following = absurd (upgrading (log, asked))
+    done-untouched (Follow log) asked done making running demonstrating cutting upgrading following = absurd (following (log, asked))
+    done-untouched command asked done making running demonstrating cutting upgrading following = done.untouched
 
-  done-count : (words : List (List ℕ)) (old new : World D S K) (detail : Detail) (command : Command) → IsCommandLine words command
-      → Does g h i command old new detail → (AsksRun words → ⊥) → (AsksDemo words → ⊥) → (AsksUpgrade words → ⊥)
-      → (AsksFollow words → ⊥) → g.honest old.disk
-      → Costs g 7 11 old.disk new.disk
-  done-count words old new detail (New log) asked done not_run not_demo not_upgrade not_follow honest = done.count honest
-  done-count words old new detail (Run log options) asked done not_run not_demo not_upgrade not_follow honest = absurd (not_run (log, options, asked))
-  done-count words old new detail Recover asked done not_run not_demo not_upgrade not_follow honest =
-      subst (λ w. Costs g 7 11 old.disk w) (sym done.untouched) (costs-none old.disk)
-  done-count words old new detail Dump asked done not_run not_demo not_upgrade not_follow honest =
-      subst (λ w. Costs g 7 11 old.disk w) (sym done.untouched) (costs-none old.disk)
-  done-count words old new detail (Demo log n seed options) asked done not_run not_demo not_upgrade not_follow honest =
-      absurd (not_demo (log, n, seed, options, asked))
-  done-count words old new detail (Cut log) asked done not_run not_demo not_upgrade not_follow honest = done.count honest
-  done-count words old new detail (Upgrade log) asked done not_run not_demo not_upgrade not_follow honest = absurd (not_upgrade (log, asked))
-  done-count words old new detail (Ship from) asked done not_run not_demo not_upgrade not_follow honest =
-      subst (λ w. Costs g 7 11 old.disk w) (sym done.untouched) (costs-none old.disk)
-  done-count words old new detail (AsOf lsn) asked done not_run not_demo not_upgrade not_follow honest =
-      subst (λ w. Costs g 7 11 old.disk w) (sym done.untouched) (costs-none old.disk)
-  done-count words old new detail (Statement account) asked done not_run not_demo not_upgrade not_follow honest =
-      subst (λ w. Costs g 7 11 old.disk w) (sym done.untouched) (costs-none old.disk)
-  done-count words old new detail (Follow log) asked done not_run not_demo not_upgrade not_follow honest = absurd (not_follow (log, asked))
+    costs-same : new.disk ≡ old.disk → Costs g 7 11 old.disk new.disk
+    costs-same same = subst (λ disk. Costs g 7 11 old.disk disk) (sym same) (costs-none old.disk)
 
-  done-silent : (words : List (List ℕ)) (old new : World D S K) (detail : Detail) (command : Command) → IsCommandLine words command
-      → Does g h i command old new detail → (AsksRun words → ⊥) → StaysSilent (i.held_bytes old.out) (i.held_bytes new.out) detail
-  done-silent words old new detail (New log) asked done not_run = done.silent
-  done-silent words old new detail (Run log options) asked done not_run = absurd (not_run (log, options, asked))
-  done-silent words old new detail Recover asked done not_run = done.report.silent
-  done-silent words old new detail Dump asked done not_run = done.report.silent
-  done-silent words old new detail (Demo log n seed options) asked done not_run = silent-told n seed _ _ detail done.demonstrated.text
-  done-silent words old new detail (Cut log) asked done not_run = done.silent
-  done-silent words old new detail (Upgrade log) asked done not_run = done.silent
-  done-silent words old new detail (Ship from) asked done not_run = done.report.silent
-  done-silent words old new detail (Follow log) asked done not_run = done.silent
-  done-silent words old new detail (AsOf lsn) asked done not_run = done.report.silent
-  done-silent words old new detail (Statement account) asked done not_run = done.report.silent
+    done-count : (command : Command) → IsCommandLine words command → Does g h i command old new detail → (AsksRun words → ⊥)
+        → (AsksDemo words → ⊥) → (AsksUpgrade words → ⊥) → (AsksFollow words → ⊥) → g.honest old.disk → Costs g 7 11 old.disk new.disk
+    done-count (New log) asked done running demonstrating upgrading following honest = done.count honest
+    done-count (Cut log) asked done running demonstrating upgrading following honest = done.count honest
+    done-count (Run log options) asked done running demonstrating upgrading following honest = absurd (running (log, options, asked))
+    done-count (Demo log n seed options) asked done running demonstrating upgrading following honest =
+        absurd (demonstrating (log, n, seed, options, asked))
+    done-count (Upgrade log) asked done running demonstrating upgrading following honest = absurd (upgrading (log, asked))
+    done-count (Follow log) asked done running demonstrating upgrading following honest = absurd (following (log, asked))
+    done-count command asked done running demonstrating upgrading following honest = costs-same done.untouched
+
+    done-silent : (command : Command) → IsCommandLine words command → Does g h i command old new detail → (AsksRun words → ⊥)
+        → StaysSilent (i.held_bytes old.out) (i.held_bytes new.out) detail
+    done-silent (New log) asked done running = done.silent
+    done-silent (Cut log) asked done running = done.silent
+    done-silent (Upgrade log) asked done running = done.silent
+    done-silent (Follow log) asked done running = done.silent
+    done-silent (Run log options) asked done running = absurd (running (log, options, asked))
+    done-silent (Demo log n seed options) asked done running = silent-told n seed _ _ detail done.demonstrated.text
+    done-silent command asked done running = done.report.silent
 
   still-kept : (old new : World D S K) → new ≡ old → Keeps (i.held_bytes old.out) (i.held_bytes new.out)
   still-kept old new same = subst (λ (w : World D S K). Keeps (i.held_bytes old.out) (i.held_bytes w.out)) (sym same) (kept-text _)
@@ -211,11 +208,14 @@ module _ {D S K : Type 0} (g : Ghosts D) (h : SourceGhosts S) (i : SinkGhosts K)
         subst (λ w. TellsFaults g h i old w detail) (sym same) (no-faults old detail (λ fault. subst IsFault memory fault))
 
     -- where the words ask this command, it did what it promises
-    pub done-of : Answered g h i words old new detail → (command : Command) → IsCommandLine words command → Does g h i command old new detail
-    done-of (inl has) command asked = subst (λ c. Does g h i c old new detail) (asks-one words has.command command has.asked asked) has.obeys.done
+    pub done-of : Answered g h i words old new detail → (command : Command) → IsCommandLine words command
+        → Does g h i command old new detail
+    done-of (inl has) command asked =
+        subst (λ c. Does g h i c old new detail) (asks-one words has.command command has.asked asked) has.obeys.done
     done-of (inr (inl (usage, none, same))) command asked = absurd (none (command, asked))
     done-of (inr (inr (memory, same))) command asked =
-        subst (λ d. Does g h i command old new d) (sym memory) (subst (λ w. Does g h i command old w NoMemory) (sym same) (nothing-done old command))
+        subst (λ d. Does g h i command old new d) (sym memory)
+        (subst (λ w. Does g h i command old w NoMemory) (sym same) (nothing-done old command))
 
     pub usage-of : Answered g h i words old new detail → detail ≡ Usage → AreTaken words → ⊥
     usage-of (inl has) usage taken = not-usage old new detail has.command has.obeys.done usage
@@ -233,40 +233,36 @@ module _ {D S K : Type 0} (g : Ghosts D) (h : SourceGhosts S) (i : SinkGhosts K)
     same-of (inr (inl (usage, _, same))) none = same
     same-of (inr (inr (memory, same))) none = same
 
-    pub untouched-of : Answered g h i words old new detail → (AsksNew words → ⊥) → (AsksRun words → ⊥) → (AsksDemo words → ⊥) → (AsksCut words → ⊥)
-        → (AsksUpgrade words → ⊥) → (AsksFollow words → ⊥) → new.disk ≡ old.disk
+    same-disk : new ≡ old → new.disk ≡ old.disk
+    same-disk same = ap (λ (w : World D S K). w.disk) same
+
+    pub untouched-of : Answered g h i words old new detail → (AsksNew words → ⊥) → (AsksRun words → ⊥) → (AsksDemo words → ⊥)
+        → (AsksCut words → ⊥) → (AsksUpgrade words → ⊥) → (AsksFollow words → ⊥) → new.disk ≡ old.disk
     untouched-of (inl has) = done-untouched words old new detail has.command has.asked has.obeys.done
-    untouched-of (inr (inl (usage, _, same))) = λ not_new not_run not_demo not_cut not_upgrade not_follow. ap (λ (w : World D S K). w.disk) same
-    untouched-of (inr (inr (memory, same))) = λ not_new not_run not_demo not_cut not_upgrade not_follow. ap (λ (w : World D S K). w.disk) same
+    untouched-of (inr (inl (usage, _, same))) = λ making running demonstrating cutting upgrading following. same-disk same
+    untouched-of (inr (inr (memory, same))) = λ making running demonstrating cutting upgrading following. same-disk same
 
     pub count-of : Answered g h i words old new detail → (AsksRun words → ⊥) → (AsksDemo words → ⊥) → (AsksUpgrade words → ⊥)
-        → (AsksFollow words → ⊥) → g.honest old.disk
-        → Costs g 7 11 old.disk new.disk
+        → (AsksFollow words → ⊥) → g.honest old.disk → Costs g 7 11 old.disk new.disk
     count-of (inl has) = done-count words old new detail has.command has.asked has.obeys.done
-    count-of (inr (inl (usage, _, same))) = λ not_run not_demo not_upgrade not_follow honest.
-        subst (λ w. Costs g 7 11 old.disk w) (sym (ap (λ (w : World D S K). w.disk) same)) (costs-none old.disk)
-    count-of (inr (inr (memory, same))) = λ not_run not_demo not_upgrade not_follow honest.
-        subst (λ w. Costs g 7 11 old.disk w) (sym (ap (λ (w : World D S K). w.disk) same)) (costs-none old.disk)
+    count-of (inr (inl (usage, _, same))) = λ running demonstrating upgrading following honest.
+        costs-same words old new detail (same-disk same)
+    count-of (inr (inr (memory, same))) = λ running demonstrating upgrading following honest.
+        costs-same words old new detail (same-disk same)
 
-    pub silent-of : Answered g h i words old new detail → (AsksRun words → ⊥) → StaysSilent (i.held_bytes old.out) (i.held_bytes new.out) detail
+    pub silent-of : Answered g h i words old new detail → (AsksRun words → ⊥)
+        → StaysSilent (i.held_bytes old.out) (i.held_bytes new.out) detail
     silent-of (inl has) = done-silent words old new detail has.command has.asked has.obeys.done
-    silent-of (inr (inl (usage, _, same))) = λ not_run.
+    silent-of (inr (inl (usage, _, same))) = λ running.
         subst (StaysSilent (i.held_bytes old.out) (i.held_bytes new.out)) (sym usage) (still-kept old new same)
-    silent-of (inr (inr (memory, same))) = λ not_run.
+    silent-of (inr (inr (memory, same))) = λ running.
         subst (StaysSilent (i.held_bytes old.out) (i.held_bytes new.out)) (sym memory) (still-kept old new same)
 
-  does-alone : (old new : World D S K) (detail : Detail) (command : Command) → DoesAlone g h i command old new detail → Does g h i command old new detail
-  does-alone old new detail (New log) done = done
+  does-alone : (old new : World D S K) (detail : Detail) (command : Command) → DoesAlone g h i command old new detail
+      → Does g h i command old new detail
   does-alone old new detail (Run log options) done = absurd done
-  does-alone old new detail Recover done = done
-  does-alone old new detail Dump done = done
   does-alone old new detail (Demo log n seed options) done = absurd done
-  does-alone old new detail (Cut log) done = done
-  does-alone old new detail (Upgrade log) done = done
-  does-alone old new detail (Ship from) done = done
-  does-alone old new detail (Follow log) done = done
-  does-alone old new detail (AsOf lsn) done = done
-  does-alone old new detail (Statement account) done = done
+  does-alone old new detail command done = done
 
   -- where no workers were needed
   pub answered-alone : (words : List (List ℕ)) (old new : World D S K) (detail : Detail) → AnsweredAlone g h i words old new (Done detail)
@@ -279,8 +275,8 @@ module _ {D S K : Type 0} (g : Ghosts D) (h : SourceGhosts S) (i : SinkGhosts K)
   answered-alone words old new detail (inr none) = inr none
 
   -- where the words were read first, and nothing was done by that
-  pub answered-then : (words : List (List ℕ)) (old read new : World D S K) (detail : Detail) (command : Command) → IsCommandLine words command
-      → read ≡ old → Obeys g h i command read new detail → Answered g h i words old new detail
+  pub answered-then : (words : List (List ℕ)) (old read new : World D S K) (detail : Detail) (command : Command)
+      → IsCommandLine words command → read ≡ old → Obeys g h i command read new detail → Answered g h i words old new detail
   answered-then words old read new detail command asked same obeys = inl (record {
     command = command;
     asked = asked;

@@ -1,7 +1,7 @@
 -- Where nothing stands in its way, `demo` succeeds.
 use Rattle.std.proofs.Common.{◌≡◌, ◌⊎◌, inl, inr, refl}
 use Rattle.cli_shared.specs.declared.report.Detail.{Detail}
-use Rattle.cli_shared.specs.declared.report.Detail.TheVariants.{Fine, NoMemory, Usage, Script, Read, Write, Disk, NotALog, BadSnapshot, BadBatch, BadRec, Unlawful, LogEnd, TxnEnd, Exists, NoSuchLsn, BadStream, Gap, StreamUnlawful, NoAccount}
+use Rattle.cli_shared.specs.declared.report.Detail.TheVariants.{Fine, NoMemory, Write, Disk, Exists}
 use Rattle.cli_shared.specs.Creation.{TellsWhether}
 use Rattle.cli_demo.specs.Demo.{IsAnswerToDemo}
 
@@ -13,18 +13,4 @@ demo-complete opened W F NoMemory is tells writes disks closed no_write no_disk 
 demo-complete opened W F Write is tells writes disks closed no_write no_disk = absurd (no_write (writes refl))
 demo-complete opened W F Disk is tells writes disks closed no_write no_disk = absurd (no_disk (disks refl))
 demo-complete opened W F Exists is tells writes disks closed no_write no_disk = absurd (closed tells)
-demo-complete opened W F (NoSuchLsn lsn) is tells writes disks closed no_write no_disk = absurd is
-demo-complete opened W F (BadStream offset) is tells writes disks closed no_write no_disk = absurd is
-demo-complete opened W F (Gap have from) is tells writes disks closed no_write no_disk = absurd is
-demo-complete opened W F (StreamUnlawful lsn why) is tells writes disks closed no_write no_disk = absurd is
-demo-complete opened W F (NoAccount account) is tells writes disks closed no_write no_disk = absurd is
-demo-complete opened W F Usage is tells writes disks closed no_write no_disk = absurd is
-demo-complete opened W F (Script line) is tells writes disks closed no_write no_disk = absurd is
-demo-complete opened W F Read is tells writes disks closed no_write no_disk = absurd is
-demo-complete opened W F NotALog is tells writes disks closed no_write no_disk = absurd is
-demo-complete opened W F BadSnapshot is tells writes disks closed no_write no_disk = absurd is
-demo-complete opened W F (BadBatch offset) is tells writes disks closed no_write no_disk = absurd is
-demo-complete opened W F (BadRec lsn) is tells writes disks closed no_write no_disk = absurd is
-demo-complete opened W F (Unlawful lsn why) is tells writes disks closed no_write no_disk = absurd is
-demo-complete opened W F (LogEnd tail total) is tells writes disks closed no_write no_disk = absurd is
-demo-complete opened W F (TxnEnd first count) is tells writes disks closed no_write no_disk = absurd is
+demo-complete opened W F detail is tells writes disks closed no_write no_disk = absurd is

@@ -2,4 +2,5 @@ pub mod AnsweredLemmas
 pub mod CompletenessLemmas
 pub mod DemoCompleteness
 pub mod DemoTold
+pub mod Faultless
 pub mod RunCompleteness

@@ -1,5 +1,5 @@
--- What a call of the program comes to, by its words: what the command that they ask promises, or nothing. `g`, `h` and `i` are what the disk, the
--- input and the output show; `old` and `new` are the three of them before and after. The fields are the clauses of the commands.
+-- What a call of the program comes to, by its words: what the command that they ask promises, or nothing. `g`, `h` and `i` are what the
+-- disk, the input and the output show; `old` and `new` are the three of them before and after. The fields are the clauses of the commands.
 use Rattle.std.specs.Prelude.{◌≡◌, ◌⊎◌, ℕ, List}
 use Rattle.command_line.specs.CommandLine.{IsCommandLine, AreTaken}
 use Rattle.command_line.specs.declared.command.Command.{Command}
@@ -52,6 +52,7 @@ pub record HasObeyed {D S K : Type 0} (g : Ghosts D) (h : SourceGhosts S) (i : S
   pub obeys : Obeys g h i command old new detail
 
 -- a command was asked and obeyed; or the words ask none; or there was no memory to read them
-abbrev pub Answered : {D S K : Type 0} → Ghosts D → SourceGhosts S → SinkGhosts K → List (List ℕ) → World D S K → World D S K → Detail → Type 0
+abbrev pub Answered : {D S K : Type 0} → Ghosts D → SourceGhosts S → SinkGhosts K → List (List ℕ) → World D S K → World D S K
+    → Detail → Type 0
 Answered g h i words old new detail = HasObeyed g h i words old new detail
     ⊎ ((detail ≡ Usage) × (AreTaken words → ⊥) × (new ≡ old)) ⊎ ((detail ≡ NoMemory) × (new ≡ old))

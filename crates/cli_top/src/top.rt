@@ -1,3 +1,5 @@
+//! All that the program does.
+
 ghost use Rattle.std.specs.Prelude.{◌≡◌, ◌≤◌, ◌<◌, ◌+◌, ◌⊎◌, ◌↔◌, ℕ, List, length, IfSome};
 ghost use Rattle.command_line.specs.CommandLine.{IsCommandLine, AreTaken};
 ghost use Rattle.command_line.specs.declared.command.Command.TheVariants.{New, Run, Recover, Dump, Demo, Cut, Upgrade, Ship, Follow, AsOf, Statement};
@@ -118,8 +120,8 @@ pub fn aether<R: Threads + Wait + Clock + Sync, D: LogDisk, S: Source, K: Sink, 
         → (Rose (S.faults script.old) (S.faults script.new) → ⊥) → (Rose (K.faults out.old) (K.faults out.new) → ⊥)
         → (Rose (D.faults disk.old) (D.faults disk.new) → ⊥) → IsRunDone result.detail) }
 
-    // `demo`: what a crash may leave of the disk at each moment, how long its file gets, and the summary, which is the same whatever the options.
-    // It reads nothing.
+    // `demo`: what a crash may leave of the disk at each moment, how long its file gets, and the summary, which is the same whatever the
+    // options. It reads nothing.
     ensures demo { (log : List ℕ) (n seed : ℕ) (options : RunOptions) → IsCommandLine words.now (Demo log n seed options)
         → D.honest disk.old → AnswersDemo D.LogDisk n seed options disk.old disk.new result.detail }
     ensures summary { (log : List ℕ) (n seed : ℕ) (options : RunOptions) → IsCommandLine words.now (Demo log n seed options)
@@ -133,8 +135,8 @@ pub fn aether<R: Threads + Wait + Clock + Sync, D: LogDisk, S: Source, K: Sink, 
         → (Rose (K.faults out.old) (K.faults out.new) → ⊥) → (Rose (D.faults disk.old) (D.faults disk.new) → ⊥)
         → (result.detail ≡ Detail.Fine) ⊎ (result.detail ≡ Detail.NoMemory) }
 
-    // `cut` and `upgrade`: for the bytes of the input, which are those of another log, the text that is written, what a crash may leave of the
-    // disk, and how long its file gets.
+    // `cut` and `upgrade`: for the bytes of the input, which are those of another log, the text that is written, what a crash may leave of
+    // the disk, and how long its file gets.
     ensures cut { (log : List ℕ) → IsCommandLine words.now (Cut log)
         → DoesCut D.LogDisk S.Source K.Sink log (world disk.old script.old out.old) (world disk.new script.new out.new) result.detail }
     ensures complete_cut { AsksCut words.now → D.honest disk.old → (BeginsOpen (D.reads disk.old) → ⊥)
@@ -150,8 +152,8 @@ pub fn aether<R: Threads + Wait + Clock + Sync, D: LogDisk, S: Source, K: Sink, 
         → (Rose (D.faults disk.old) (D.faults disk.new) → ⊥)
         → (result.detail ≡ Detail.Fine) ⊎ (result.detail ≡ Detail.NoMemory)) }
 
-    // `ship`, `asof` and `statement`: for the bytes of the input, what is written of the lawful list that they hold, or why nothing is. The disk is
-    // left alone.
+    // `ship`, `asof` and `statement`: for the bytes of the input, what is written of the lawful list that they hold, or why nothing is. The
+    // disk is left alone.
     ensures ship { (from : ℕ) → IsCommandLine words.now (Ship from)
         → DoesShip S.Source K.Sink from (world disk.old script.old out.old) (world disk.new script.new out.new) result.detail }
     ensures complete_ship { (from : ℕ) → IsCommandLine words.now (Ship from)

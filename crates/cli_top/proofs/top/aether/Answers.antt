@@ -29,7 +29,8 @@ returns g c =
       untouched = untouched-of _ _ _ words old new detail came;
       recover = λ asked. (done Recover asked).report.answer;
       of_recover = λ asked. (done Recover asked).report.range;
-      complete_recover = λ asked. recover-complete _ _ _ _ _ _ detail (done Recover asked).report.answer faults.read.counted faults.write.counted;
+      complete_recover = λ asked.
+          recover-complete _ _ _ _ _ _ detail (done Recover asked).report.answer faults.read.counted faults.write.counted;
       dump = λ asked. (done Dump asked).report.answer;
       of_dump = λ asked. (done Dump asked).report.range;
       complete_dump = λ asked. dump-complete _ _ _ _ _ _ detail (done Dump asked).report.answer faults.read.counted faults.write.counted;
@@ -49,8 +50,8 @@ returns g c =
       of_run = λ asked. (done (Run asked.0 asked.1) asked.2).range;
       attached_run = λ log options asked. (done (Run log options) asked).attached;
       quiet = λ asked. (done (Run asked.0 asked.1) asked.2).silent;
-      complete_run = λ asked honest. run-complete g.D.LogDisk _ _ _ _ _ _ _ _ _ _ detail ((done (Run asked.0 asked.1) asked.2).answer honest)
-          faults.read.counted faults.write.counted faults.disk.counted;
+      complete_run = λ asked honest. run-complete g.D.LogDisk _ _ _ _ _ _ _ _ _ _ detail
+          ((done (Run asked.0 asked.1) asked.2).answer honest) faults.read.counted faults.write.counted faults.disk.counted;
       demo = λ log n seed options asked. (done (Demo log n seed options) asked).demonstrated.answer;
       summary = λ log n seed options asked. (done (Demo log n seed options) asked).demonstrated.text;
       of_demo = λ asked. (done (Demo asked.0 asked.1 asked.2 asked.3) asked.4).demonstrated.range;
@@ -73,7 +74,8 @@ returns g c =
           boundary-complete _ lsn _ _ _ _ _ _ detail (done (AsOf lsn) asked).report.answer faults.read.counted faults.write.counted;
       statement = λ account asked. done (Statement account) asked;
       complete_statement = λ account asked.
-          account-complete _ account _ _ _ _ _ _ detail (done (Statement account) asked).report.answer faults.read.counted faults.write.counted;
+          account-complete _ account _ _ _ _ _ _ detail (done (Statement account) asked).report.answer faults.read.counted
+          faults.write.counted;
       follow = λ log asked. done (Follow log) asked;
       complete_follow = λ asked honest. follow-complete g.D.LogDisk _ _ _ _ _ _ _ _ _ detail ((done (Follow asked.0) asked.1).answer honest)
           faults.read.counted faults.write.counted faults.disk.counted;
