@@ -2,31 +2,15 @@
 use Rattle.std.proofs.Common.{◌≡◌, ◌∙◌, inr, Option, Some, Result, Ok, Err, MatchResult}
 use Rattle.log_disk.specs.Attaching.{Attached, MayAttach}
 use Rattle.cli_shared.specs.declared.report.Detail.{Detail}
-use Rattle.cli_shared.specs.declared.report.Detail.TheVariants.{Fine, NoMemory, Usage, Script, Read, Write, Disk, NotALog, BadSnapshot, BadBatch, BadRec, Unlawful, LogEnd, TxnEnd, Exists, NoSuchLsn, BadStream, Gap, StreamUnlawful, NoAccount}
+use Rattle.cli_shared.specs.declared.report.Detail.TheVariants.{NoMemory, Disk}
 use Rattle.cli_shared.specs.Attached.{LeavesAttached}
 
 -- where this file is attached, it is so whatever is answered
-pub leaves-attached : (file : Attached) (before now : Option Attached) (detail : Detail) → now ≡ Some file → LeavesAttached file before now detail
-leaves-attached file before now Fine is = is
+pub leaves-attached : (file : Attached) (before now : Option Attached) (detail : Detail) → now ≡ Some file
+    → LeavesAttached file before now detail
 leaves-attached file before now NoMemory is = inr is
-leaves-attached file before now Usage is = is
-leaves-attached file before now (Script line) is = is
-leaves-attached file before now Read is = is
-leaves-attached file before now Write is = is
 leaves-attached file before now Disk is = inr is
-leaves-attached file before now NotALog is = is
-leaves-attached file before now BadSnapshot is = is
-leaves-attached file before now (BadBatch offset) is = is
-leaves-attached file before now (BadRec lsn) is = is
-leaves-attached file before now (Unlawful lsn why) is = is
-leaves-attached file before now (LogEnd tail total) is = is
-leaves-attached file before now (TxnEnd first count) is = is
-leaves-attached file before now Exists is = is
-leaves-attached file before now (NoSuchLsn lsn) is = is
-leaves-attached file before now (BadStream offset) is = is
-leaves-attached file before now (Gap have from) is = is
-leaves-attached file before now (StreamUnlawful lsn why) is = is
-leaves-attached file before now (NoAccount account) is = is
+leaves-attached file before now detail is = is
 
 -- what came behind the call that attached it attached no other, whether it succeeded or failed
 pub attached-then : {T E : Type 0} (file : Attached) (before mid now : Option Attached) (result : Result T E) → mid ≡ Some file → now ≡ mid

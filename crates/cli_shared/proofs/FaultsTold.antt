@@ -1,5 +1,5 @@
 -- How a command tells of faults, by how it ended. `old` and `new` are what it works on, before and after.
-use Rattle.std.proofs.Common.{◌≡◌, ◌↔◌, Result, Err, IsErrOf, ap, refl, subst, sym}
+use Rattle.std.proofs.Common.{◌≡◌, ◌↔◌, Err, IsErrOf, ap, refl, subst, sym}
 use Rattle.log_disk.specs.Faults.{CountsWhere, Rose}
 use Rattle.log_disk.specs.declared.disk.LogDisk.{Ghosts}
 use Rattle.log_disk.specs.declared.source.Source.{Ghosts as SourceGhosts}
@@ -21,8 +21,8 @@ module _ {D S K : Type 0} (g : Ghosts D) (h : SourceGhosts S) (i : SinkGhosts K)
   }
 
   -- the writing failed
-  pub told-part : h.faults new.script ≡ h.faults old.script → Rose (i.faults old.out) (i.faults new.out) → g.faults new.disk ≡ g.faults old.disk
-      → (g.honest old.disk ↔ g.honest new.disk) → TellsFaults g h i old new Write
+  pub told-part : h.faults new.script ≡ h.faults old.script → Rose (i.faults old.out) (i.faults new.out)
+      → g.faults new.disk ≡ g.faults old.disk → (g.honest old.disk ↔ g.honest new.disk) → TellsFaults g h i old new Write
   told-part read write disk honest = record {
     read = record { counted = λ is. absurd (subst TellsRead (sym is) tt); fine = λ other. read };
     write = record { counted = λ is. write; fine = λ other. absurd (other refl) };

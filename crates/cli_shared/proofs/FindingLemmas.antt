@@ -14,5 +14,6 @@ gate-settled file images settled closed = record {
 }
 
 -- a call behind others that counted no fault
-pub HasCause-after : {T E : Type 0} (before mid now : ℕ) (result : Result T E) → mid ≡ before → HasCause mid now result → HasCause before now result
+pub HasCause-after : {T E : Type 0} (before mid now : ℕ) (result : Result T E) → mid ≡ before → HasCause mid now result
+    → HasCause before now result
 HasCause-after before mid now result same cause = subst (λ n. HasCause n now result) same cause

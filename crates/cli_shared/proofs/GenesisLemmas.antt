@@ -25,7 +25,8 @@ use Rattle.cli_shared.specs.Creation.{genesis_from, genesis_list, new_list}
 
 -- one balance more
 units_of-more : (first : ℕ) (balances : List ℕ) (balance account : ℕ) → account ≡ first + length balances
-    → units_of (genesis_from first (balances ++ balance ∷ [])) ≡ units_of (genesis_from first balances) ++ spelling (Genesis account balance)
+    → units_of (genesis_from first (balances ++ balance ∷ []))
+    ≡ units_of (genesis_from first balances) ++ spelling (Genesis account balance)
 units_of-more first [] balance account is = let same : account ≡ first = omega arith in rw same refl
 units_of-more first (one ∷ balances) balance account is =
     ap (λ units. spelling (Genesis first one) ++ units) (units_of-more (first + 1) balances balance account (omega arith))
@@ -74,7 +75,8 @@ record Opens (h : List Placed) (rows : List (ℕ × ℕ)) : Type 0 where
   pub kept : KeepsRows rows (base_with no_opening h) h
 
 opens-more : (h : List Placed) (rows : List (ℕ × ℕ)) (account : ℕ) (balances : List ℕ) → AreGenesis h → account ≡ length h
-    → AllByRecursion IsBalance balances → Opens h rows → Opens (history_from 0 h (genesis_from account balances)) (rows ++ opening_rows balances)
+    → AllByRecursion IsBalance balances → Opens h rows
+    → Opens (history_from 0 h (genesis_from account balances)) (rows ++ opening_rows balances)
 opens-more h rows account [] all next range opened = subst (Opens h) (sym (append-nil rows)) opened
 opens-more h rows account (balance ∷ balances) all next range opened =
     let counted = accounts-genesis no_opening h all in
@@ -119,7 +121,8 @@ module _ (balances : List ℕ) (few : length balances ≤ MOST_ACCOUNTS) (each :
   pub genesis-lawful : IsLawful no_opening (history (genesis_list balances))
   genesis-lawful = opens-genesis.lawful
 
-  pub genesis-kept : KeepsRows (opening_rows balances) (base_with no_opening (history (genesis_list balances))) (history (genesis_list balances))
+  pub genesis-kept : KeepsRows (opening_rows balances) (base_with no_opening (history (genesis_list balances)))
+      (history (genesis_list balances))
   genesis-kept = opens-genesis.kept
 
   -- bytes that hold its units hold the list, which is lawful

@@ -5,8 +5,13 @@ use Rattle.log_disk.specs.Disk.{IsOnlyImage}
 use Rattle.log_recovery.specs.declared.recovery.Recovered.{Recovered}
 use Rattle.log_recovery.specs.Opened.{log_of}
 use Rattle.log_recovery.specs.Recovery.{Recovers}
-use Rattle.cli_shared.specs.Opening.{Opens, MayHold}
+use Rattle.cli_shared.specs.Looking.{Looks}
+use Rattle.cli_shared.specs.Opening.{OnlyLooks, Opens, MayHold, most_calls}
 use Rattle.segment_file.proofs.Scanned.{stands-within, stands-stable, all-stands}
+
+-- an honest disk that was only looked at shows it
+pub only-looks : {D : Type 0} (g : Ghosts D) (old new : D) → Looks g (most_calls g old) old new → g.honest old → OnlyLooks g old new
+only-looks g old new looks honest = record { images = looks.moments; reads = looks.reads honest; count = looks.count honest }
 
 -- a disk whose bytes were read, and from then on stand alone
 pub opens : {D : Type 0} (g : Ghosts D) (opened : Recovered) (old new : D) (bytes : List ℕ) → length bytes ≤ 2 ^ 63 → MayHold g old bytes

@@ -1,9 +1,17 @@
--- Why a source gives no log.
+-- Why an input gives no bytes, and why a source gives no log.
 use Rattle.std.proofs.Common.{◌≡◌, List, [], Option, Some, None, IfSome, ℕ, subst}
 use Rattle.log_recovery.specs.declared.recovery.RecoverFault.{RecoverFault}
 use Rattle.log_recovery.specs.declared.recovery.RecoverFault.TheVariants as fault
 use Rattle.log_recovery.specs.Recovery.{IsFaultOf}
-use Rattle.cli_shared.specs.Answers.{HasSourceFault, IsSourceFault, recover_detail}
+use Rattle.cli_shared.specs.declared.report.Detail.{Detail}
+use Rattle.cli_shared.specs.declared.report.Detail.TheVariants.{NoMemory, Read}
+use Rattle.cli_shared.specs.Answers.{HasSourceFault, IsReadingFault, IsSourceFault, recover_detail}
+
+-- what holds where the reading failed and where there was no memory holds where an input gives no bytes
+pub by-reading : (P : Detail → Type 0) → P Read → P NoMemory → (detail : Detail) → IsReadingFault detail → P detail
+by-reading P failed wanting Read is = failed
+by-reading P failed wanting NoMemory is = wanting
+by-reading P failed wanting detail is = absurd is
 
 -- the fault that a source has, of all its bytes
 pub source-told : (left left_new : Option (List ℕ)) (f : RecoverFault) → HasSourceFault left left_new f
@@ -12,10 +20,7 @@ source-told None left_new f is = tt
 source-told (Some all) left_new f is = (is.1.1, subst (λ b. IsFaultOf b f) is.1.0 is.2)
 
 -- why nothing is recovered is why a source gives no log
-pub source-fault : (left left_new : Option (List ℕ)) (f : RecoverFault) → HasSourceFault left left_new f → IsSourceFault left left_new (recover_detail f)
-source-fault left left_new fault.NotALog is = is
-source-fault left left_new fault.BadSnapshot is = is
-source-fault left left_new (fault.BadBatch offset) is = is
-source-fault left left_new (fault.BadRec lsn) is = is
-source-fault left left_new (fault.Unlawful lsn why) is = is
+pub source-fault : (left left_new : Option (List ℕ)) (f : RecoverFault) → HasSourceFault left left_new f
+    → IsSourceFault left left_new (recover_detail f)
 source-fault left left_new fault.NoMemory is = tt
+source-fault left left_new f is = is

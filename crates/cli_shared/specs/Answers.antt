@@ -39,6 +39,12 @@ StaysSilent old new detail = Keeps old new
 abbrev pub ReadsAll : Option (List ℕ) → Option (List ℕ) → List ℕ → Type 0
 ReadsAll left left_new bytes = IfSome left (λ all. (bytes ≡ all) × (left_new ≡ Some []))
 
+-- why an input gives no bytes
+abbrev pub IsReadingFault : Detail → Type 0
+IsReadingFault Read = Unit {0}
+IsReadingFault NoMemory = Unit {0}
+IsReadingFault detail = ⊥
+
 -- how the program ends where nothing is recovered
 abbrev pub recover_detail : RecoverFault → Detail
 recover_detail fault.NotALog = NotALog

@@ -7,7 +7,9 @@ use Rattle.cli_shared.specs.declared.report.Detail.{Detail}
 use Rattle.cli_shared.specs.declared.report.Detail.TheVariants.{Fine, NoMemory, Usage, Script, Read, Write, Disk, NotALog, BadSnapshot, BadBatch, BadRec, Unlawful, LogEnd, TxnEnd, Exists, BadStream, Gap, NoSuchLsn, StreamUnlawful, NoAccount}
 
 abbrev pub usage_line : List ℕ
-usage_line = codes "usage: aether new LOG | run LOG [--workers N] [--ring R] [--slots K] [--wait] | recover | dump | demo LOG N SEED [--workers N] [--ring R] [--slots K] | cut LOG | upgrade LOG | ship FROM | follow LOG | asof LSN | statement ACCOUNT\n"
+usage_line = codes "usage: aether new LOG | run LOG [--workers N] [--ring R] [--slots K] [--wait] | recover | dump "
+    ++ codes "| demo LOG N SEED [--workers N] [--ring R] [--slots K] | cut LOG | upgrade LOG | ship FROM | follow LOG | asof LSN "
+    ++ codes "| statement ACCOUNT\n"
 
 -- the word for the test that a record failed
 abbrev pub why_text : Why → List ℕ

@@ -2,7 +2,9 @@ pub mod Answers
 pub mod Attached
 pub mod Creation
 pub mod FaultText
+pub mod Finding
 pub mod LogInput
+pub mod Looking
 pub mod Opening
 pub mod Outside
 pub mod Scripts

@@ -1,5 +1,5 @@
--- What a command works on that goes on behind the end of a log, and what it leaves where it comes no further than to open the log, or to settle where it
--- goes on. `g` is what a disk shows; `old` and `new` are before and after.
+-- What a command works on that goes on behind the end of a log, and what it leaves where it comes no further than to open the log, or to
+-- settle where it goes on. `g` is what a disk shows; `old` and `new` are before and after.
 use Rattle.std.specs.Prelude.{◌≡◌, ◌⊎◌, ◌+◌, ℕ, List, Option}
 use Rattle.std.specs.Io.KnownBytes.{Keeps}
 use Rattle.log_disk.specs.Costs.{Costs}

@@ -27,4 +27,5 @@ pub record NumbersEnd (accounts first : ℕ) (left left_new : Option (List ℕ))
 
 -- why the input gives no transfers that have numbers from the first on
 abbrev pub HasNoTransfers : ℕ → ℕ → Option (List ℕ) → Option (List ℕ) → Detail → Type 0
-HasNoTransfers accounts first left left_new detail = HasNoScript accounts left left_new detail ⊎ NumbersEnd accounts first left left_new detail
+HasNoTransfers accounts first left left_new detail =
+    HasNoScript accounts left left_new detail ⊎ NumbersEnd accounts first left left_new detail

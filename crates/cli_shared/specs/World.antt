@@ -1,4 +1,5 @@
--- What a command works on. `g`, `h` and `i` are what the disk, the input and the output show; `old` and `new` are the three of them before and after.
+-- What a command works on. `g`, `h` and `i` are what the disk, the input and the output show; `old` and `new` are the three of them before
+-- and after.
 use Rattle.std.specs.Prelude.{◌≡◌, ◌↔◌}
 use Rattle.log_disk.specs.Faults.{CountsWhere}
 use Rattle.log_disk.specs.declared.disk.LogDisk.{Ghosts}
@@ -17,7 +18,8 @@ abbrev pub world : {D S K : Type 0} → D → S → K → World D S K
 world disk script out = record { disk = disk; script = script; out = out }
 
 -- One fault is counted where one is answered, by the object that the answer names, and none else.
-pub record TellsFaults {D S K : Type 0} (g : Ghosts D) (h : SourceGhosts S) (i : SinkGhosts K) (old new : World D S K) (detail : Detail) : Type 0 where
+pub record TellsFaults {D S K : Type 0} (g : Ghosts D) (h : SourceGhosts S) (i : SinkGhosts K) (old new : World D S K) (detail : Detail)
+    : Type 0 where
   pub read : CountsWhere (detail ≡ Read) (h.faults old.script) (h.faults new.script)
   pub write : CountsWhere (detail ≡ Write) (i.faults old.out) (i.faults new.out)
   pub disk : CountsWhere (detail ≡ Disk) (g.faults old.disk) (g.faults new.disk)

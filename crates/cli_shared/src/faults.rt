@@ -1,3 +1,5 @@
+//! The line that tells why the program ends.
+
 ghost use Rattle.std.specs.Prelude.{◌≡◌, ◌≤◌, ◌++◌, length, codes, OnOk, OnErr};
 ghost use Rattle.std.specs.Io.KnownBytes.{Appends};
 ghost use Rattle.lsn_space.specs.Number.{number_text};
@@ -15,7 +17,9 @@ use lsn_space::decimal;
 type Line = ArrayVec<u8, 256>;
 
 const USAGE: &[u8] =
-    b"usage: aether new LOG | run LOG [--workers N] [--ring R] [--slots K] [--wait] | recover | dump | demo LOG N SEED [--workers N] [--ring R] [--slots K] | cut LOG | upgrade LOG | ship FROM | follow LOG | asof LSN | statement ACCOUNT\n";
+    b"usage: aether new LOG | run LOG [--workers N] [--ring R] [--slots K] [--wait] | recover | dump \
+    | demo LOG N SEED [--workers N] [--ring R] [--slots K] | cut LOG | upgrade LOG | ship FROM | follow LOG | asof LSN \
+    | statement ACCOUNT\n";
 
 fn text(bytes: &[u8]) -> Line
     requires { length bytes.now ≤ 256 }

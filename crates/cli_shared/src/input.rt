@@ -1,6 +1,10 @@
-ghost use Rattle.std.specs.Prelude.{◌≡◌, ◌≤◌, [], Some, IfOk, IfSome, IsErrOf};
-ghost use Rattle.log_disk.specs.Faults.{CountsWhere};
+//! How all of an input is read.
 
+ghost use Rattle.std.specs.Prelude.{◌≡◌, ◌≤◌, [], Some, IfOk, IfErr, IfSome, IsErrOf};
+ghost use Rattle.log_disk.specs.Faults.{CountsWhere};
+ghost use Rattle.cli_shared.specs.Answers.{IsReadingFault, ReadsAll};
+
+use crate::report::Detail;
 use log_disk::Source;
 use std::alloc::Global;
 
@@ -28,5 +32,18 @@ pub fn read_all<S: Source>(alloc: Global, source: &mut S) -> Result<Vec<u8>, Rea
             }
             Err(_) => return Err(ReadFault::Failed),
         }
+    }
+}
+
+/// All bytes that the source has left, or why the program ends that reads them.
+pub fn read_input<S: Source>(alloc: Global, source: &mut S) -> Result<Vec<u8>, Detail>
+    ensures all { IfOk result (λ v. ReadsAll (S.left source.old) (S.left source.new) v.items) }
+    ensures err { IfErr result IsReadingFault }
+    ensures read { CountsWhere (IsErrOf result Detail.Read) (S.faults source.old) (S.faults source.new) }
+{
+    match read_all(alloc, source) {
+        Ok(bytes) => Ok(bytes),
+        Err(ReadFault::Failed) => Err(Detail::Read),
+        Err(ReadFault::NoMemory) => Err(Detail::NoMemory),
     }
 }

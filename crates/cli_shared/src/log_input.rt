@@ -5,7 +5,7 @@ ghost use Rattle.log_disk.specs.Faults.{CountsWhere};
 ghost use Rattle.cli_shared.specs.Answers.{IsSourceFault};
 ghost use Rattle.cli_shared.specs.LogInput.{ReadsTaken};
 
-use crate::input::{ReadFault, read_all};
+use crate::input::read_input;
 use crate::report::{Detail, detail_of};
 use lock_core::TakesRecords;
 use log_disk::Source;
@@ -21,11 +21,7 @@ pub fn read_log<T: TakesRecords, S: Source>(
     ensures err { IfErr result (IsSourceFault (S.left source.old) (S.left source.new)) }
     ensures read { CountsWhere (IsErrOf result Detail.Read) (S.faults source.old) (S.faults source.new) }
 {
-    let bytes = match read_all(alloc, source) {
-        Ok(bytes) => bytes,
-        Err(ReadFault::Failed) => return Err(Detail::Read),
-        Err(ReadFault::NoMemory) => return Err(Detail::NoMemory),
-    };
+    let bytes = read_input(alloc, source)?;
     match taken_owned(alloc, bytes) {
         Ok(both) => Ok(both),
         Err(fault) => Err(detail_of(fault)),

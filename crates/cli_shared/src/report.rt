@@ -1,3 +1,5 @@
+//! Why the program ends, and the status of each reason.
+
 ghost use Rattle.std.specs.Prelude.{◌≡◌};
 ghost use Rattle.cli_shared.specs.Answers.{recover_detail, status_of};
 

@@ -1,9 +1,11 @@
+//! How the script of a run is read from the input.
+
 ghost use Rattle.std.specs.Prelude.{◌≤◌, ◌+◌, length, IfOk, IfErr, IsErrOf};
 ghost use Rattle.log_disk.specs.Faults.{CountsWhere};
 ghost use Rattle.log_record.specs.declared.limits.TheConstants.{LAST_TXN};
 ghost use Rattle.cli_shared.specs.Scripts.{IsWholeScript, HasNoScript, HasNoTransfers};
 
-use crate::input::{ReadFault, read_all};
+use crate::input::read_input;
 use crate::report::Detail;
 use log_disk::Source;
 use log_record::LAST_TXN;
@@ -21,11 +23,7 @@ pub fn read_script<S: Source>(
     ensures err { IfErr result (HasNoScript accounts (S.left script.old) (S.left script.new)) }
     ensures read { CountsWhere (IsErrOf result Detail.Read) (S.faults script.old) (S.faults script.new) }
 {
-    let bytes = match read_all(alloc, script) {
-        Ok(bytes) => bytes,
-        Err(ReadFault::Failed) => return Err(Detail::Read),
-        Err(ReadFault::NoMemory) => return Err(Detail::NoMemory),
-    };
+    let bytes = read_input(alloc, script)?;
     match parse(alloc, bytes.as_slice(), accounts) {
         Ok(script) => Ok(script),
         Err(ParseFault::Line { line }) => Err(Detail::Script { line }),

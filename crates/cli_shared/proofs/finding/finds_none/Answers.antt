@@ -1,21 +1,46 @@
-use Rattle.std.proofs.Common.{subst}
+use Rattle.std.proofs.Common.{rules, subst}
 use Rattle.segment_file.specs.File.{BeginsOpen}
 use Rattle.cli_shared.proofs.FindingLemmas.{gate-settled}
 use Rattle.cli_shared.proofs.finding.finds_none.Goals as goal
 
-pub returns-in-Ok-false-clause-closed : goal.returns-in-Ok-false-clause-closed
-returns-in-Ok-false-clause-closed g c = λ honest opened.
-    let yes = (c.in-Ok-false.ensures.opens honest).1 opened in
-    let no = c.in-Ok-false.field-0-test in cc
+-- no log is there
+pub returns-in-Ok-false : goal.returns-in-Ok-false
+returns-in-Ok-false g c =
+    let found = c.in-Ok-false.ensures in
+    record {
+      looks = found.looks;
+      closed = λ honest opened. let yes = (found.opens honest).1 opened in let no = c.in-Ok-false.field-0-test in cc;
+      gate = λ honest. gate-settled (g.D.LogDisk.reads c.finds_log.new.disk) _ (found.settled honest) (λ opened.
+          let yes = (found.opens honest).1 (subst BeginsOpen (found.looks.reads honest) opened) in
+          let no = c.in-Ok-false.field-0-test in cc);
+      fault = tt;
+      exists = λ honest. tt;
+      attached = search rules;
+      disk = search rules;
+    }
 
-pub returns-in-Ok-false-clause-gate : goal.returns-in-Ok-false-clause-gate
-returns-in-Ok-false-clause-gate g c = λ honest.
-    gate-settled (g.D.LogDisk.reads c.finds_log.new.disk) _ (c.in-Ok-false.ensures.settled honest) (λ opened.
-    let yes = (c.in-Ok-false.ensures.opens honest).1 (subst BeginsOpen (c.in-Ok-false.ensures.reads honest) opened) in
-    let no = c.in-Ok-false.field-0-test in cc)
+-- one is
+pub returns-in-Ok-true : goal.returns-in-Ok-true
+returns-in-Ok-true g c =
+    let found = c.in-Ok-true.ensures in
+    record {
+      looks = found.looks;
+      closed = λ honest. tt;
+      gate = λ honest. tt;
+      fault = tt;
+      exists = search rules;
+      attached = search rules;
+      disk = search rules;
+    }
 
-pub returns-in-Ok-true-clause-closed : goal.returns-in-Ok-true-clause-closed
-returns-in-Ok-true-clause-closed g c = λ honest. tt
-
-pub returns-in-Ok-true-clause-gate : goal.returns-in-Ok-true-clause-gate
-returns-in-Ok-true-clause-gate g c = λ honest. tt
+-- the disk failed
+pub returns-in-Err : goal.returns-in-Err
+returns-in-Err g c = record {
+  looks = c.in-Err.ensures.looks;
+  closed = λ honest. tt;
+  gate = λ honest. tt;
+  fault = tt;
+  exists = λ honest. tt;
+  attached = search rules;
+  disk = search rules;
+}

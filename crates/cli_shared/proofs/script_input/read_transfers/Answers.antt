@@ -17,13 +17,15 @@ pub returns-in_err-transfers-clause-err : goal.returns-in_err-transfers-clause-e
 returns-in_err-transfers-clause-err g c =
     let failed = err_from_is_err_and c.from_residual.result c.from_residual.ensures.1 in
     let same : failed.0 ≡ c.in_err-transfers.field-0.0 = search rules in
-    rw (failed.1, same) (inl (subst (λ n. HasNoScript n (g.S.Source.left c.args.script.now) (g.S.Source.left c.read_script.new.script) c.in_err-transfers.field-0.0)
+    rw (failed.1, same) (inl (subst
+    (λ n. HasNoScript n (g.S.Source.left c.args.script.now) (g.S.Source.left c.read_script.new.script) c.in_err-transfers.field-0.0)
     c.count.ensures c.in_err-transfers.ensures.err))
 
 pub returns-in_default-clause-err : goal.returns-in_default-clause-err
 returns-in_default-clause-err g c = inr (record {
   jobs = c.in_ok-transfers.transfers;
-  script = subst (λ n. IsWholeScript n (g.S.Source.left c.args.script.now) (g.S.Source.left c.read_script.new.script) c.in_ok-transfers.transfers)
+  script = subst
+      (λ n. IsWholeScript n (g.S.Source.left c.args.script.now) (g.S.Source.left c.read_script.new.script) c.in_ok-transfers.transfers)
       c.count.ensures c.in_ok-transfers.ensures.ok;
   detail_is = ap (TxnEnd c.args.opened.now.next_txn) c.count-count.ensures;
   past = elim c.in_default.branch [
