@@ -18,68 +18,51 @@ use Rattle.cli_shared.proofs.ToldLemmas.{TellsRead, TellsWrite, kept-text}
 -- the fault of a log tells of no read or write, and before it nothing was written
 pub read-fault : (f : RecoverFault) → TellsRead (recover_detail f) → ⊥
 read-fault fault.NotALog tells = tells
-read-fault fault.BadSnapshot tells = tells
-read-fault (fault.BadBatch offset) tells = tells
-read-fault (fault.BadRec lsn) tells = tells
-read-fault (fault.Unlawful lsn why) tells = tells
-read-fault fault.NoMemory tells = tells
+read-fault f tells = tells
 
 pub write-fault : (f : RecoverFault) → TellsWrite (recover_detail f) → ⊥
 write-fault fault.NotALog tells = tells
-write-fault fault.BadSnapshot tells = tells
-write-fault (fault.BadBatch offset) tells = tells
-write-fault (fault.BadRec lsn) tells = tells
-write-fault (fault.Unlawful lsn why) tells = tells
-write-fault fault.NoMemory tells = tells
+write-fault f tells = tells
 
 pub silent-fault : (text : Option (List ℕ)) (f : RecoverFault) → StaysSilent text text (recover_detail f)
 silent-fault text fault.NotALog = kept-text text
-silent-fault text fault.BadSnapshot = kept-text text
-silent-fault text (fault.BadBatch offset) = kept-text text
-silent-fault text (fault.BadRec lsn) = kept-text text
-silent-fault text (fault.Unlawful lsn why) = kept-text text
-silent-fault text fault.NoMemory = kept-text text
+silent-fault text f = kept-text text
 
 pub answers-fault : (left left_new old new : Option (List ℕ)) (bytes : List ℕ) (f : RecoverFault) → ReadsAll left left_new bytes
     → IsFaultOf bytes f → IfSome left (λ all. AnswersRecover all left_new old new (recover_detail f))
 answers-fault None left_new old new bytes f read is = tt
-answers-fault (Some all) left_new old new bytes fault.NotALog read is = (read.1, subst (λ b. IsFaultOf b fault.NotALog) read.0 is)
-answers-fault (Some all) left_new old new bytes fault.BadSnapshot read is = (read.1, subst (λ b. IsFaultOf b fault.BadSnapshot) read.0 is)
-answers-fault (Some all) left_new old new bytes (fault.BadBatch offset) read is = (read.1, subst (λ b. IsFaultOf b (fault.BadBatch offset)) read.0 is)
-answers-fault (Some all) left_new old new bytes (fault.BadRec lsn) read is = (read.1, subst (λ b. IsFaultOf b (fault.BadRec lsn)) read.0 is)
-answers-fault (Some all) left_new old new bytes (fault.Unlawful lsn why) read is = (read.1, subst (λ b. IsFaultOf b (fault.Unlawful lsn why)) read.0 is)
 answers-fault (Some all) left_new old new bytes fault.NoMemory read is = tt
+answers-fault (Some all) left_new old new bytes f read is = (read.1, subst (λ b. IsFaultOf b f) read.0 is)
 
 pub range-fault : (f : RecoverFault) → IsAnswerToRecover (recover_detail f)
 range-fault fault.NotALog = tt
-range-fault fault.BadSnapshot = tt
-range-fault (fault.BadBatch offset) = tt
-range-fault (fault.BadRec lsn) = tt
-range-fault (fault.Unlawful lsn why) = tt
-range-fault fault.NoMemory = tt
+range-fault f = tt
 
-pub answers-fine : (left left_new old new : Option (List ℕ)) (bytes : List ℕ) (r : Recovered) → ReadsAll left left_new bytes → Recovers r bytes
-    → Appends old new (rows_text r.lsn r.accounts.rows) → IfSome left (λ all. AnswersRecover all left_new old new Fine)
+pub answers-fine : (left left_new old new : Option (List ℕ)) (bytes : List ℕ) (r : Recovered) → ReadsAll left left_new bytes
+    → Recovers r bytes → Appends old new (rows_text r.lsn r.accounts.rows) → IfSome left (λ all. AnswersRecover all left_new old new Fine)
 answers-fine None left_new old new bytes r read recovers written = tt
 answers-fine (Some all) left_new old new bytes r read recovers written =
     let found = subst (λ b. Recovers r b) read.0 recovers in
     (read.1, found.list, found.held, rw (rows_text-shown _ _ found.list found.lsn found.accounts) at written)
 
-pub answers-write : (left left_new old new : Option (List ℕ)) (bytes : List ℕ) (r : Recovered) → ReadsAll left left_new bytes → Recovers r bytes
-    → AppendsPart old new (rows_text r.lsn r.accounts.rows) → IfSome left (λ all. AnswersRecover all left_new old new Write)
+pub answers-write : (left left_new old new : Option (List ℕ)) (bytes : List ℕ) (r : Recovered) → ReadsAll left left_new bytes
+    → Recovers r bytes → AppendsPart old new (rows_text r.lsn r.accounts.rows)
+    → IfSome left (λ all. AnswersRecover all left_new old new Write)
 answers-write None left_new old new bytes r read recovers written = tt
 answers-write (Some all) left_new old new bytes r read recovers written =
     let found = subst (λ b. Recovers r b) read.0 recovers in
     (read.1, found.list, found.held, rw (rows_text-shown _ _ found.list found.lsn found.accounts) at written)
 
 pub answers_dump-fine : (left left_new old new : Option (List ℕ)) (bytes : List ℕ) (list : Listed) → ReadsAll left left_new bytes
-    → (found : ListsBytes list bytes) → Appends old new (dump_text (list_of list found.records)) → IfSome left (λ all. AnswersDump all left_new old new Fine)
+    → (found : ListsBytes list bytes) → Appends old new (dump_text (list_of list found.records))
+    → IfSome left (λ all. AnswersDump all left_new old new Fine)
 answers_dump-fine None left_new old new bytes list read found written = tt
 answers_dump-fine (Some all) left_new old new bytes list read found written =
     (read.1, list_of list found.records, subst (λ b. HoldsList b (list_of list found.records)) read.0 found.held, written)
 
 pub answers_dump-write : (left left_new old new : Option (List ℕ)) (bytes : List ℕ) (list : Listed) → ReadsAll left left_new bytes
-    → (found : ListsBytes list bytes) → AppendsPart old new (dump_text (list_of list found.records)) → IfSome left (λ all. AnswersDump all left_new old new Write)
+    → (found : ListsBytes list bytes) → AppendsPart old new (dump_text (list_of list found.records))
+    → IfSome left (λ all. AnswersDump all left_new old new Write)
 answers_dump-write None left_new old new bytes list read found written = tt
 answers_dump-write (Some all) left_new old new bytes list read found written =
     (read.1, list_of list found.records, subst (λ b. HoldsList b (list_of list found.records)) read.0 found.held, written)
@@ -87,17 +70,10 @@ answers_dump-write (Some all) left_new old new bytes list read found written =
 pub answers_dump-fault : (left left_new old new : Option (List ℕ)) (bytes : List ℕ) (f : RecoverFault) → ReadsAll left left_new bytes
     → IsListedFaultOf bytes f → IfSome left (λ all. AnswersDump all left_new old new (recover_detail f))
 answers_dump-fault None left_new old new bytes f read is = tt
-answers_dump-fault (Some all) left_new old new bytes fault.NotALog read is = (read.1, subst (λ b. IsListedFaultOf b fault.NotALog) read.0 is)
-answers_dump-fault (Some all) left_new old new bytes fault.BadSnapshot read is = (read.1, subst (λ b. IsListedFaultOf b fault.BadSnapshot) read.0 is)
-answers_dump-fault (Some all) left_new old new bytes (fault.BadBatch offset) read is = (read.1, subst (λ b. IsListedFaultOf b (fault.BadBatch offset)) read.0 is)
-answers_dump-fault (Some all) left_new old new bytes (fault.BadRec lsn) read is = (read.1, subst (λ b. IsListedFaultOf b (fault.BadRec lsn)) read.0 is)
 answers_dump-fault (Some all) left_new old new bytes (fault.Unlawful lsn why) read is = is
 answers_dump-fault (Some all) left_new old new bytes fault.NoMemory read is = tt
+answers_dump-fault (Some all) left_new old new bytes f read is = (read.1, subst (λ b. IsListedFaultOf b f) read.0 is)
 
 pub range_dump-fault : (bytes : List ℕ) (f : RecoverFault) → IsListedFaultOf bytes f → IsAnswerToDump (recover_detail f)
-range_dump-fault bytes fault.NotALog is = tt
-range_dump-fault bytes fault.BadSnapshot is = tt
-range_dump-fault bytes (fault.BadBatch offset) is = tt
-range_dump-fault bytes (fault.BadRec lsn) is = tt
 range_dump-fault bytes (fault.Unlawful lsn why) is = is
-range_dump-fault bytes fault.NoMemory is = tt
+range_dump-fault bytes f is = tt

@@ -4,9 +4,10 @@ use Rattle.log_disk.specs.Faults.{CountsWhere, Rose}
 use Rattle.log_disk.specs.declared.source.Source.{Ghosts as SourceGhosts}
 use Rattle.log_disk.specs.declared.sink.Sink.{Ghosts as SinkGhosts}
 use Rattle.log_recovery.specs.declared.recovery.RecoverFault.{RecoverFault}
-use Rattle.cli_shared.specs.Answers.{StaysSilent, recover_detail}
+use Rattle.cli_shared.specs.Answers.{IsReadingFault, StaysSilent, recover_detail}
 use Rattle.cli_shared.specs.declared.report.Detail.{Detail}
 use Rattle.cli_shared.specs.declared.report.Detail.TheVariants.{Fine, NoMemory, Read, Write}
+use Rattle.cli_shared.proofs.SourceLemmas.{by-reading}
 use Rattle.cli_shared.proofs.ToldLemmas.{TellsRead, TellsWrite, kept-text}
 use Rattle.cli_reports.specs.Command.{HasReported}
 use Rattle.cli_reports.proofs.AnswerLemmas.{read-fault, silent-fault, write-fault}
@@ -23,10 +24,14 @@ read-as before now detail read = record { counted = λ is. read.counted (ap Err 
 module _ {S K : Type 0} (h : SourceGhosts S) (i : SinkGhosts K)
     (Answers : List ℕ → Option (List ℕ) → Option (List ℕ) → Option (List ℕ) → Detail → Type 0) (IsAnswer : Detail → Type 0)
     (script script_new : S) (out : K) where
+  -- the answer for the bytes of the input
+  abbrev AnswersInput : K → Detail → Type 0
+  AnswersInput out_new detail =
+      IfSome (h.left script) (λ bytes. Answers bytes (h.left script_new) (i.held_bytes out) (i.held_bytes out_new) detail)
+
   -- all is written
   pub reported-fine : (out_new : K) → IsAnswer Fine → h.faults script_new ≡ h.faults script → i.faults out_new ≡ i.faults out
-      → IfSome (h.left script) (λ bytes. Answers bytes (h.left script_new) (i.held_bytes out) (i.held_bytes out_new) Fine)
-      → HasReported h i Answers IsAnswer script script_new out out_new Fine
+      → AnswersInput out_new Fine → HasReported h i Answers IsAnswer script script_new out out_new Fine
   reported-fine out_new range read write answer = record {
     answer = answer;
     silent = tt;
@@ -37,8 +42,7 @@ module _ {S K : Type 0} (h : SourceGhosts S) (i : SinkGhosts K)
 
   -- the writing failed
   pub reported-part : (out_new : K) → IsAnswer Write → h.faults script_new ≡ h.faults script → Rose (i.faults out) (i.faults out_new)
-      → IfSome (h.left script) (λ bytes. Answers bytes (h.left script_new) (i.held_bytes out) (i.held_bytes out_new) Write)
-      → HasReported h i Answers IsAnswer script script_new out out_new Write
+      → AnswersInput out_new Write → HasReported h i Answers IsAnswer script script_new out out_new Write
   reported-part out_new range read write answer = record {
     answer = answer;
     silent = tt;
@@ -50,8 +54,7 @@ module _ {S K : Type 0} (h : SourceGhosts S) (i : SinkGhosts K)
   -- nothing was written
   pub reported-none : (detail : Detail) → IsAnswer detail → CountsWhere (detail ≡ Read) (h.faults script) (h.faults script_new)
       → StaysSilent (i.held_bytes out) (i.held_bytes out) detail → (TellsWrite detail → ⊥)
-      → IfSome (h.left script) (λ bytes. Answers bytes (h.left script_new) (i.held_bytes out) (i.held_bytes out) detail)
-      → HasReported h i Answers IsAnswer script script_new out out detail
+      → AnswersInput out detail → HasReported h i Answers IsAnswer script script_new out out detail
   reported-none detail range read silent write answer = record {
     answer = answer;
     silent = silent;
@@ -63,20 +66,16 @@ module _ {S K : Type 0} (h : SourceGhosts S) (i : SinkGhosts K)
   -- the bytes have this fault
   pub reported-fault : (f : RecoverFault) (detail : Detail) → detail ≡ recover_detail f → IsAnswer (recover_detail f)
       → h.faults script_new ≡ h.faults script
-      → IfSome (h.left script) (λ bytes. Answers bytes (h.left script_new) (i.held_bytes out) (i.held_bytes out) (recover_detail f))
-      → HasReported h i Answers IsAnswer script script_new out out detail
+      → AnswersInput out (recover_detail f) → HasReported h i Answers IsAnswer script script_new out out detail
   reported-fault f detail is range read answer = subst (HasReported h i Answers IsAnswer script script_new out out) (sym is)
       (reported-none (recover_detail f) range (read-whole _ _ _ read (read-fault f)) (silent-fault _ f) (write-fault f) answer)
 
-  -- the input couldn't be read
-  pub reported-failed : IsAnswer Read → Rose (h.faults script) (h.faults script_new)
-      → IfSome (h.left script) (λ bytes. Answers bytes (h.left script_new) (i.held_bytes out) (i.held_bytes out) Read)
-      → HasReported h i Answers IsAnswer script script_new out out Read
-  reported-failed range read answer =
-      reported-none Read range (record { counted = λ is. read; fine = λ other. absurd (other refl) }) (kept-text _) (λ tells. tells) answer
-
-  -- there was no memory for the input
-  pub reported-wanting : IsAnswer NoMemory → h.faults script_new ≡ h.faults script
-      → IfSome (h.left script) (λ bytes. Answers bytes (h.left script_new) (i.held_bytes out) (i.held_bytes out) NoMemory)
-      → HasReported h i Answers IsAnswer script script_new out out NoMemory
-  reported-wanting range read answer = reported-none NoMemory range (read-whole _ _ _ read (λ tells. tells)) (kept-text _) (λ tells. tells) answer
+  -- the input gave no bytes
+  pub reported-unread : {T : Type 0} → IsAnswer Read → IsAnswer NoMemory → AnswersInput out Read → AnswersInput out NoMemory
+      → (detail : Detail) → IsReadingFault detail → CountsWhere (IsErrOf {T = T} (Err detail) Read) (h.faults script) (h.faults script_new)
+      → HasReported h i Answers IsAnswer script script_new out out detail
+  reported-unread failed_range wanting_range failed wanting detail is read =
+      reported-none detail (by-reading IsAnswer failed_range wanting_range detail is) (read-as _ _ detail read)
+      (by-reading (StaysSilent (i.held_bytes out) (i.held_bytes out)) (kept-text _) (kept-text _) detail is)
+      (by-reading (λ d. TellsWrite d → ⊥) (λ tells. tells) (λ tells. tells) detail is)
+      (by-reading (AnswersInput out) failed wanting detail is)

@@ -1,5 +1,5 @@
--- What a command answers that reads a log and writes a text of its list. `Says` is what there is to write of a list, and `Refuses` why nothing
--- is written of one, though it is lawful.
+-- What a command answers that reads a log and writes a text of its list. `Says` is what there is to write of a list, and `Refuses` why
+-- nothing is written of one, though it is lawful.
 use Rattle.std.specs.Prelude.{◌≡◌, ℕ, List, [], Option, Some}
 use Rattle.std.specs.Io.KnownBytes.{Appends}
 use Rattle.log_disk.specs.Streams.{AppendsPart}
@@ -18,7 +18,8 @@ OfList bytes left Said = (left ≡ Some []) × (list : OpenedList) × HoldsLawfu
 abbrev pub AnswersReport : (OpenedList → List ℕ → Type 0) → (OpenedList → Detail → Type 0) → List ℕ → Option (List ℕ) → Option (List ℕ)
     → Option (List ℕ) → Detail → Type 0
 AnswersReport Says Refuses bytes left old new Fine = OfList bytes left (λ list. (text : List ℕ) × Says list text × Appends old new text)
-AnswersReport Says Refuses bytes left old new Write = OfList bytes left (λ list. (text : List ℕ) × Says list text × AppendsPart old new text)
+AnswersReport Says Refuses bytes left old new Write =
+    OfList bytes left (λ list. (text : List ℕ) × Says list text × AppendsPart old new text)
 AnswersReport Says Refuses bytes left old new (NoSuchLsn lsn) = OfList bytes left (λ list. Refuses list (NoSuchLsn lsn))
 AnswersReport Says Refuses bytes left old new (NoAccount account) = OfList bytes left (λ list. Refuses list (NoAccount account))
 AnswersReport Says Refuses bytes left old new NotALog = HasFault bytes left fault.NotALog

@@ -1,8 +1,10 @@
+//! The command `recover`.
+
 ghost use Rattle.std.specs.Prelude.{◌≡◌, ◌≤◌, IfSome};
 ghost use Rattle.cli_reports.specs.Answers.{AnswersRecover, IsAnswerToRecover};
 ghost use Rattle.cli_reports.specs.Command.{HasReported};
 
-use cli_shared::{Detail, ReadFault, detail_of, read_all};
+use cli_shared::{Detail, detail_of, read_input};
 use log_disk::{Sink, Source};
 use log_recovery::{put_accounts, recover_owned};
 use std::alloc::Global;
@@ -11,10 +13,9 @@ use std::alloc::Global;
 pub fn recover_command<S: Source, K: Sink>(alloc: Global, script: &mut S, out: &mut K) -> Detail
     ensures { HasReported S.Source K.Sink AnswersRecover IsAnswerToRecover script.old script.new out.old out.new result }
 {
-    let bytes = match read_all(alloc, script) {
+    let bytes = match read_input(alloc, script) {
         Ok(bytes) => bytes,
-        Err(ReadFault::Failed) => return Detail::Read,
-        Err(ReadFault::NoMemory) => return Detail::NoMemory,
+        Err(detail) => return detail,
     };
     let recovered = match recover_owned(alloc, bytes) {
         Ok(recovered) => recovered,
