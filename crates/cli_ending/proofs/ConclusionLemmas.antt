@@ -6,7 +6,7 @@ use Rattle.log_disk.specs.declared.sink.Sink.{Ghosts as SinkGhosts}
 use Rattle.log_disk.specs.Streams.{AppendsPart}
 use Rattle.log_recovery.specs.Text.{rows_text}
 use Rattle.cli_shared.specs.declared.report.Detail.{Detail}
-use Rattle.cli_shared.specs.declared.report.Detail.TheVariants.{Fine, NoMemory, Usage, Script, Read, Write, Disk, NotALog, BadSnapshot, BadBatch, BadRec, Unlawful, LogEnd, TxnEnd, Exists, NoSuchLsn, BadStream, Gap, StreamUnlawful, NoAccount}
+use Rattle.cli_shared.specs.declared.report.Detail.TheVariants.{Fine, Write, Disk, LogEnd}
 use Rattle.cli_ending.specs.declared.conclusion.Ended.{Ended}
 use Rattle.cli_ending.specs.Ending.{Concludes, NothingStopped, StoppedAs, closed_text}
 
@@ -16,31 +16,17 @@ pub concludes-stopped : {K : Type 0} (h : SinkGhosts K) (ended : Ended) (text : 
 concludes-stopped h ended text sink Disk is = (is, refl)
 concludes-stopped h ended text sink Write is = inl (is, refl)
 concludes-stopped h ended text sink (LogEnd tail total) is = (is, refl)
-concludes-stopped h ended text sink Fine is = absurd is
-concludes-stopped h ended text sink NoMemory is = absurd is
-concludes-stopped h ended text sink Usage is = absurd is
-concludes-stopped h ended text sink (Script line) is = absurd is
-concludes-stopped h ended text sink Read is = absurd is
-concludes-stopped h ended text sink NotALog is = absurd is
-concludes-stopped h ended text sink BadSnapshot is = absurd is
-concludes-stopped h ended text sink (BadBatch offset) is = absurd is
-concludes-stopped h ended text sink (BadRec lsn) is = absurd is
-concludes-stopped h ended text sink (Unlawful lsn why) is = absurd is
-concludes-stopped h ended text sink (TxnEnd first count) is = absurd is
-concludes-stopped h ended text sink Exists is = absurd is
-concludes-stopped h ended text sink (NoSuchLsn lsn) is = absurd is
-concludes-stopped h ended text sink (BadStream offset) is = absurd is
-concludes-stopped h ended text sink (Gap have from) is = absurd is
-concludes-stopped h ended text sink (StreamUnlawful lsn why) is = absurd is
-concludes-stopped h ended text sink (NoAccount account) is = absurd is
+concludes-stopped h ended text sink why is = absurd is
 
 -- where nothing stopped them it writes the text that ends where the table was closed, or a part of it
-pub concludes-fine : {K : Type 0} (h : SinkGhosts K) (ended : Ended) (old new : K) (lsn : ℕ) (accounts : Accounts) → accounts ≡ ended.closed.accounts
-    → NothingStopped ended → Appends (h.held_bytes old) (h.held_bytes new) (rows_text lsn accounts.rows) → lsn ≡ ended.closed.tail
+pub concludes-fine : {K : Type 0} (h : SinkGhosts K) (ended : Ended) (old new : K) (lsn : ℕ) (accounts : Accounts)
+    → accounts ≡ ended.closed.accounts → NothingStopped ended
+    → Appends (h.held_bytes old) (h.held_bytes new) (rows_text lsn accounts.rows) → lsn ≡ ended.closed.tail
     → Concludes h ended (closed_text ended) old new Fine
 concludes-fine h ended old new lsn accounts accounts_are none written end_is = (none, rw (end_is, accounts_are) at written)
 
-pub concludes-write : {K : Type 0} (h : SinkGhosts K) (ended : Ended) (old new : K) (lsn : ℕ) (accounts : Accounts) → accounts ≡ ended.closed.accounts
-    → NothingStopped ended → AppendsPart (h.held_bytes old) (h.held_bytes new) (rows_text lsn accounts.rows) → lsn ≡ ended.closed.tail
+pub concludes-write : {K : Type 0} (h : SinkGhosts K) (ended : Ended) (old new : K) (lsn : ℕ) (accounts : Accounts)
+    → accounts ≡ ended.closed.accounts → NothingStopped ended
+    → AppendsPart (h.held_bytes old) (h.held_bytes new) (rows_text lsn accounts.rows) → lsn ≡ ended.closed.tail
     → Concludes h ended (closed_text ended) old new Write
 concludes-write h ended old new lsn accounts accounts_are none written end_is = inr (none, rw (end_is, accounts_are) at written)

@@ -1,6 +1,7 @@
 -- What the program answers once the transfers of a run have ended. `h` is what a sink shows.
 use Rattle.std.specs.Prelude.{◌≡◌, ◌⊎◌, ℕ, List, ◌∷◌, ◌++◌, All, Some, None}
 use Rattle.std.specs.Io.KnownBytes.{Appends}
+use Rattle.log_disk.specs.Faults.{CountsWhere}
 use Rattle.log_disk.specs.Streams.{AppendsPart}
 use Rattle.log_disk.specs.declared.sink.Sink.{Ghosts as SinkGhosts}
 use Rattle.log_recovery.specs.Text.{rows_text}
@@ -20,6 +21,10 @@ AreWhole ends = All (λ end. end ≡ worked.All) ends
 -- no worker read a stop word
 abbrev pub NoneStopped : List Worked → Type 0
 NoneStopped ends = All (λ end. (word : ℕ) → end ≡ worked.Cut (cause.Stop word) → ⊥) ends
+
+-- without a fault of the daemon none did: nothing else stops a worker then but the end of the log
+abbrev pub MayConclude : Ended → Type 0
+MayConclude ended = ended.fault ≡ None → NoneStopped ended.ends.items
 
 -- the lowest worker that did not come to the end of the queue was cut off: it found no room for so many units behind this tail
 pub record IsFirstLogEnd (ends : List Worked) (tail total : ℕ) : Type 0 where
@@ -48,11 +53,16 @@ Concludes h ended text old new (LogEnd tail total) = StoppedAs ended (LogEnd tai
 Concludes h ended text old new Fine = NothingStopped ended × Appends (h.held_bytes old) (h.held_bytes new) text
 Concludes h ended text old new detail = ⊥
 
+-- it was concluded, and one fault of the sink is counted just where that text was not written whole
+pub record HasConcluded {K : Type 0} (h : SinkGhosts K) (ended : Ended) (text : List ℕ) (old new : K) (detail : Detail) : Type 0 where
+  pub concludes : Concludes h ended text old new detail
+  pub write : CountsWhere ((detail ≡ Write) × (ended.fault ≡ None)) (h.faults old) (h.faults new)
+
 -- the text of the accounts of the closed table
 abbrev pub closed_text : Ended → List ℕ
 closed_text ended = rows_text ended.closed.tail ended.closed.accounts.rows
 
 -- the summary of so many transfers: what the daemon counted of them, and the accounts of the closed table
 abbrev pub counted_text : ℕ → Ended → List ℕ
-counted_text transfers ended =
-    summary_of (record { transfers = transfers; done = ended.done; refused = ended.refused; lsn = ended.closed.tail }) ended.closed.accounts.rows
+counted_text transfers ended = summary_of
+    (record { transfers = transfers; done = ended.done; refused = ended.refused; lsn = ended.closed.tail }) ended.closed.accounts.rows

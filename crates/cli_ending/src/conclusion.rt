@@ -1,7 +1,7 @@
 //! How the transfers of a run ended, and what the program answers then.
-ghost use Rattle.std.specs.Prelude.{◌≡◌, ◌≤◌, IfSome, IfNone, None};
-ghost use Rattle.log_disk.specs.Faults.{CountsWhere};
-ghost use Rattle.cli_ending.specs.Ending.{AreWhole, Concludes, IsFirstLogEnd, NoneStopped, NothingStopped, StoppedAs, closed_text};
+
+ghost use Rattle.std.specs.Prelude.{◌≡◌, ◌≤◌, IfSome, IfNone};
+ghost use Rattle.cli_ending.specs.Ending.{AreWhole, HasConcluded, IsFirstLogEnd, MayConclude, NoneStopped, NothingStopped, StoppedAs, closed_text};
 
 use cli_shared::Detail;
 use commit_pipeline::DaemonFault;
@@ -24,9 +24,8 @@ pub struct Ended {
 
 /// What the program answers once the transfers have ended. Where nothing befell them it writes the accounts text.
 pub fn conclude<K: Sink>(ended: &Ended, out: &mut K) -> Detail
-    requires { ended.now.fault ≡ None → NoneStopped ended.now.ends.items }
-    ensures concludes { Concludes K.Sink ended.now (closed_text ended.now) out.old out.new result }
-    ensures write { CountsWhere ((result ≡ Detail.Write) × (ended.now.fault ≡ None)) (K.faults out.old) (K.faults out.new) }
+    requires { MayConclude ended.now }
+    ensures { HasConcluded K.Sink ended.now (closed_text ended.now) out.old out.new result }
 {
     if let Some(why) = stopped(ended) {
         return why;
@@ -39,7 +38,7 @@ pub fn conclude<K: Sink>(ended: &Ended, out: &mut K) -> Detail
 
 /// Why the transfers were stopped, if they were: what befell the daemon, or else the end of the log.
 pub fn stopped(ended: &Ended) -> Option<Detail>
-    requires { ended.now.fault ≡ None → NoneStopped ended.now.ends.items }
+    requires { MayConclude ended.now }
     ensures some { IfSome result (StoppedAs ended.now) }
     ensures none { IfNone result (NothingStopped ended.now) }
 {

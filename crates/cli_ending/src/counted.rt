@@ -1,7 +1,8 @@
-ghost use Rattle.std.specs.Prelude.{◌≡◌, ◌≤◌, length, None};
-ghost use Rattle.log_disk.specs.Faults.{CountsWhere};
+//! What the program answers of transfers that were counted and not told.
+
+ghost use Rattle.std.specs.Prelude.{◌≡◌, ◌≤◌, length};
 ghost use Rattle.log_record.specs.declared.limits.TheConstants.{MOST_ACCOUNTS};
-ghost use Rattle.cli_ending.specs.Ending.{Concludes, NoneStopped, counted_text};
+ghost use Rattle.cli_ending.specs.Ending.{HasConcluded, MayConclude, counted_text};
 
 use crate::conclusion::{Ended, stopped};
 use cli_shared::Detail;
@@ -11,10 +12,9 @@ use run_summary::{Counts, put_summary};
 /// What the program answers once so many transfers, which were counted and not told, have ended. Where nothing befell them it writes their
 /// summary.
 pub fn conclude_counted<K: Sink>(ended: &Ended, transfers: u32, out: &mut K) -> Detail
-    requires stopped { ended.now.fault ≡ None → NoneStopped ended.now.ends.items }
+    requires stopped { MayConclude ended.now }
     requires few { length ended.now.closed.accounts.rows ≤ MOST_ACCOUNTS }
-    ensures concludes { Concludes K.Sink ended.now (counted_text transfers ended.now) out.old out.new result }
-    ensures write { CountsWhere ((result ≡ Detail.Write) × (ended.now.fault ≡ None)) (K.faults out.old) (K.faults out.new) }
+    ensures { HasConcluded K.Sink ended.now (counted_text transfers ended.now) out.old out.new result }
 {
     if let Some(detail) = stopped(ended) {
         return detail;
