@@ -11,23 +11,30 @@ use Rattle.log_recovery.proofs.OpenedLemmas.{some-accounts, few-held, balance-he
 use Rattle.log_rule.specs.declared.start.Start.{Start}
 use Rattle.log_rule.specs.Opening.{HasAccounts}
 
-pub has-accounts : (bytes : List ℕ) (opened : Recovered) (recovers : Recovers opened bytes) (key : Start) → key.accounts ≡ opened.accounts
-    → key.start ≡ opened.lsn → HasAccounts key
-has-accounts bytes opened recovers key same start =
-    let list = recovers.list in
-    let base = base_in list in
-    let rows : key.accounts.rows ≡ opened.accounts.rows = λ i. (same i).rows in
-    let count : length key.accounts.rows ≡ base.accounts = ap length rows ∙ recovers.accounts.count in
-    let shown : (account : ℕ) → account < base.accounts
-    → row key.accounts.rows account ≡ (balance_of base (placed list) account, last_commit_of base (placed list) account) =
-    λ account below. ap (λ rs. row rs account) rows
-    ∙ get_or_from_slice_get opened.accounts.rows account _ (0, 0) (recovers.accounts.each account below) in
-    record {
-      some_accounts = omega (arith, count, some-accounts bytes list recovers.held);
-      few = omega (arith, count, few-held bytes list recovers.held);
-      balances = λ account inside. let below : account < base.accounts = omega (arith, count, inside) in
-          subst (λ r. IsBalance r.0) (sym (shown account below)) (balance-held bytes list recovers.held account below);
-      marks = λ account inside. let below : account < base.accounts = omega (arith, count, inside) in
-          let last = ap (λ r. r.1) (shown account below) in
-          omega (arith, last, start, recovers.lsn, last-held bytes list recovers.held account);
-    }
+module _ (bytes : List ℕ) (opened : Recovered) (recovers : Recovers opened bytes) (key : Start) (same : key.accounts ≡ opened.accounts)
+    (start : key.start ≡ opened.lsn) where
+  rows-same : key.accounts.rows ≡ opened.accounts.rows
+  rows-same = λ i. (same i).rows
+
+  count-same : length key.accounts.rows ≡ (base_in recovers.list).accounts
+  count-same = ap length rows-same ∙ recovers.accounts.count
+
+  -- each row is the balance and the last commit of its account
+  row-shown : (account : ℕ) → account < (base_in recovers.list).accounts → row key.accounts.rows account
+      ≡ (
+        balance_of (base_in recovers.list) (placed recovers.list) account,
+        last_commit_of (base_in recovers.list) (placed recovers.list) account,
+      )
+  row-shown account below = ap (λ rows. row rows account) rows-same
+      ∙ get_or_from_slice_get opened.accounts.rows account _ (0, 0) (recovers.accounts.each account below)
+
+  pub has-accounts : HasAccounts key
+  has-accounts = record {
+    some_accounts = omega (arith, count-same, some-accounts bytes recovers.list recovers.held);
+    few = omega (arith, count-same, few-held bytes recovers.list recovers.held);
+    balances = λ account inside. let below : account < (base_in recovers.list).accounts = omega (arith, count-same, inside) in
+        subst (λ r. IsBalance r.0) (sym (row-shown account below)) (balance-held bytes recovers.list recovers.held account below);
+    marks = λ account inside. let below : account < (base_in recovers.list).accounts = omega (arith, count-same, inside) in
+        let last = ap (λ r. r.1) (row-shown account below) in
+        omega (arith, last, start, recovers.lsn, last-held bytes recovers.list recovers.held account);
+  }

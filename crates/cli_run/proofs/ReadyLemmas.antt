@@ -11,13 +11,14 @@ use Rattle.log_disk.specs.declared.disk.LogDisk.{Ghosts}
 use Rattle.log_disk.proofs.Moments.{Leaves-trans, Leaves-weaken}
 use Rattle.log_record.specs.declared.limits.TheConstants.{LAST_TXN}
 use Rattle.lock_core.specs.Sums.{ShowsAccounts}
+use Rattle.log_recovery.specs.declared.recovery.RecoverFault.{RecoverFault}
 use Rattle.log_recovery.specs.declared.recovery.RecoverFault.TheVariants as fault
 use Rattle.log_recovery.specs.Opened.{OpenedList, log_of, placed, base_in}
 use Rattle.log_recovery.specs.Recovery.{HoldsLawful, IsFaultOf}
 use Rattle.log_recovery.proofs.OpenedLemmas.{list-range, some-accounts}
 use Rattle.cli_shared.specs.Opening.{most_calls}
 use Rattle.cli_shared.specs.declared.report.Detail.{Detail}
-use Rattle.cli_shared.specs.declared.report.Detail.TheVariants.{Fine, NoMemory, Usage, Script, Read, Write, Disk, NotALog, BadSnapshot, BadBatch, BadRec, Unlawful, LogEnd, TxnEnd, Exists, NoSuchLsn, BadStream, Gap, StreamUnlawful, NoAccount}
+use Rattle.cli_shared.specs.declared.report.Detail.TheVariants.{NoMemory, Script, Read, Disk, NotALog, BadSnapshot, BadBatch, BadRec, Unlawful}
 use Rattle.log_recovery.specs.declared.recovery.Recovered.{Recovered}
 use Rattle.log_rule.specs.declared.start.Start.{Start}
 use Rattle.log_table.specs.Seats.{key_of}
@@ -30,11 +31,11 @@ use Rattle.job_queue.specs.Passes.{jobs_of, workers_of}
 use Rattle.cli_threads.specs.declared.transfers.Prepared.{Prepared}
 use Rattle.cli_threads.specs.Prepared.{IsPrepared}
 use Rattle.cli_threads.specs.declared.transfers.ReadyRun.{ReadyRun}
-use Rattle.cli_shared.specs.Opening.{HasOpeningFault, OnlyLooks, Opens}
-use Rattle.cli_run.specs.RunAnswers.{AnswersRun, AreAsked, accounts_of, next_txn}
+use Rattle.cli_shared.specs.Opening.{HasOpeningFault, MayHold, OnlyLooks, Opens}
+use Rattle.cli_run.specs.RunAnswers.{AnswersRun, AreAsked, RunsOutOfNumbers, accounts_of, next_txn}
 use Rattle.cli_shared.specs.Outside.{OnlyReads, OnlySettles, HoldsAsRead, outside}
 use Rattle.cli_run.specs.RunReady.{HasRead, IsPreparedFor, IsReadyFor}
-use Rattle.cli_shared.specs.Scripts.{HasNoScript, HasNoTransfers, IsWholeScript}
+use Rattle.cli_shared.specs.Scripts.{HasNoScript, HasNoTransfers, IsWholeScript, NumbersEnd}
 use Rattle.cli_threads.specs.Transferred.{IsOpened}
 
 pub keeps-refl : (text : Option (List ℕ)) → Keeps text text
@@ -57,53 +58,32 @@ module _ {D : Type 0} (g : Ghosts D) (old mid : D) where
     }
 
     module _ (options : RunOptions) where
+      abbrev Answers : Detail → Type 0
+      Answers detail = AnswersRun g options (outside old left text) (outside mid left_new text) detail
+
+      -- a read gave bytes that have this fault
+      faulty : (f : RecoverFault) (bytes : List ℕ) → MayHold g old bytes → IsFaultOf bytes f → g.honest old
+          → OnlyReads g (outside old left text) (outside mid left_new text) × IsFaultOf (g.reads old) f
+      faulty f bytes read is honest = (only-reads, subst (λ b. IsFaultOf b f) (read honest) is)
+
       -- the log was not opened
-      pub answers-opening : (detail : Detail) → HasOpeningFault g old detail → g.honest old
-          → AnswersRun g options (outside old left text) (outside mid left_new text) detail
-      answers-opening NotALog has honest = (only-reads, subst (λ bytes. IsFaultOf bytes fault.NotALog) (has.1 honest) has.2)
-      answers-opening BadSnapshot has honest = (only-reads, subst (λ bytes. IsFaultOf bytes fault.BadSnapshot) (has.1 honest) has.2)
-      answers-opening (BadBatch offset) has honest = (only-reads, subst (λ bytes. IsFaultOf bytes (fault.BadBatch offset)) (has.1 honest) has.2)
-      answers-opening (BadRec lsn) has honest = (only-reads, subst (λ bytes. IsFaultOf bytes (fault.BadRec lsn)) (has.1 honest) has.2)
-      answers-opening (Unlawful lsn why) has honest = (only-reads, subst (λ bytes. IsFaultOf bytes (fault.Unlawful lsn why)) (has.1 honest) has.2)
-      answers-opening Disk has honest = inl only-settles
-      answers-opening NoMemory has honest = only-reads
-      answers-opening Fine has honest = absurd has.2
-      answers-opening Usage has honest = absurd has.2
-      answers-opening (Script line) has honest = absurd has.2
-      answers-opening Read has honest = absurd has.2
-      answers-opening Write has honest = absurd has.2
-      answers-opening (LogEnd tail total) has honest = absurd has.2
-      answers-opening (TxnEnd first count) has honest = absurd has.2
-      answers-opening Exists has honest = absurd has.2
-      answers-opening (NoSuchLsn lsn) has honest = absurd has.2
-      answers-opening (BadStream offset) has honest = absurd has.2
-      answers-opening (Gap have from) has honest = absurd has.2
-      answers-opening (StreamUnlawful lsn why) has honest = absurd has.2
-      answers-opening (NoAccount account) has honest = absurd has.2
+      pub answers-opening : (detail : Detail) → HasOpeningFault g old detail → g.honest old → Answers detail
+      answers-opening NotALog has = faulty fault.NotALog has.0 has.1 has.2
+      answers-opening BadSnapshot has = faulty fault.BadSnapshot has.0 has.1 has.2
+      answers-opening (BadBatch offset) has = faulty (fault.BadBatch offset) has.0 has.1 has.2
+      answers-opening (BadRec lsn) has = faulty (fault.BadRec lsn) has.0 has.1 has.2
+      answers-opening (Unlawful lsn why) has = faulty (fault.Unlawful lsn why) has.0 has.1 has.2
+      answers-opening Disk has = λ honest. inl only-settles
+      answers-opening NoMemory has = λ honest. only-reads
+      answers-opening detail has = absurd has.2
 
       -- the input is no script
       pub answers-script : (opened : OpenedList) (detail : Detail) → HoldsLawful (g.reads old) opened
-          → HasNoScript (accounts_of opened) left left_new detail → AnswersRun g options (outside old left text) (outside mid left_new text) detail
+          → HasNoScript (accounts_of opened) left left_new detail → Answers detail
       answers-script opened (Script line) held has = (only-reads, (opened, held, has))
       answers-script opened Read held has = only-reads
       answers-script opened NoMemory held has = only-reads
-      answers-script opened Fine held has = absurd has
-      answers-script opened Usage held has = absurd has
-      answers-script opened Write held has = absurd has
-      answers-script opened Disk held has = absurd has
-      answers-script opened NotALog held has = absurd has
-      answers-script opened BadSnapshot held has = absurd has
-      answers-script opened (BadBatch offset) held has = absurd has
-      answers-script opened (BadRec lsn) held has = absurd has
-      answers-script opened (Unlawful lsn why) held has = absurd has
-      answers-script opened (LogEnd tail total) held has = absurd has
-      answers-script opened (TxnEnd first count) held has = absurd has
-      answers-script opened Exists held has = absurd has
-      answers-script opened (NoSuchLsn lsn) held has = absurd has
-      answers-script opened (BadStream offset) held has = absurd has
-      answers-script opened (Gap have from) held has = absurd has
-      answers-script opened (StreamUnlawful lsn why) held has = absurd has
-      answers-script opened (NoAccount account) held has = absurd has
+      answers-script opened detail held has = absurd has
 
 module _ {D : Type 0} (g : Ghosts D) (old mid : D) (opened : Recovered) (opens : Opens g opened old mid) where
   abbrev pub list : OpenedList
@@ -131,14 +111,15 @@ module _ {D : Type 0} (g : Ghosts D) (old mid : D) (opened : Recovered) (opens :
     count-settled = Costs-then g 1 2 (most_calls g old) 3 old mid new looks.count count
 
     pub grows-settled : GrowsAtMostTo g (opened.tail.at + 1) mid new → GrowsAtMostTo g (opened.tail.at + 1) old new
-    grows-settled grows = GrowsAtMostTo-trans g (opened.tail.at + 1) old mid new (GrowsAtMostTo-same g (opened.tail.at + 1) old mid looks.reads) grows
+    grows-settled grows = GrowsAtMostTo-trans g (opened.tail.at + 1) old mid new
+        (GrowsAtMostTo-same g (opened.tail.at + 1) old mid looks.reads) grows
 
     -- the file that a read gave goes on at the tail
     pub stands-read : g.honest old → g.images mid (g.reads mid) → LogStandsAt opened.tail (log_of list) (g.reads old)
     stands-read honest image = subst (LogStandsAt opened.tail (log_of list)) looks.reads (opens.stand honest (g.reads mid) image)
 
-    pub settles : g.honest old → g.images mid (g.reads mid) → GrowsAtMostTo g (opened.tail.at + 1) mid new → (left left_new text : Option (List ℕ))
-        → OnlySettles g (outside old left text) (outside new left_new text)
+    pub settles : g.honest old → g.images mid (g.reads mid) → GrowsAtMostTo g (opened.tail.at + 1) mid new
+        → (left left_new text : Option (List ℕ)) → OnlySettles g (outside old left text) (outside new left_new text)
     settles honest image grows left left_new text = record {
       silent = keeps-refl text;
       images = Leaves-weaken g.moment g.images_since (λ bytes. g.images old bytes ⊎ HoldsLawful bytes list)
@@ -148,26 +129,30 @@ module _ {D : Type 0} (g : Ghosts D) (old mid : D) (opened : Recovered) (opens :
       grows = inr (opened.tail, log_of list, stands-read honest image, grows-settled grows);
     }
 
+  -- the transfers of the input have no numbers
+  numbers-end : g.honest old → (left left_new text : Option (List ℕ)) (detail : Detail)
+      → (end : NumbersEnd (length opened.accounts.rows) opened.next_txn left left_new detail)
+      → RunsOutOfNumbers g opened.next_txn (length end.jobs) (outside old left text) (outside mid left_new text)
+  numbers-end honest left left_new text detail end = record {
+    opened = list;
+    held = held-read honest;
+    jobs = end.jobs;
+    script = subst (λ n. IsWholeScript n left left_new end.jobs) opens.recovers.accounts.count end.script;
+    first_is = opens.recovers.next_txn;
+    count_is = refl;
+    past = end.past;
+  }
+
   -- the input gives no transfers that have numbers
-  pub answers-transfers : OnlyLooks g old mid → g.honest old → (options : RunOptions) (left left_new text : Option (List ℕ)) (detail : Detail)
-      → HasNoTransfers (length opened.accounts.rows) opened.next_txn left left_new detail
+  pub answers-transfers : OnlyLooks g old mid → g.honest old → (options : RunOptions) (left left_new text : Option (List ℕ))
+      → (detail : Detail) → HasNoTransfers (length opened.accounts.rows) opened.next_txn left left_new detail
       → AnswersRun g options (outside old left text) (outside mid left_new text) detail
   answers-transfers looks honest options left left_new text detail (inl none) =
       answers-script g old mid looks left left_new text options list detail (held-read honest)
       (subst (λ n. HasNoScript n left left_new detail) opens.recovers.accounts.count none)
   answers-transfers looks honest options left left_new text detail (inr end) =
-      subst (AnswersRun g options (outside old left text) (outside mid left_new text)) (sym end.detail_is) (
-        only-reads g old mid looks left left_new text,
-        record {
-          opened = list;
-          held = held-read honest;
-          jobs = end.jobs;
-          script = subst (λ n. IsWholeScript n left left_new end.jobs) opens.recovers.accounts.count end.script;
-          first_is = opens.recovers.next_txn;
-          count_is = refl;
-          past = end.past;
-        },
-      )
+      subst (AnswersRun g options (outside old left text) (outside mid left_new text)) (sym end.detail_is)
+      (only-reads g old mid looks left left_new text, numbers-end honest left left_new text detail end)
 
   module _ (options : RunOptions) (script : List Job) (prepared : Prepared) (is : IsPreparedFor options opened script prepared) where
     pub asked-prepared : (left left_new : Option (List ℕ)) → IsWholeScript (length opened.accounts.rows) left left_new script
@@ -207,41 +192,57 @@ module _ {D : Type 0} (g : Ghosts D) (old mid new : D) (opened : Recovered) (scr
   abbrev list-read : OpenedList
   list-read = has.opens.recovers.list
 
-  pub ready-settled : (g.honest old → Leaves g.moment g.images_since (λ c. HoldsLog c (log_of list-read)) mid new)
-      → (g.honest old → LogStands opened.tail (log_of list-read) (g.images new)) → (g.honest old → IsShut opened.tail.at (g.images new))
-      → (g.honest old → GrowsAtMostTo g (opened.tail.at + 1) mid new) → (g.honest old → Costs g 2 3 mid new)
-      → (g.honest old → g.images mid (g.reads mid)) → (g.honest new → g.honest old) → IsReadyFor g options old new left left_new ready
-  ready-settled moments stand shut grows count image honest_new = record {
-    opened = list-read;
-    held = held-read g old mid opened has.opens;
-    log = opened-prepared g old mid opened has.opens options script ready.prepared prepared new ready.tail tail stand shut honest_new;
-    asked = asked-prepared g old mid opened has.opens options script ready.prepared prepared left left_new has.whole has.numbered;
-    workers_are = prepared.workers_are;
-    ring = prepared.ring;
-    slots = prepared.slots;
-    prepared = prepared.ready;
-    images = λ honest. leaves-settled g old mid opened has.opens new (has.looks honest) (moments honest) (count honest);
-    count = λ honest. count-settled g old mid opened has.opens new (has.looks honest) (moments honest) (count honest);
-    stands = λ honest. subst (λ (t : Tail). LogStandsAt t (log_of list-read) (g.reads old)) (sym tail)
-        (stands-read g old mid opened has.opens new (has.looks honest) (moments honest) (count honest) honest (image honest));
-    grows = λ honest. subst (λ (t : Tail). GrowsAtMostTo g (t.at + 1) old new) (sym tail)
-        (grows-settled g old mid opened has.opens new (has.looks honest) (moments honest) (count honest) (grows honest));
+  module _ (moments : g.honest old → Leaves g.moment g.images_since (λ c. HoldsLog c (log_of list-read)) mid new)
+      (stand : g.honest old → LogStands opened.tail (log_of list-read) (g.images new))
+      (shut : g.honest old → IsShut opened.tail.at (g.images new))
+      (grows : g.honest old → GrowsAtMostTo g (opened.tail.at + 1) mid new) (count : g.honest old → Costs g 2 3 mid new)
+      (image : g.honest old → g.images mid (g.reads mid)) (honest_new : g.honest new → g.honest old) where
+    stands-ready : g.honest old → LogStandsAt ready.tail (log_of list-read) (g.reads old)
+    stands-ready honest = subst (λ (t : Tail). LogStandsAt t (log_of list-read) (g.reads old)) (sym tail)
+        (stands-read g old mid opened has.opens new (has.looks honest) (moments honest) (count honest) honest (image honest))
+
+    grows-ready : g.honest old → GrowsAtMostTo g (ready.tail.at + 1) old new
+    grows-ready honest = subst (λ (t : Tail). GrowsAtMostTo g (t.at + 1) old new) (sym tail)
+        (grows-settled g old mid opened has.opens new (has.looks honest) (moments honest) (count honest) (grows honest))
+
+    pub ready-settled : IsReadyFor g options old new left left_new ready
+    ready-settled = record {
+      opened = list-read;
+      held = held-read g old mid opened has.opens;
+      log = opened-prepared g old mid opened has.opens options script ready.prepared prepared new ready.tail tail stand shut honest_new;
+      asked = asked-prepared g old mid opened has.opens options script ready.prepared prepared left left_new has.whole has.numbered;
+      workers_are = prepared.workers_are;
+      ring = prepared.ring;
+      slots = prepared.slots;
+      prepared = prepared.ready;
+      images = λ honest. leaves-settled g old mid opened has.opens new (has.looks honest) (moments honest) (count honest);
+      count = λ honest. count-settled g old mid opened has.opens new (has.looks honest) (moments honest) (count honest);
+      stands = stands-ready;
+      grows = grows-ready;
+    }
+
+module _ (options : RunOptions) (opened : Recovered) (script : List Job) (start : Start) where
+  -- what was asked for
+  prepared-ok : (p : Prepared) → start.start ≡ opened.lsn → start.accounts ≡ opened.accounts → start.ring ≡ options.ring
+      → start.slots ≡ options.slots → workers_of p.jobs ≡ options.workers → p.jobs.queue.script ≡ script
+      → p.jobs.queue.first ≡ opened.next_txn → key_of p.table ≡ start → IsPrepared p → IsPreparedFor options opened script p
+  prepared-ok p from accounts ring slots workers_are script_is first key ready = record {
+    start = ap (λ (k : Start). k.start) key ∙ from;
+    accounts = ap (λ (k : Start). k.accounts) key ∙ accounts;
+    ring = ap (λ (k : Start). k.ring) key ∙ ring;
+    slots = ap (λ (k : Start). k.slots) key ∙ slots;
+    script_is = script_is;
+    first = first;
+    workers_are = workers_are;
+    ready = ready;
   }
 
--- what was asked for, if there was memory for it
-pub prepared-of : (options : RunOptions) (opened : Recovered) (script : List Job) (start : Start) {workers : ℕ} (made : Result Prepared Wanting)
-    → start.start ≡ opened.lsn → start.accounts ≡ opened.accounts → start.ring ≡ options.ring → start.slots ≡ options.slots → workers ≡ options.workers
-    → IfOk made (λ p. p.jobs.queue.script ≡ script) → IfOk made (λ p. p.jobs.queue.first ≡ opened.next_txn)
-    → IfOk made (λ p. workers_of p.jobs ≡ workers) → IfOk made (λ p. key_of p.table ≡ start) → IfOk made IsPrepared
-    → IfOk made (IsPreparedFor options opened script)
-prepared-of options opened script start (Err none) from accounts ring slots workers script_is first workers_are key ready = tt
-prepared-of options opened script start (Ok prepared) from accounts ring slots workers script_is first workers_are key ready = record {
-  start = ap (λ (k : Start). k.start) key ∙ from;
-  accounts = ap (λ (k : Start). k.accounts) key ∙ accounts;
-  ring = ap (λ (k : Start). k.ring) key ∙ ring;
-  slots = ap (λ (k : Start). k.slots) key ∙ slots;
-  script_is = script_is;
-  first = first;
-  workers_are = workers_are ∙ workers;
-  ready = ready;
-}
+  -- if there was memory for it
+  pub prepared-of : {workers : ℕ} (made : Result Prepared Wanting) → start.start ≡ opened.lsn → start.accounts ≡ opened.accounts
+      → start.ring ≡ options.ring → start.slots ≡ options.slots → workers ≡ options.workers
+      → IfOk made (λ p. p.jobs.queue.script ≡ script) → IfOk made (λ p. p.jobs.queue.first ≡ opened.next_txn)
+      → IfOk made (λ p. workers_of p.jobs ≡ workers) → IfOk made (λ p. key_of p.table ≡ start) → IfOk made IsPrepared
+      → IfOk made (IsPreparedFor options opened script)
+  prepared-of (Err none) from accounts ring slots workers_is script_is first workers_are key ready = tt
+  prepared-of (Ok p) from accounts ring slots workers_is script_is first workers_are key ready =
+      prepared-ok p from accounts ring slots (workers_are ∙ workers_is) script_is first key ready

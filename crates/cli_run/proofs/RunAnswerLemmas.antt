@@ -6,6 +6,7 @@ use Rattle.std.specs.Io.KnownBytes.{Appends}
 use Rattle.command_line.specs.declared.options.RunOptions.{RunOptions}
 use Rattle.log_disk.proofs.Counting.{Costs-more, Costs-then}
 use Rattle.log_disk.proofs.Lengths.{GrowsAtMostTo-more, GrowsAtMostTo-trans}
+use Rattle.log_disk.specs.Costs.{Costs}
 use Rattle.log_disk.specs.Disk.{Leaves}
 use Rattle.log_disk.specs.Lengths.{GrowsAtMostTo}
 use Rattle.log_disk.specs.Streams.{AppendsPrefix, AppendsPart}
@@ -26,15 +27,15 @@ use Rattle.commit_pipeline.specs.EndLines.{end_lines}
 use Rattle.end_lines.specs.declared.voice.Voice.TheVariants.{Lines}
 use Rattle.cli_shared.specs.Opening.{most_calls}
 use Rattle.cli_shared.specs.declared.report.Detail.{Detail}
-use Rattle.cli_shared.specs.declared.report.Detail.TheVariants.{Fine, NoMemory, Usage, Script, Read, Write, Disk, NotALog, BadSnapshot, BadBatch, BadRec, Unlawful, LogEnd, TxnEnd, Exists, NoSuchLsn, BadStream, Gap, StreamUnlawful, NoAccount}
+use Rattle.cli_shared.specs.declared.report.Detail.TheVariants.{Fine, Read, Write, Disk, LogEnd}
 use Rattle.cli_threads.specs.declared.transfers.ReadyRun.{ReadyRun}
 use Rattle.cli_ending.specs.declared.conclusion.Ended.{Ended}
-use Rattle.cli_ending.specs.Ending.{Concludes, closed_text}
+use Rattle.cli_ending.specs.Ending.{AreWhole, Concludes, IsFirstLogEnd, closed_text}
 use Rattle.cli_threads.specs.Ending.{HasEnded}
-use Rattle.cli_threads.specs.Run.{GoesOn, HoldsRun, RunIsDrained}
+use Rattle.cli_threads.specs.Run.{HoldsRun, RunIsDrained, RunKeepsLog}
 use Rattle.cli_threads.specs.RunStops.{StopsAtLogEnd}
 use Rattle.cli_threads.specs.Sharing.{IsSharedOut, Sharing}
-use Rattle.cli_run.specs.RunAnswers.{AnswersRun, HoldsTold, IsAnswerToRun, Ran, RanOut, RanShort, RunStaysSilent, run_text}
+use Rattle.cli_run.specs.RunAnswers.{AnswersRun, HoldsTold, IsAnswerToRun, Ran, RanIntoEnd, RanOut, RanShort, RanWhole, RunStaysSilent, run_text}
 use Rattle.cli_shared.specs.Outside.{Outside, outside}
 use Rattle.cli_run.specs.RunReady.{IsBeforeRun, IsReadyFor}
 use Rattle.cli_run.proofs.ReadyLemmas.{keeps-refl}
@@ -47,9 +48,11 @@ accounts_text-some list =
     let lines = account_lines (balance_of (base_in list) (placed list)) (base_in list).accounts in
     omega (arith, length-append (lsn_line (list_end list)) lines, lsn_line-some (list_end list))
 
-module _ {D : Type 0} {K : Type 0} (g : Ghosts D) (h : SinkGhosts K) (options : RunOptions) (ready : ReadyRun) {wait : Bool} (entry disk disk_new : D)
-    (left left_new : Option (List ℕ)) (sink sink_mid sink_new : K) (ended : Ended) (is : IsReadyFor g options entry disk left left_new ready)
-    (has : HasEnded g h ready.prepared is.opened ready.tail Lines wait disk disk_new sink sink_mid ended) (honest : g.honest entry) (honest_mid : g.honest disk) where
+module _ {D : Type 0} {K : Type 0} (g : Ghosts D) (h : SinkGhosts K) (options : RunOptions) (ready : ReadyRun) {wait : Bool}
+    (entry disk disk_new : D) (left left_new : Option (List ℕ)) (sink sink_mid sink_new : K) (ended : Ended)
+    (is : IsReadyFor g options entry disk left left_new ready)
+    (has : HasEnded g h ready.prepared is.opened ready.tail Lines wait disk disk_new sink sink_mid ended)
+    (honest : g.honest entry) (honest_mid : g.honest disk) where
   abbrev opened : OpenedList
   opened = is.opened
 
@@ -69,26 +72,41 @@ module _ {D : Type 0} {K : Type 0} (g : Ghosts D) (h : SinkGhosts K) (options : 
   abbrev new : Outside D
   new = outside disk_new left_new (h.held_bytes sink_new)
 
+  -- the size of the ring that the table has
+  abbrev ring : ℕ
+  ring = (key_of ready.prepared.table).ring
+
+  -- what the transfers left of the log
+  keeps : RunKeepsLog g Lines opened jobs taken records ready.tail.at ring disk disk_new (h.held_bytes sink) (h.held_bytes sink_mid)
+  keeps = keeps-ended g h ready.prepared opened Lines disk disk_new sink sink_mid ended has
+
   images-ran : Leaves g.moment g.images_since (λ bytes. g.images entry bytes ⊎ HoldsRun opened jobs taken records bytes) entry disk_new
   images-ran = images-begun g disk ready.tail opened jobs taken _ is.log records (g.images entry) entry disk_new (is.images honest)
-      ((keeps-ended g h ready.prepared opened Lines disk disk_new sink sink_mid ended has).moments honest_mid)
+      (keeps.moments honest_mid)
 
-  goes_on-ran : GoesOn opened jobs taken (with_records opened records)
-  goes_on-ran = (keeps-ended g h ready.prepared opened Lines disk disk_new sink sink_mid ended has).goes_on
+  shared-ran : IsSharedOut options.workers jobs taken
+  shared-ran = subst (λ n. IsSharedOut n jobs taken) is.workers_are
+      (shared-ended g h ready.prepared opened Lines disk disk_new sink sink_mid ended has)
 
   -- the file was settled first, and then grew as the transfers let it
-  grows-ran : (front : List Rec) → GrowsAtMostTo g (most_end ready.tail.at (end_of front) (key_of ready.prepared.table).ring) disk disk_new
+  grows-ran : (front : List Rec) → GrowsAtMostTo g (most_end ready.tail.at (end_of front) ring) disk disk_new
       → GrowsAtMostTo g (most_end ready.tail.at (end_of front) options.ring) entry disk_new
   grows-ran front grows =
       let place : ℕ = most_end ready.tail.at (end_of front) options.ring in
       GrowsAtMostTo-trans g place entry disk disk_new
       (GrowsAtMostTo-more g (ready.tail.at + 1) place entry disk (omega arith) (is.grows honest))
-      (GrowsAtMostTo-more g (most_end ready.tail.at (end_of front) (key_of ready.prepared.table).ring) place disk disk_new (omega (arith, is.ring)) grows)
+      (GrowsAtMostTo-more g (most_end ready.tail.at (end_of front) ring) place disk disk_new (omega (arith, is.ring)) grows)
 
-  abbrev ran : (kept : (image : List ℕ) → g.images disk_new image → HoldsTold g opened jobs taken records old new image)
-      → ((image : List ℕ) (left_image : g.images disk_new image)
-      → GrowsAtMostTo g (most_end ready.tail.at (end_of (kept image left_image).run.front) (key_of ready.prepared.table).ring) disk disk_new)
-      → Ran g options old new
+  -- what was counted before the transfers and in them
+  count-ran : (most : ℕ) → Costs g most most disk disk_new → Costs g (3 + most) (most_calls g entry + 3 + most) entry disk_new
+  count-ran most count = Costs-then g 3 most (most_calls g entry + 3) most entry disk disk_new (is.count honest) count
+
+  -- each image that is left holds what was told
+  abbrev AllTold : Type 0
+  AllTold = (image : List ℕ) → g.images disk_new image → HoldsTold g opened jobs taken records old new image
+
+  abbrev ran : (kept : AllTold) → ((image : List ℕ) (left_image : g.images disk_new image)
+      → GrowsAtMostTo g (most_end ready.tail.at (end_of (kept image left_image).run.front) ring) disk disk_new) → Ran g options old new
   ran kept grows = record {
     opened = opened;
     held = is.held honest;
@@ -97,30 +115,29 @@ module _ {D : Type 0} {K : Type 0} (g : Ghosts D) (h : SinkGhosts K) (options : 
     jobs = jobs;
     asked = is.asked;
     sharing = taken;
-    shared = subst (λ n. IsSharedOut n jobs taken) is.workers_are
-        (shared-ended g h ready.prepared opened Lines disk disk_new sink sink_mid ended has);
+    shared = shared-ran;
     list = records;
-    goes_on = goes_on-ran;
+    goes_on = keeps.goes_on;
     images = images-ran;
     kept = kept;
     grows = λ image left_image. grows-ran (kept image left_image).run.front (grows image left_image);
   }
 
   -- where the daemon failed, it wrote a front of the lines of each image's list
-  abbrev ran-cut : sink_new ≡ sink_mid → Ran g options old new
-  ran-cut same = ran (λ image left_image.
-      let kept = (keeps-ended g h ready.prepared opened Lines disk disk_new sink sink_mid ended has).left honest_mid image left_image in
-      let count = is.count honest in
+  abbrev told-cut : sink_new ≡ sink_mid → AllTold
+  told-cut same image left_image =
+      let kept = keeps.left honest_mid image left_image in
       record {
         run = kept.run;
         told = subst (λ text. AppendsPrefix (h.held_bytes sink) text (run_text opened kept.run.front)) (sym (ap h.held_bytes same))
             (AppendsPrefix-first (h.held_bytes sink) (h.held_bytes sink_mid) (run_text opened kept.run.front)
             (end_lines (list_end opened) kept.run.front) (accounts_text (with_records opened kept.run.front)) kept.text refl);
         count = Costs-more g _ _ _ _ entry disk_new (omega arith) (omega arith)
-            (Costs-then g 3 (4 * length kept.run.front + 4) (most_calls g entry + 3) (4 * length kept.run.front + 4) entry disk disk_new count kept.count);
-      })
-      (λ image left_image.
-      ((keeps-ended g h ready.prepared opened Lines disk disk_new sink sink_mid ended has).left honest_mid image left_image).grows)
+            (count-ran (4 * length kept.run.front + 4) kept.count);
+      }
+
+  abbrev ran-cut : sink_new ≡ sink_mid → Ran g options old new
+  ran-cut same = ran (told-cut same) (λ image left_image. (keeps.left honest_mid image left_image).grows)
 
   -- the lines of a list are never all of its text
   lines-short : (texts texts_new : Option (List ℕ)) (list : List Rec) → AppendsPrefix texts texts_new (end_lines (list_end opened) list)
@@ -128,7 +145,8 @@ module _ {D : Type 0} {K : Type 0} (g : Ghosts D) (h : SinkGhosts K) (options : 
   lines-short texts texts_new list written = (
     written.0,
     written.1 ++ accounts_text (with_records opened list),
-    ap (λ lines. lines ++ accounts_text (with_records opened list)) written.2 ∙ append_assoc written.0 written.1 (accounts_text (with_records opened list)),
+    ap (λ lines. lines ++ accounts_text (with_records opened list)) written.2
+        ∙ append_assoc written.0 written.1 (accounts_text (with_records opened list)),
     written.3,
     omega (arith, length-append written.1 (accounts_text (with_records opened list)), accounts_text-some (with_records opened list)),
   )
@@ -138,34 +156,32 @@ module _ {D : Type 0} {K : Type 0} (g : Ghosts D) (h : SinkGhosts K) (options : 
   ran-failed same = record {
     ran = ran-cut same;
     short = λ image left_image.
-        let kept = (keeps-ended g h ready.prepared opened Lines disk disk_new sink sink_mid ended has).left honest_mid image left_image in
+        let kept = keeps.left honest_mid image left_image in
         subst (λ text. AppendsPart (h.held_bytes sink) text (run_text opened kept.run.front)) (sym (ap h.held_bytes same))
         (lines-short (h.held_bytes sink) (h.held_bytes sink_mid) kept.run.front kept.text);
   }
 
   module _ (fine : ended.fault ≡ None) where
-    drained : RunIsDrained g Lines opened records ready.tail.at (key_of ready.prepared.table).ring disk disk_new (h.held_bytes sink)
-        (h.held_bytes sink_mid) ended.closed.tail ended.closed.accounts.rows
+    drained : RunIsDrained g Lines opened records ready.tail.at ring disk disk_new (h.held_bytes sink) (h.held_bytes sink_mid)
+        ended.closed.tail ended.closed.accounts.rows
     drained = drained-ended g h ready.prepared opened Lines disk disk_new sink sink_mid ended has fine
 
     -- else each image holds the whole list, of whose text a front was written
+    abbrev told-drained : AppendsPrefix (h.held_bytes sink) (h.held_bytes sink_new) (run_text opened records) → AllTold
+    told-drained told image left_image = record {
+      run = record {
+        front = records;
+        rest = [];
+        whole = sym (append-nil records);
+        holds = drained.images honest_mid image left_image;
+        goes_on = keeps.goes_on;
+      };
+      told = told;
+      count = Costs-more g _ _ _ _ entry disk_new (omega arith) (omega arith) (count-ran (4 * length records) (drained.count honest_mid));
+    }
+
     abbrev ran-drained : AppendsPrefix (h.held_bytes sink) (h.held_bytes sink_new) (run_text opened records) → Ran g options old new
-    ran-drained told = ran (λ image left_image.
-        let count = is.count honest in
-        let writes = drained.count honest_mid in
-        record {
-          run = record {
-            front = records;
-            rest = [];
-            whole = sym (append-nil records);
-            holds = drained.images honest_mid image left_image;
-            goes_on = goes_on-ran;
-          };
-          told = told;
-          count = Costs-more g _ _ _ _ entry disk_new (omega arith) (omega arith)
-              (Costs-then g 3 (4 * length records) (most_calls g entry + 3) (4 * length records) entry disk disk_new count writes);
-        })
-        (λ image left_image. drained.grows honest_mid)
+    ran-drained told = ran (told-drained told) (λ image left_image. drained.grows honest_mid)
 
     abbrev out : (told : AppendsPrefix (h.held_bytes sink) (h.held_bytes sink_new) (run_text opened records)) → RanOut g options old new
     out told = record { ran = ran-drained told; all = drained.images honest_mid }
@@ -190,75 +206,56 @@ module _ {D : Type 0} {K : Type 0} (g : Ghosts D) (h : SinkGhosts K) (options : 
 
     told-whole : Appends (h.held_bytes sink_mid) (h.held_bytes sink_new) (rows_text ended.closed.tail ended.closed.accounts.rows)
         → Appends (h.held_bytes sink) (h.held_bytes sink_new) (run_text opened records)
-    told-whole text = Appends-trans (h.held_bytes sink) (h.held_bytes sink_mid) (h.held_bytes sink_new) (end_lines (list_end opened) records)
-        (accounts_text (with_records opened records)) drained.text (rw (← drained.accounts) text)
+    told-whole text = Appends-trans (h.held_bytes sink) (h.held_bytes sink_mid) (h.held_bytes sink_new)
+        (end_lines (list_end opened) records) (accounts_text (with_records opened records)) drained.text (rw (← drained.accounts) text)
 
     told-lines : sink_new ≡ sink_mid → Appends (h.held_bytes sink) (h.held_bytes sink_new) (end_lines (list_end opened) records)
-    told-lines same = subst (λ text. Appends (h.held_bytes sink) text (end_lines (list_end opened) records)) (sym (ap h.held_bytes same)) drained.text
+    told-lines same =
+        subst (λ text. Appends (h.held_bytes sink) text (end_lines (list_end opened) records)) (sym (ap h.held_bytes same)) drained.text
 
-  pub answers-concluded : (detail : Detail) → Concludes h ended (closed_text ended) sink_mid sink_new detail → AnswersRun g options old new detail
-  answers-concluded = by-conclusion h ended (closed_text ended) sink_mid sink_new (AnswersRun g options old new) (λ said. inr (ran-failed said.1))
-      (λ said. ran-failed said.1) (λ said. ran-short said.0.0 said.1)
-      (λ said. let text = told-whole said.0.0 said.1 in record {
-        out = out said.0.0 (run_text opened records, [], sym (append-nil (run_text opened records)), text);
-        whole = whole-ended g h ready.prepared opened Lines disk disk_new sink sink_mid ended has said.0.1;
-        text = text;
-      })
-      (λ tail total said. let text = told-lines said.0.0 said.1 in record {
-        out = out said.0.0 (end_lines (list_end opened) records, accounts_text (with_records opened records), refl, text);
-        stops = subst (λ (made : ℕ × ℕ). StopsAtLogEnd opened jobs taken records made.0 made.1 tail total) (λ i. (is.ring i, is.slots i))
-            (stops-ended g h ready.prepared opened Lines disk disk_new sink sink_mid ended has said.0.0 tail total said.0.1);
-        text = text;
-      })
+    -- nothing stopped the transfers, and all of the text was written
+    whole-ran : AreWhole ended.ends.items
+        → Appends (h.held_bytes sink_mid) (h.held_bytes sink_new) (rows_text ended.closed.tail ended.closed.accounts.rows)
+        → RanWhole g options old new
+    whole-ran all written = let text = told-whole written in record {
+      out = out (run_text opened records, [], sym (append-nil (run_text opened records)), text);
+      whole = whole-ended g h ready.prepared opened Lines disk disk_new sink sink_mid ended has all;
+      text = text;
+    }
+
+    -- the log ended, and the lines were written
+    into-end : (tail total : ℕ) → IsFirstLogEnd ended.ends.items tail total → sink_new ≡ sink_mid → RanIntoEnd g options tail total old new
+    into-end tail total first same = let text = told-lines same in record {
+      out = out (end_lines (list_end opened) records, accounts_text (with_records opened records), refl, text);
+      stops = subst (λ (made : ℕ × ℕ). StopsAtLogEnd opened jobs taken records made.0 made.1 tail total) (λ i. (is.ring i, is.slots i))
+          (stops-ended g h ready.prepared opened Lines disk disk_new sink sink_mid ended has fine tail total first);
+      text = text;
+    }
+
+  pub answers-concluded : (detail : Detail) → Concludes h ended (closed_text ended) sink_mid sink_new detail
+      → AnswersRun g options old new detail
+  answers-concluded = by-conclusion h ended (closed_text ended) sink_mid sink_new (AnswersRun g options old new)
+      (λ said. inr (ran-failed said.1)) (λ said. ran-failed said.1) (λ said. ran-short said.0.0 said.1)
+      (λ said. whole-ran said.0.0 said.0.1 said.1) (λ tail total said. into-end said.0.0 tail total said.0.1 said.1)
 
 -- ---- what is promised of each answer besides
 
--- the answers that come before any transfer are answers of `run`, and nothing is written then
+-- the answers that come before any transfer are answers of `run`
 pub range-before : (detail : Detail) → IsBeforeRun detail → IsAnswerToRun detail
-range-before NoMemory before = tt
-range-before (Script line) before = tt
-range-before Read before = tt
-range-before Disk before = tt
-range-before NotALog before = tt
-range-before BadSnapshot before = tt
-range-before (BadBatch offset) before = tt
-range-before (BadRec lsn) before = tt
-range-before (Unlawful lsn why) before = tt
-range-before (TxnEnd first count) before = tt
-range-before Fine before = absurd before
-range-before Usage before = absurd before
-range-before Write before = absurd before
-range-before (LogEnd tail total) before = absurd before
-range-before Exists before = absurd before
-range-before (NoSuchLsn lsn) before = absurd before
-range-before (BadStream offset) before = absurd before
-range-before (Gap have from) before = absurd before
-range-before (StreamUnlawful lsn why) before = absurd before
-range-before (NoAccount account) before = absurd before
+range-before Fine before = tt
+range-before Write before = tt
+range-before (LogEnd tail total) before = tt
+range-before detail before = before
 
-pub silent-before : (text : Option (List ℕ)) (detail : Detail) → IsBeforeRun detail → RunStaysSilent text text detail
-silent-before text NoMemory before = keeps-refl text
-silent-before text (Script line) before = keeps-refl text
-silent-before text Read before = keeps-refl text
-silent-before text Disk before = tt
-silent-before text NotALog before = keeps-refl text
-silent-before text BadSnapshot before = keeps-refl text
-silent-before text (BadBatch offset) before = keeps-refl text
-silent-before text (BadRec lsn) before = keeps-refl text
-silent-before text (Unlawful lsn why) before = keeps-refl text
-silent-before text (TxnEnd first count) before = keeps-refl text
-silent-before text Fine before = absurd before
-silent-before text Usage before = absurd before
-silent-before text Write before = absurd before
-silent-before text (LogEnd tail total) before = absurd before
-silent-before text Exists before = absurd before
-silent-before text (NoSuchLsn lsn) before = absurd before
-silent-before text (BadStream offset) before = absurd before
-silent-before text (Gap have from) before = absurd before
-silent-before text (StreamUnlawful lsn why) before = absurd before
-silent-before text (NoAccount account) before = absurd before
+-- where nothing was written, all that has to stay silent did
+pub silent-before : (text : Option (List ℕ)) (detail : Detail) → RunStaysSilent text text detail
+silent-before text Fine = tt
+silent-before text (LogEnd tail total) = tt
+silent-before text Write = tt
+silent-before text Disk = tt
+silent-before text detail = keeps-refl text
 
--- none of them is a fault of the output
+-- no answer that comes before any transfer is a fault of the output
 pub write-before : (detail : Detail) → IsBeforeRun detail → detail ≡ Write → ⊥
 write-before detail before is = subst IsBeforeRun is before
 
@@ -267,8 +264,10 @@ module _ {K : Type 0} (h : SinkGhosts K) (ended : Ended) (text : List ℕ) (sink
   pub range-concluded : (detail : Detail) → Concludes h ended text sink sink_new detail → IsAnswerToRun detail
   range-concluded = by-conclusion h ended text sink sink_new IsAnswerToRun (λ _. tt) (λ _. tt) (λ _. tt) (λ _. tt) (λ _ _ _. tt)
 
-  pub silent-concluded : (old new : Option (List ℕ)) (detail : Detail) → Concludes h ended text sink sink_new detail → RunStaysSilent old new detail
-  silent-concluded old new = by-conclusion h ended text sink sink_new (RunStaysSilent old new) (λ _. tt) (λ _. tt) (λ _. tt) (λ _. tt) (λ _ _ _. tt)
+  pub silent-concluded : (old new : Option (List ℕ)) (detail : Detail) → Concludes h ended text sink sink_new detail
+      → RunStaysSilent old new detail
+  silent-concluded old new =
+      by-conclusion h ended text sink sink_new (RunStaysSilent old new) (λ _. tt) (λ _. tt) (λ _. tt) (λ _. tt) (λ _ _ _. tt)
 
   pub read-concluded : (detail : Detail) → Concludes h ended text sink sink_new detail → detail ≡ Read → ⊥
   read-concluded detail concludes is = subst (Concludes h ended text sink sink_new) is concludes

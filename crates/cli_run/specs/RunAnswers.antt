@@ -48,8 +48,8 @@ pub record AreAsked (opened : OpenedList) (left left_new : Option (List ℕ)) (j
   pub numbered : jobs.first + length jobs.script ≤ LAST_TXN
 
 -- The image holds the opened list and a front of what the run inserted. What was written is a prefix of the text of the image's list, so
--- each commit that was told is in it. At most 4 writes and syncs succeeded for each record of the front, and 7 more, and of calls at most as
--- many beside those that the opening took.
+-- each commit that was told is in it. At most 4 writes and syncs succeeded for each record of the front, and 7 more, and of calls at most
+-- as many beside those that the opening took.
 pub record HoldsTold {D : Type 0} (g : Ghosts D) (opened : OpenedList) (jobs : NumberedJobs) (sharing : Sharing) (list : List Rec)
     (old new : Outside D) (image : List ℕ) : Type 0 where
   pub run : HoldsRun opened jobs sharing list image

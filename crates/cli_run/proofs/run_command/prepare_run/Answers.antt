@@ -10,5 +10,5 @@ pub returns : goal.returns
 returns g c =
     let made = c.prepare.ensures in
     let plan = c.plan_of_run-plan.ensures in
-    prepared-of c.args.options.now c.args.opened c.args.script _ c.prepare.result refl refl plan.ring plan.slots plan.workers made.script made.first
-    made.workers made.key made.prepared
+    prepared-of c.args.options.now c.args.opened c.args.script _ c.prepare.result refl refl plan.ring plan.slots plan.workers made.script
+    made.first made.workers made.key made.prepared

@@ -16,11 +16,12 @@ returns-in-Err g c =
     record {
       done = record {
         answer = λ honest. said.none honest c.args.options.now (g.K.Sink.held_bytes c.args.out.now);
-        silent = silent-before _ c.in-Err.detail said.range;
+        silent = silent-before _ c.in-Err.detail;
         range = range-before c.in-Err.detail said.range;
         attached = said.attached;
       };
-      faults = told-before g.D.LogDisk g.S.Source g.K.Sink _ _ c.in-Err.detail (write-before c.in-Err.detail said.range) said.read refl said.disk said.honest;
+      faults = told-before g.D.LogDisk g.S.Source g.K.Sink _ _ c.in-Err.detail (write-before c.in-Err.detail said.range) said.read refl
+          said.disk said.honest;
     }
 
 pub returns-in_default : goal.returns-in_default
@@ -49,9 +50,9 @@ returns-in_default-settle g c =
     record {
       done = record {
         answer = λ honest. let honest_mid = said.honest.0 honest in let log = log_of opens.recovers.list in
-            inl (settles g.D.LogDisk c.args.disk.now c.open_and_read.new.disk c.in-Ok.read.0 opens c.settle.new.disk (said.opened.looks honest)
-            (settled.moments honest_mid log (opens.stand honest)) (settled.count honest_mid) honest (g.met.D.LogDisk.read_is_image _ honest_mid)
-            (settled.length honest_mid) _ _ _);
+            inl (settles g.D.LogDisk c.args.disk.now c.open_and_read.new.disk c.in-Ok.read.0 opens c.settle.new.disk
+            (said.opened.looks honest) (settled.moments honest_mid log (opens.stand honest)) (settled.count honest_mid) honest
+            (g.met.D.LogDisk.read_is_image _ honest_mid) (settled.length honest_mid) _ _ _);
         silent = tt;
         range = tt;
         attached = λ honest. inr (settled.attached ∙ said.attached honest);
@@ -65,22 +66,25 @@ returns-in_default-settle g c =
     }
 
 -- the transfers are ready to be made
-ready : (g : _) (c : In-Ok-settle g) → IsReadyFor g.D.LogDisk c.args.options.now c.args.disk.now c.settle.new.disk (g.S.Source.left c.args.script.now)
-    (g.S.Source.left c.open_and_read.new.script) (record { prepared = c.in-Ok-prepare_run.prepared; tail = c.in-Ok-settle.tail })
+ready : (g : _) (c : In-Ok-settle g) → IsReadyFor g.D.LogDisk c.args.options.now c.args.disk.now c.settle.new.disk
+    (g.S.Source.left c.args.script.now) (g.S.Source.left c.open_and_read.new.script)
+    (record { prepared = c.in-Ok-prepare_run.prepared; tail = c.in-Ok-settle.tail })
 ready g c =
     let said = c.in-Ok.ensures in
     let opens = said.opened.opens in
     let log = log_of opens.recovers.list in
     let settled = c.in-Ok-settle.ensures in
     ready-settled g.D.LogDisk c.args.disk.now c.open_and_read.new.disk c.settle.new.disk c.in-Ok.read.0 c.in-Ok.read.1 _ _ said.opened
-    (record { prepared = c.in-Ok-prepare_run.prepared; tail = c.in-Ok-settle.tail }) c.args.options.now c.in-Ok-prepare_run.ensures settled.tail
+    (record { prepared = c.in-Ok-prepare_run.prepared; tail = c.in-Ok-settle.tail }) c.args.options.now c.in-Ok-prepare_run.ensures
+    settled.tail
     (λ honest. settled.moments (said.honest.0 honest) log (opens.stand honest))
     (λ honest. settled.stand (said.honest.0 honest) log (opens.stand honest)) (λ honest. settled.shut (said.honest.0 honest))
     (λ honest. settled.length (said.honest.0 honest)) (λ honest. settled.count (said.honest.0 honest))
     (λ honest. g.met.D.LogDisk.read_is_image _ (said.honest.0 honest)) (λ honest. said.honest.1 (settled.honest.1 honest))
 
 pub finish-requires-clause-opened : goal.finish-requires-clause-opened
-finish-requires-clause-opened g c = λ κs within. let is = ready g (goal.at.finish-requires-clause-opened g c).In-Ok-settle in (is.opened, is.log)
+finish-requires-clause-opened g c = λ κs within.
+    let is = ready g (goal.at.finish-requires-clause-opened g c).In-Ok-settle in (is.opened, is.log)
 
 pub returns : goal.returns
 returns g c =
@@ -90,8 +94,9 @@ returns g c =
     let settled = c.in-Ok-settle.ensures in
     record {
       done = record {
-        answer = λ honest. answers-concluded g.D.LogDisk g.K.Sink _ (record { prepared = c.in-Ok-prepare_run.prepared; tail = c.in-Ok-settle.tail }) _ _ _ _ _ _ _ _ _ is
-            done.has honest (settled.honest.0 (said.honest.0 honest)) c.finish.result done.concludes;
+        answer = λ honest. answers-concluded g.D.LogDisk g.K.Sink _
+            (record { prepared = c.in-Ok-prepare_run.prepared; tail = c.in-Ok-settle.tail }) _ _ _ _ _ _ _ _ _ is done.has honest
+            (settled.honest.0 (said.honest.0 honest)) c.finish.result done.concludes;
         silent = silent-concluded g.K.Sink done.ended _ _ _ _ _ c.finish.result done.concludes;
         range = range-concluded g.K.Sink done.ended _ _ _ c.finish.result done.concludes;
         attached = λ honest. leaves-attached _ _ _ c.finish.result
