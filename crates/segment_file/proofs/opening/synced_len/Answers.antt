@@ -10,14 +10,14 @@ returns-clause-settles g c =
     let told = c.len.ensures in
     record {
       settled = λ honest. IfOk-each _ c.len.result (λ len crash left.
-          synced.settled honest crash ((told.keeps.image crash).0 left)
-          ∙ sym (told.keeps.file (synced.honest.0 honest) ∙ synced.reads honest));
-      reads = λ honest. told.keeps.file (synced.honest.0 honest) ∙ synced.reads honest;
-      images = λ crash left. synced.images crash ((told.keeps.image crash).0 left);
+          synced.does.settled honest crash ((told.does.keeps.image crash).0 left)
+          ∙ sym (told.does.keeps.file (synced.honest.0 honest) ∙ synced.does.reads honest));
+      reads = λ honest. told.does.keeps.file (synced.honest.0 honest) ∙ synced.does.reads honest;
+      images = λ crash left. synced.does.images crash ((told.does.keeps.image crash).0 left);
       moments = Leaves-trans g.D.LogDisk.moment g.D.LogDisk.images_since _ _ _ _
-          (Leaves-call g.D.LogDisk.moment g.D.LogDisk.images_since g.D.LogDisk.images _ _ _ synced.time synced.images)
+          (Leaves-call g.D.LogDisk.moment g.D.LogDisk.images_since g.D.LogDisk.images _ _ _ synced.time synced.does.images)
           (Leaves-call g.D.LogDisk.moment g.D.LogDisk.images_since g.D.LogDisk.images _ _ _ told.time
-          (λ crash left. synced.images crash ((told.keeps.image crash).0 left)));
+          (λ crash left. synced.does.images crash ((told.does.keeps.image crash).0 left)));
     }
 
 pub returns-clause-uses : goal.returns-clause-uses
@@ -26,7 +26,7 @@ returns-clause-uses g c =
     let told = c.len.ensures in
     record {
       count = λ honest. record {
-        successes = omega (arith, synced.count honest, told.keeps.count (synced.honest.0 honest));
+        successes = omega (arith, synced.does.count honest, told.does.keeps.count (synced.honest.0 honest));
         calls = omega (arith, synced.calls honest, told.calls (synced.honest.0 honest));
       };
       later = omega (arith, synced.time.later, told.time.later);
