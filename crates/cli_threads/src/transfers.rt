@@ -241,8 +241,8 @@ fn run_crew<'a, R: Threads + Wait + Clock + Sync, D: LogDisk, K: Sink, G: Gate +
     requires shut { D.honest outside.disk.now → IsShut tail.at (D.images outside.disk.now) }
     requires next { tail.next ≡ (key_of table.now).start }
     requires place { tail.at ≤ 2 ^ 63 + 16 * tail.next }
-    ensures turned { IsSomeAnd served.new (HasTurned D.LogDisk K.Sink table.now jobs.old.queue (length refused.now) wait tail voice crew.boss
-        outside.entry.disk.now result.disk.now outside.entry.out.now result.out.now) }
+    ensures turned { IsSomeAnd served.new (HasTurned D.LogDisk K.Sink table.now jobs.old.queue (length refused.now) wait
+        tail voice crew.boss outside.entry.disk.now result.disk.now outside.entry.out.now result.out.now) }
     ensures disk { result.disk.ghost_name ≡ outside.entry.disk.ghost_name }
     ensures out { result.out.ghost_name ≡ outside.entry.out.ghost_name }
 {

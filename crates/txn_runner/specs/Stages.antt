@@ -4,20 +4,22 @@ use Rattle.lock_core.specs.History.{end_from}
 use Rattle.lock_core.specs.Transactions.{recs_of, has_end}
 use Rattle.lock_core.specs.Transfers.{IsAllowedJob}
 use Rattle.lock_core.specs.declared.job.Job.{Job}
+use Rattle.log_table.specs.declared.table.LogTable.{LogTable}
 use Rattle.log_table.specs.declared.table.Seat.{Seat}
 use Rattle.log_rule.specs.declared.view.Books.{Books}
 use Rattle.log_rule.specs.declared.view.Call.TheVariants.{Idle}
 use Rattle.log_rule.specs.declared.view.View.{View}
 use Rattle.log_rule.specs.Accounts.{MayBeTaken}
 use Rattle.log_rule.specs.Books.{taking_job}
-use Rattle.log_table.specs.Seats.{view_of}
-use Rattle.ring_buffer.specs.Calls.{IsSameWorker, HasEntries}
+use Rattle.log_table.specs.Seats.{IsOf, view_of}
+use Rattle.ring_buffer.specs.Calls.{IsReady, IsSameWorker, HasEntries}
 use Rattle.job_queue.specs.declared.queue.Queue.{Queue}
 use Rattle.job_queue.specs.declared.rows.Rows.{Rows}
 use Rattle.job_queue.specs.Passes.{HasPassOf, TakesPlace, TakesMark, jobs_of, marks_in, places_in}
 use Rattle.txn_jobs.specs.declared.cause.Cause.{Cause}
 use Rattle.txn_parts.specs.declared.desk.Desk.{Desk}
 use Rattle.txn_parts.specs.declared.holding.Holding.{Holding}
+pub use Rattle.txn_parts.specs.declared.relief.Relief.{Ghosts}
 use Rattle.txn_jobs.specs.declared.rows.Row.{Row}
 use Rattle.txn_parts.specs.declared.ended.Ended.{Ended}
 use Rattle.txn_making.specs.Endings.{release_at}
@@ -25,6 +27,12 @@ use Rattle.txn_making.specs.Holdings.{IsKnown, IsUnchanged, GoesBack, HoldsAll, 
 use Rattle.txn_making.specs.Legs.{HoldsJob}
 use Rattle.txn_runner.specs.Running.{HasRun, HasCut}
 use Rattle.txn_runner.specs.Working.{HasRoomForRows, HasWorked}
+
+-- this seat is the table's, enrolled, and has nothing under way, and this relief may be asked to rest
+pub record IsWorker {Q : Type 0} (g : Ghosts Q) (table : LogTable) (own : Seat) (rests : Q) : Type 0 where
+  pub seat : IsOf table own
+  pub ready : IsReady (view_of own)
+  pub relief : g.ready rests
 
 -- The next transfer may be taken: no account is held, the table allows each transfer of the queue, the rows' pass is of this queue and may
 -- take a place or its mark, and the seat has worked the places that it took.

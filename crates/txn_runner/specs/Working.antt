@@ -158,13 +158,13 @@ pub record AddsRows (jobs : NumberedJobs) (before after : List ℕ) (wait : Bool
   pub each : EachHasRow taken worked added
 
 -- What the work of a worker comes to, by its rows before and after.
-pub record HasDone (queue : Queue) (wait : Bool) (worked : Worked) (rows_old rows_new : Rows) (old new : View) : Type 0 where
+pub record HasDone (queue : Queue) (wait : Bool) (result : Worked) (rows_old rows_new : Rows) (old new : View) : Type 0 where
   pub none_held : new.books.held ≡ []
   pub pass : HasPassOf queue rows_new
-  pub has_worked : HasWorked (jobs_of queue) (places_in rows_new) new
+  pub worked : HasWorked (jobs_of queue) (places_in rows_new) new
   pub kept : KeepsEntries old new
   pub given : KeepsGiven old new
   pub jobs : TakesJobs (jobs_of queue) (places_in rows_old) (places_in rows_new) old new
-  pub works : Works (jobs_of queue) (places_in rows_old) (places_in rows_new) wait worked new
-  pub all : EndsByMark worked rows_new
-  pub rows : AddsRows (jobs_of queue) (places_in rows_old) (places_in rows_new) wait worked rows_old rows_new old new
+  pub works : Works (jobs_of queue) (places_in rows_old) (places_in rows_new) wait result new
+  pub all : EndsByMark result rows_new
+  pub rows : AddsRows (jobs_of queue) (places_in rows_old) (places_in rows_new) wait result rows_old rows_new old new

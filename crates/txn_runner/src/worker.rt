@@ -1,13 +1,9 @@
 //! A worker: the transfers that it takes of the queue, one after another.
-ghost use Rattle.std.specs.Prelude.{◌≡◌, ◌<◌, [], All};
-ghost use Rattle.lock_core.specs.Transfers.{IsAllowedJob};
-ghost use Rattle.log_table.specs.Seats.{IsOf, view_of};
-ghost use Rattle.ring_buffer.specs.Calls.{IsReady, IsSameWorker};
-ghost use Rattle.txn_making.specs.Holdings.{KeepsGiven};
-ghost use Rattle.job_queue.specs.Passes.{HasPassOf, jobs_of, marks_in, places_in};
+ghost use Rattle.log_table.specs.Seats.{view_of};
+ghost use Rattle.ring_buffer.specs.Calls.{IsSameWorker};
 ghost use Rattle.txn_parts.specs.Desk.{IsAtWork, WorksOn, view_at, accounts_at};
-ghost use Rattle.txn_runner.specs.Stages.{MayWork};
-ghost use Rattle.txn_runner.specs.Working.{AddsRows, EndsByMark, HasDone, HasRoomForRows, HasWorked, KeepsEntries, TakesJobs, Works};
+ghost use Rattle.txn_runner.specs.Stages.{IsWorker, MayWork};
+ghost use Rattle.txn_runner.specs.Working.{HasDone};
 
 use crate::job::run_job;
 use crate::taking::begin_job;
@@ -35,32 +31,12 @@ pub fn work<'a, R: Wait, Q: Relief, G: Gate>(
     wait: bool,
     gate: &'a G,
 ) -> Worked
-    requires seat { IsOf table.now seat.old }
-    requires ready { IsReady (view_of seat.old) }
-    requires none_held { (view_of seat.old).books.held ≡ [] }
-    requires allowed { All (IsAllowedJob table.now.accounts) queue.now.script }
-    requires pass { HasPassOf queue.now rows.old }
-    requires mark { marks_in rows.old ≡ [] }
-    requires worked { HasWorked (jobs_of queue.now) (places_in rows.old) (view_of seat.old) }
-    requires room { HasRoomForRows (jobs_of queue.now) rows.old }
-    requires relief { Q.ready relief.old }
-    ensures seat { IsOf table.now seat.new }
-    ensures ready { IsReady (view_of seat.new) }
-    ensures none_held { (view_of seat.new).books.held ≡ [] }
+    requires worker { IsWorker Q.Relief table.now seat.old relief.old }
+    requires may { MayWork table.now.accounts queue.now rows.old (view_of seat.old) }
+    ensures worker { IsWorker Q.Relief table.now seat.new relief.new }
     ensures same { IsSameWorker seat.old seat.new }
-    ensures pass { HasPassOf queue.now rows.new }
-    ensures worked { HasWorked (jobs_of queue.now) (places_in rows.new) (view_of seat.new) }
-    ensures kept { KeepsEntries (view_of seat.old) (view_of seat.new) }
-    ensures given { KeepsGiven (view_of seat.old) (view_of seat.new) }
-    ensures jobs { TakesJobs (jobs_of queue.now) (places_in rows.old) (places_in rows.new)
-        (view_of seat.old) (view_of seat.new) }
-    ensures works { Works (jobs_of queue.now) (places_in rows.old) (places_in rows.new)
-        wait result (view_of seat.new) }
-    ensures all { EndsByMark result rows.new }
-    ensures rows { AddsRows (jobs_of queue.now) (places_in rows.old) (places_in rows.new)
-        wait result rows.old rows.new (view_of seat.old) (view_of seat.new) }
-    ensures relief { Q.ready relief.new }
     ensures later { Q.later relief.old relief.new }
+    ensures done { HasDone queue.now wait result rows.old rows.new (view_of seat.old) (view_of seat.new) }
 {
     let mut desk = Desk {
         rt,

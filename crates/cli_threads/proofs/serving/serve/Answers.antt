@@ -9,17 +9,29 @@ use Rattle.cli_threads.proofs.WaitedLemmas.{HaveWaited-worked}
 use Rattle.cli_threads.proofs.ServedLemmas.{HasDone, HasDone-left, IsOf-left, ended-left, view-left}
 use Rattle.cli_threads.proofs.serving.serve.Goals as goal
 
-pub work-worked-requires-clause-worked : goal.work-worked-requires-clause-worked
-work-worked-requires-clause-worked g c =
+pub work-worked-requires-clause-worker : goal.work-worked-requires-clause-worker
+work-worked-requires-clause-worker g c =
+    record { seat = c.requires.hired.seat; ready = c.requires.hired.ready; relief = c.requires.relief }
+
+pub work-worked-requires-clause-may : goal.work-worked-requires-clause-may
+work-worked-requires-clause-may g c =
     let hired = c.requires.hired in
-    let jobs = jobs_of c.args.run.now.queue.now in
-    subst (λ places. HasWorked jobs places (view_of c.args.worker.seat)) (sym hired.fresh.0)
-    (HasWorked-none jobs (view_of c.args.worker.seat) hired.entries (ap (λ (books : Books). books.jobs) hired.books))
+    let jobs = jobs_of c.args.run.now.queue.now in record {
+      next = record {
+        none_held = ap (λ (books : Books). books.held) hired.books;
+        allowed = c.args.run.now.allowed;
+        pass = hired.pass;
+        mark = hired.fresh.1;
+        worked = subst (λ places. HasWorked jobs places (view_of c.args.worker.seat)) (sym hired.fresh.0)
+            (HasWorked-none jobs (view_of c.args.worker.seat) hired.entries (ap (λ (books : Books). books.jobs) hired.books));
+      };
+      room = hired.room;
+    }
 
 pub returns-clause-done : goal.returns-clause-done
 returns-clause-done g c =
     let hired = c.requires.hired in
-    let did = c.work-worked.ensures in
+    let did = c.work-worked.ensures.done in
     let jobs = jobs_of c.args.run.now.queue.now in
     let taken = places_in c.work-worked.new.rows in
     let start = places_in c.args.worker.rows in
@@ -33,7 +45,8 @@ returns-clause-done g c =
     (view_of c.args.worker.seat) new first none did.worked did.jobs did.works in
     let all = subst (HasDone jobs taken worked) (sym left) done in
     record {
-      seat = IsOf-left c.work-worked.new.seat c.leave.new.seat leaves c.args.run.now.table.now did.seat;
+      seat = IsOf-left c.work-worked.new.seat c.leave.new.seat leaves c.args.run.now.table.now
+          c.work-worked.ensures.worker.seat;
       ended = ended-left c.work-worked.new.seat c.leave.new.seat leaves;
       pass = did.pass;
       jobs_are = all.jobs_are;

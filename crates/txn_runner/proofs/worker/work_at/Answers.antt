@@ -128,7 +128,7 @@ returns-in-Some-tell-clause-done g c =
     let stop = stopped g at.In-Some-tell in record {
       none_held = (gone g at.After-run_job-made).none_held;
       pass = still-pass g at.In-Some c.tell.new.self c.tell.ensures.pass;
-      has_worked = stop.worked;
+      worked = stop.worked;
       kept = stop.kept;
       given = stop.given;
       jobs = stop.takes;
@@ -153,7 +153,7 @@ returns-clause-done g c =
     (sym (ap view_of none.seat_is)) record {
       none_held = c.jobs.invariant.none_held;
       pass = c.begin_job.ensures.pass;
-      has_worked = progress.worked;
+      worked = progress.worked;
       kept = progress.kept;
       given = progress.given;
       jobs = progress.takes;
