@@ -1,12 +1,14 @@
 -- Workers of a run, before their work. Each has a number, from 0 on.
-use Rattle.std.specs.Prelude.{◌≡◌, ℕ, ◌+◌, List, [], ◌∷◌, None}
+use Rattle.std.specs.Prelude.{◌≡◌, ℕ, ◌+◌, List, [], ◌∷◌, None, Vec, vec_len}
 use Rattle.log_table.specs.declared.table.LogTable.{LogTable}
+use Rattle.log_table.specs.declared.table.Seat.{Seat}
+use Rattle.log_table.specs.Hiring.{HasHired}
 use Rattle.log_rule.specs.Books.{no_books}
 use Rattle.log_table.specs.Seats.{IsOf, view_of}
 use Rattle.ring_buffer.specs.Calls.{IsReady}
 use Rattle.job_queue.specs.declared.jobs.Jobs.{Jobs}
 use Rattle.job_queue.specs.declared.queue.Queue.{Queue}
-use Rattle.job_queue.specs.Passes.{HasPassOf, IsSameQueue, marks_back, passes_out, places_back}
+use Rattle.job_queue.specs.Passes.{HasFirstPass, HasPassOf, IsSameQueue, marks_back, passes_out, places_back}
 use Rattle.txn_runner.specs.Working.{HasRoomForRows, jobs_of, rows_in, places_in, marks_in}
 use Rattle.cli_workers.specs.declared.workers.Worker.{Worker}
 
@@ -44,3 +46,11 @@ pub record HandsOut (count : ℕ) (old new : Jobs) : Type 0 where
   pub out : passes_out new ≡ passes_out old + count
   pub places : places_back new ≡ places_back old
   pub marks : marks_back new ≡ marks_back old
+
+-- All workers of a run, so many, were hired by this seat, which knows all of them. Each has its pass of the queue.
+pub record HiresAll {Z : Type 0} (table : LogTable) (size : ℕ) (hirer : Seat) (old new : Jobs) (workers : Vec Worker Z) : Type 0 where
+  pub boss : HasHired table size hirer
+  pub jobs : HasFirstPass new
+  pub out : HandsOut size old new
+  pub unused : AreUnused table new.queue workers.items
+  pub count : vec_len workers ≡ size

@@ -1,8 +1,8 @@
 //! Workers of a run, and how each is made.
-ghost use Rattle.std.specs.Prelude.{◌≡◌, ◌+◌, ◌<◌, ◌≤◌, [], ℕ, IfOk, OnOk, length, vec_len};
+ghost use Rattle.std.specs.Prelude.{◌≡◌, ◌+◌, ◌<◌, ◌≤◌, [], ℕ, IfOk, OnOk, length};
 ghost use Rattle.log_table.specs.Hiring.{HasHired};
 ghost use Rattle.job_queue.specs.Passes.{HasFirstPass, marks_back, passes_out, workers_of};
-ghost use Rattle.cli_workers.specs.Workers.{AreUnused, HandsOut, IsUnused};
+ghost use Rattle.cli_workers.specs.Workers.{HandsOut, HiresAll, IsUnused};
 
 use crate::reserving::room_for;
 use log_table::{LogTable, Seat};
@@ -57,11 +57,7 @@ pub fn hire_all(
     requires jobs { HasFirstPass jobs.old }
     requires fresh { (passes_out jobs.old ≡ 0) × (marks_back jobs.old ≡ []) }
     requires count { count ≡ workers_of jobs.old }
-    ensures boss { OnOk result (HasHired table.now count boss.new) }
-    ensures jobs { OnOk result (HasFirstPass jobs.new) }
-    ensures out { OnOk result (HandsOut count jobs.old jobs.new) }
-    ensures unused { IfOk result (λ workers. AreUnused table.now jobs.new.queue workers.items) }
-    ensures count { IfOk result (λ workers. vec_len workers ≡ count) }
+    ensures { IfOk result (HiresAll table.now count boss.new jobs.old jobs.new) }
 {
     let mut workers = room_for(alloc, count)?;
     for number in 0..count {
