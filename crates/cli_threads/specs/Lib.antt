@@ -1,8 +1,10 @@
 pub mod Ending
 pub mod Gathering
+pub mod Making
 pub mod Prepared
 pub mod Run
 pub mod RunStops
+pub mod Serving
 pub mod Shares
 pub mod Sharing
 pub mod Transferred

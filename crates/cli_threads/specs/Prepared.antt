@@ -1,9 +1,11 @@
 -- A run before the first worker has started.
-use Rattle.std.specs.Prelude.{◌≡◌, ℕ, ◌≤◌, Bool, List, [], None, All, length, map, vec_len, vec_capacity}
+use Rattle.std.specs.Prelude.{◌≡◌, ℕ, ◌+◌, ◌*◌, ◌^◌, ◌≤◌, Bool, List, [], None, All, length, map, vec_len, vec_capacity}
 use Rattle.std.specs.List.{AllByRecursion}
 use Rattle.log_disk.specs.declared.disk.LogDisk.{Ghosts}
 use Rattle.log_disk.specs.declared.sink.Sink.{Ghosts as SinkGhosts}
 use Rattle.segment_file.specs.declared.scan_result.Tail.{Tail}
+use Rattle.segment_file.specs.Log.{Log}
+use Rattle.segment_file.specs.Standing.{IsShut, LogStands}
 use Rattle.lock_core.specs.Transfers.{IsAllowedJob}
 use Rattle.log_table.specs.declared.table.LogTable.{LogTable}
 use Rattle.log_table.specs.declared.table.Seat.{Seat}
@@ -59,12 +61,25 @@ pub record AreEnlisted (jobs : Jobs) : Type 0 where
   pub out : passes_out jobs ≡ workers_of jobs
   pub none_back : (places_back jobs ≡ []) × (marks_back jobs ≡ [])
 
--- and the table allows the transfers, and each worker has its flag
+-- the table allows the transfers, and each of so many workers has its pass
+pub record MayBeTaken (table : LogTable) (size : ℕ) (jobs : Jobs) : Type 0 where
+  pub allowed : All (IsAllowedJob table.accounts) jobs.queue.script
+  pub enlisted : AreEnlisted jobs
+  pub flags : size ≡ workers_of jobs
+
+-- The table allows the transfers, each worker has its flag and its pass, and the crew is made for them.
 pub record IsPrepared (prepared : Prepared) : Type 0 where
   pub flags : vec_len prepared.refused ≡ workers_of prepared.jobs
   pub allowed : All (IsAllowedJob prepared.table.accounts) prepared.jobs.queue.script
   pub enlisted : AreEnlisted prepared.jobs
   pub crew : IsCrew prepared.table prepared.jobs.queue (workers_of prepared.jobs) prepared.crew
+
+-- A log stands on the disk up to this tail, where the table begins.
+pub record MayGoOn {D : Type 0} (g : Ghosts D) (tail : Tail) (table : LogTable) (disk : D) : Type 0 where
+  pub stand : g.honest disk → (opened : Log) × LogStands tail opened (g.images disk)
+  pub shut : g.honest disk → IsShut tail.at (g.images disk)
+  pub next : tail.next ≡ (key_of table).start
+  pub place : tail.at ≤ 2 ^ 63 + 16 * tail.next
 
 -- A daemon was made just now over this seat, disk and sink, at this tail, and has counted nothing.
 pub record IsBegun {D : Type 0} {K : Type 0} (g : Ghosts D) (h : SinkGhosts K) (tail : Tail) (voice : Voice) (seat : Seat) (disk : D) (sink : K)

@@ -1,5 +1,5 @@
 -- Workers of a run, once they were started and after their work. Each has a number, from 0 on.
-use Rattle.std.specs.Prelude.{◌≡◌, ℕ, Bool, true, List, [], MatchOption, IsSomeAnd}
+use Rattle.std.specs.Prelude.{◌≡◌, ℕ, ◌≤◌, Bool, true, List, [], MatchOption, IsSomeAnd, Vec, vec_len, vec_capacity}
 use Rattle.log_table.specs.declared.table.LogTable.{LogTable}
 use Rattle.log_rule.specs.declared.view.Role.TheVariants.{Ended}
 use Rattle.log_table.specs.Seats.{IsOf, view_of}
@@ -7,9 +7,10 @@ use Rattle.txn_jobs.specs.declared.cause.Worked.{Worked}
 use Rattle.job_queue.specs.declared.queue.Queue.{Queue}
 use Rattle.job_queue.specs.Passes.{HasPassOf}
 use Rattle.txn_runner.specs.Places.{jobs_taken}
+use Rattle.txn_runner.specs.Stages.{Ghosts as ReliefGhosts}
 use Rattle.txn_runner.specs.Working.{EndsByMark, HasWorked, Works, jobs_of, places_in}
 use Rattle.cli_workers.specs.declared.workers.Worker.{Worker}
-use Rattle.cli_workers.specs.Workers.{IsHired, Numbered}
+use Rattle.cli_workers.specs.Workers.{AreUnused, IsHired, Numbered}
 use Rattle.cli_threads.specs.declared.serving.Started.{Started}
 use Rattle.cli_threads.specs.declared.serving.Started.TheVariants.{Running, Refused}
 use Rattle.cli_threads.specs.Waiting.{HaveWaited, made_of}
@@ -29,6 +30,14 @@ pub record HasServed (table : LogTable) (queue : Queue) (wait : Bool) (worker : 
 -- it did its work
 abbrev pub IsDone : LogTable → Queue → Bool → Worker → Type 0
 IsDone table queue wait worker = IsSomeAnd worker.worked (HasServed table queue wait worker)
+
+-- the worker of this number did its work; where that was done here, this relief was asked to rest meanwhile, any number of times
+pub record Serves {Q : Type 0} (g : ReliefGhosts Q) (table : LogTable) (queue : Queue) (wait : Bool) (own : ℕ) (worker : Worker) (old new : Q)
+    : Type 0 where
+  pub number : worker.seat.worker ≡ own
+  pub done : IsDone table queue wait worker
+  pub relief : g.ready new
+  pub later : g.later old new
 
 -- it did, or is as it was hired
 abbrev pub ComesBack : LogTable → Queue → Bool → Worker → Type 0
@@ -58,3 +67,11 @@ AreStarted table queue wait started = Numbered (IsStartedAs table queue wait) 0 
 
 abbrev pub AreDone : LogTable → Queue → Bool → List Worker → Type 0
 AreDone table queue wait workers = Numbered (IsDoneAs table queue wait) 0 workers
+
+-- No worker has served yet; each has one of so many flags, and there is room for it once it is started.
+pub record MayStartAll {Y Z : Type 0} (table : LogTable) (queue : Queue) (size : ℕ) (hands : Vec Worker Y) (places : Vec Started Z)
+    : Type 0 where
+  pub workers : AreUnused table queue hands.items
+  pub flags : vec_len hands ≤ size
+  pub none : places.items ≡ []
+  pub room : vec_len hands ≤ vec_capacity places

@@ -1,11 +1,10 @@
 //! The end of a run: the flusher's seat takes in the workers' seats, and the queue's first pass takes back theirs.
-ghost use Rattle.std.specs.Prelude.{◌≡◌, ◌≤◌, ◌+◌, ◌++◌, [], map, vec_len, vec_capacity};
+ghost use Rattle.std.specs.Prelude.{◌≡◌, ◌≤◌, [], vec_len, vec_capacity};
 ghost use Rattle.std.specs.List.{AllByRecursion};
 ghost use Rattle.log_rule.specs.declared.view.Role.TheVariants.{Flusher};
 ghost use Rattle.log_table.specs.Seats.{IsOf, view_of};
-ghost use Rattle.log_rule.specs.Sound.{HasReadStop};
-ghost use Rattle.job_queue.specs.Passes.{HasFirstPass, IsSameQueue, marks_back, passes_out, places_back};
-ghost use Rattle.cli_threads.specs.Gathering.{HasLeft, all_marks, all_places, takes_all, view_in, worked_of};
+ghost use Rattle.job_queue.specs.Passes.{HasFirstPass};
+ghost use Rattle.cli_threads.specs.Gathering.{GathersAll, HasLeft};
 
 use cli_workers::Worker;
 use log_table::{LogTable, Seat};
@@ -26,15 +25,7 @@ pub(crate) fn gather(
     requires workers { AllByRecursion (HasLeft table.now jobs.old.queue) workers.items }
     requires none { ends.items ≡ [] }
     requires room { vec_len workers ≤ vec_capacity ends }
-    ensures boss { IsOf table.now boss.new }
-    ensures view { view_of boss.new ≡ takes_all (view_of boss.old) (map view_in workers.items) }
-    ensures stops { AllByRecursion (HasReadStop (view_of boss.old).sending.stop) (map view_in workers.items) }
-    ensures ends { result.items ≡ map worked_of workers.items }
-    ensures jobs { HasFirstPass jobs.new }
-    ensures same { IsSameQueue jobs.old jobs.new }
-    ensures out { passes_out jobs.new + vec_len workers ≡ passes_out jobs.old }
-    ensures places { places_back jobs.new ≡ places_back jobs.old ++ all_places workers.items }
-    ensures marks { marks_back jobs.new ≡ marks_back jobs.old ++ all_marks workers.items }
+    ensures { GathersAll table.now boss.old boss.new jobs.old jobs.new workers result }
 {
     for worker in workers {
         let Worker { seat, rows, worked } = worker;

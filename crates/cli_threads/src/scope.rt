@@ -1,12 +1,11 @@
 //! The workers in their threads, and the daemon beside them.
-ghost use Rattle.std.specs.Prelude.{◌≡◌, ◌≤◌, [], None, true, length, vec_len, vec_capacity};
+ghost use Rattle.std.specs.Prelude.{◌≡◌, None, true, length, vec_len};
 ghost use Rattle.log_table.specs.Seats.{view_of};
 ghost use Rattle.log_rule.specs.Sends.{IsDrained};
 ghost use Rattle.log_rule.specs.Views.{knows_all_enrolled};
 ghost use Rattle.commit_pipeline.specs.Later.{Later};
-ghost use Rattle.commit_pipeline.specs.Turning.{IsSameDaemon, MayTurn};
-ghost use Rattle.cli_workers.specs.Workers.{AreUnused};
-ghost use Rattle.cli_threads.specs.Workers.{AreDone};
+ghost use Rattle.commit_pipeline.specs.Turning.{MayTurn};
+ghost use Rattle.cli_threads.specs.Serving.{MayServeAll, ServesAll};
 
 use crate::serving::{Started, join_all, start_all};
 use cli_workers::{Run, Worker};
@@ -47,35 +46,21 @@ pub(crate) fn serve_all<
     back: Vec<Worker>,
     relief: &'c mut FlushingRelief<'a, D, K>,
 ) -> (&'c mut FlushingRelief<'a, D, K>, Vec<Worker>)
-    requires workers { AreUnused run.table.now run.queue.now workers.items }
-    requires flags { vec_len workers ≤ length run.refused.now }
-    requires none { (started.items ≡ []) × (back.items ≡ []) }
-    requires room { (vec_len workers ≤ vec_capacity started) × (vec_len workers ≤ vec_capacity back) }
-    requires ready { relief.old.daemon.fault ≡ None → MayTurn D.LogDisk relief.old.daemon }
+    requires hands { MayServeAll run.table.now run.queue.now (length run.refused.now) workers started back relief.old.daemon }
     requires told { knows_all_enrolled (view_of relief.old.daemon.flusher.seat).standing ≡ true }
-    ensures done { AreDone run.entry.table.now run.entry.queue.now run.entry.wait result.1.items }
-    ensures count { vec_len result.1 ≡ vec_len workers }
-    ensures drained { result.0.now.daemon.fault ≡ None → IsDrained (view_of result.0.now.daemon.flusher.seat) }
-    ensures later { Later D.LogDisk K.Sink relief.old.daemon result.0.now.daemon }
+    ensures served { ServesAll D.LogDisk K.Sink relief.old.daemon result.0.now.daemon
+        run.entry.table.now run.entry.queue.now run.entry.wait (vec_len workers) result.1 }
     ensures relief { result.0.ghost_name ≡ relief.entry.ghost_name }
-    ensures same { IsSameDaemon D.LogDisk relief.old.daemon result.0.now.daemon }
 {
     thread::scope(
         thread::scope_env(),
         run.rt,
         move |scope| -> (&mut FlushingRelief<D, K>, Vec<Worker>)
-            requires workers { AreUnused run.table.now run.queue.now workers.items }
-            requires flags { vec_len workers ≤ length run.refused.now }
-            requires none { (started.items ≡ []) × (back.items ≡ []) }
-            requires room { (vec_len workers ≤ vec_capacity started) × (vec_len workers ≤ vec_capacity back) }
-            requires ready { relief.now.daemon.fault ≡ None → MayTurn D.LogDisk relief.now.daemon }
+            requires hands { MayServeAll run.table.now run.queue.now (length run.refused.now) workers started back relief.now.daemon }
             requires told { knows_all_enrolled (view_of relief.now.daemon.flusher.seat).standing ≡ true }
-            ensures done { AreDone run.entry.table.now run.entry.queue.now run.entry.wait result.1.items }
-            ensures count { vec_len result.1 ≡ vec_len workers }
-            ensures drained { result.0.now.daemon.fault ≡ None → IsDrained (view_of result.0.now.daemon.flusher.seat) }
-            ensures later { Later D.LogDisk K.Sink relief.entry.now.daemon result.0.now.daemon }
+            ensures served { ServesAll D.LogDisk K.Sink relief.entry.now.daemon result.0.now.daemon
+                run.entry.table.now run.entry.queue.now run.entry.wait (vec_len workers) result.1 }
             ensures relief { result.0.ghost_name ≡ relief.entry.ghost_name }
-            ensures same { IsSameDaemon D.LogDisk relief.entry.now.daemon result.0.now.daemon }
         {
             let started = start_all(&run, scope, workers, started, relief);
             drain(run.rt, &mut relief.daemon);

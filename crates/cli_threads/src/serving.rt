@@ -1,8 +1,8 @@
 //! The life of a worker, in a thread of its own or, where none can be made, in this one.
 ghost use Rattle.std.specs.Prelude.{◌≡◌, ◌<◌, ◌≤◌, [], All, length, vec_len, vec_capacity};
 ghost use Rattle.lock_core.specs.Transfers.{IsAllowedJob};
-ghost use Rattle.cli_workers.specs.Workers.{IsHired, IsUnused, AreUnused};
-ghost use Rattle.cli_threads.specs.Workers.{IsDone, ComesBack, IsStarted, AreDone, AreStarted, number_of};
+ghost use Rattle.cli_workers.specs.Workers.{IsHired, IsUnused};
+ghost use Rattle.cli_threads.specs.Workers.{AreDone, AreStarted, ComesBack, IsStarted, MayStartAll, Serves, number_of};
 
 use cli_workers::{Run, Worker};
 use log_disk::Gate;
@@ -42,10 +42,7 @@ fn serve<'a, R: Wait, G: Gate, Q: Relief>(
 ) -> Worker
     requires hired { IsHired run.now.table.now run.now.queue.now worker }
     requires relief { Q.ready relief.old }
-    ensures number { result.seat.worker ≡ worker.seat.worker }
-    ensures done { IsDone run.now.table.now run.now.queue.now run.now.wait result }
-    ensures relief { Q.ready relief.new }
-    ensures later { Q.later relief.old relief.new }
+    ensures { Serves Q.Relief run.now.table.now run.now.queue.now run.now.wait worker.seat.worker result relief.old relief.new }
 {
     let wait = run.waits();
     let Worker {
@@ -72,10 +69,7 @@ fn finish<'a, R: Wait, G: Gate, Q: Relief>(
 ) -> Worker
     requires comes { ComesBack run.now.table.now run.now.queue.now run.now.wait worker }
     requires relief { Q.ready relief.old }
-    ensures number { result.seat.worker ≡ worker.seat.worker }
-    ensures done { IsDone run.now.table.now run.now.queue.now run.now.wait result }
-    ensures relief { Q.ready relief.new }
-    ensures later { Q.later relief.old relief.new }
+    ensures { Serves Q.Relief run.now.table.now run.now.queue.now run.now.wait worker.seat.worker result relief.old relief.new }
 {
     if worker.worked.is_some() {
         return worker;
@@ -154,10 +148,7 @@ pub(crate) fn start_all<'a, R: Threads + Wait + Clock + Sync, G: Gate + Sync, E,
     mut started: Vec<Started>,
     relief: &mut Q,
 ) -> Vec<Started>
-    requires workers { AreUnused run.now.table.now run.now.queue.now workers.items }
-    requires flags { vec_len workers ≤ length run.now.refused.now }
-    requires none { started.items ≡ [] }
-    requires room { vec_len workers ≤ vec_capacity started }
+    requires hands { MayStartAll run.now.table.now run.now.queue.now (length run.now.refused.now) workers started }
     requires relief { Q.ready relief.old }
     ensures started { AreStarted run.now.table.now run.now.queue.now run.now.wait result.items }
     ensures count { vec_len result ≡ vec_len workers }
@@ -178,10 +169,7 @@ fn join<'a, R: Threads + Wait + Sync, G: Gate + Sync, Q: Relief>(
 ) -> Worker
     requires started { IsStarted run.now.table.now run.now.queue.now run.now.wait started }
     requires relief { Q.ready relief.old }
-    ensures number { result.seat.worker ≡ number_of started }
-    ensures done { IsDone run.now.table.now run.now.queue.now run.now.wait result }
-    ensures relief { Q.ready relief.new }
-    ensures later { Q.later relief.old relief.new }
+    ensures { Serves Q.Relief run.now.table.now run.now.queue.now run.now.wait (number_of started) result relief.old relief.new }
 {
     let worker = match started {
         Started::Running(child) => child.join(run.rt),

@@ -1,20 +1,17 @@
 //! The transfers of a run.
-ghost use Rattle.std.specs.Prelude.{◌≡◌, ◌≤◌, ◌<◌, ◌+◌, ◌*◌, ◌^◌, ℕ, All, length, IfOk, IsSomeAnd};
-ghost use Rattle.lsn_space.specs.declared.lsn.TheConstants.{LEAST_RING, GREATEST_RING};
+ghost use Rattle.std.specs.Prelude.{◌≡◌, ◌≤◌, ◌+◌, ℕ, All, length, IsSomeAnd};
 ghost use Rattle.log_record.specs.declared.limits.TheConstants.{LAST_TXN};
 ghost use Rattle.log_recovery.specs.Opened.{OpenedList};
-ghost use Rattle.log_rule.specs.declared.layout.TheConstants.{MOST_SLOTS};
 ghost use Rattle.log_table.specs.Hiring.{HasHired};
 ghost use Rattle.log_rule.specs.Opening.{HasAccounts};
 ghost use Rattle.log_table.specs.Seats.{key_of};
-ghost use Rattle.segment_file.specs.Standing.{IsShut, LogStands};
 ghost use Rattle.lock_core.specs.Transfers.{IsAllowedJob};
-ghost use Rattle.job_queue.specs.Passes.{workers_of};
 ghost use Rattle.cli_threads.specs.Ending.{HasEnded};
-ghost use Rattle.cli_threads.specs.Prepared.{AreEnlisted, AreReady, HasServedAll, HasTurned, IsBegun, IsCrew, IsEndOf, IsLeftOf, IsOver, IsPrepared, MayBeTakenApart};
+ghost use Rattle.cli_threads.specs.Making.{HasSizes, Prepares};
+ghost use Rattle.cli_threads.specs.Prepared.{AreReady, HasServedAll, HasTurned, IsBegun, IsCrew, IsEndOf, IsLeftOf, IsOver};
+ghost use Rattle.cli_threads.specs.Prepared.{IsPrepared, MayBeTaken, MayBeTakenApart, MayGoOn};
 ghost use Rattle.cli_threads.specs.Transferred.{IsOpened};
 ghost use Rattle.commit_pipeline.specs.Turning.{MayTurn};
-ghost use Rattle.segment_file.specs.Log.{Log};
 
 use crate::gathering::gather;
 use crate::room::{Room, flags};
@@ -94,19 +91,13 @@ pub fn prepare<R: Wait>(
     first: u64,
     workers: u32,
 ) -> Result<Prepared, NoMemory>
-    requires ring { (LEAST_RING ≤ start.ring) × (start.ring ≤ GREATEST_RING) }
-    requires power { (n : ℕ) × (start.ring ≡ 2 ^ n) }
-    requires slots { start.slots ≤ MOST_SLOTS }
+    requires sizes { HasSizes start }
     requires accounts { HasAccounts start }
     requires some { 1 ≤ first }
     requires shared { 1 ≤ workers }
     requires numbered { first + length script ≤ LAST_TXN }
     requires allowed { All (IsAllowedJob (length start.accounts.rows)) script }
-    ensures script { IfOk result (λ p. p.jobs.queue.script ≡ script) }
-    ensures first { IfOk result (λ p. p.jobs.queue.first ≡ first) }
-    ensures workers { IfOk result (λ p. workers_of p.jobs ≡ workers) }
-    ensures key { IfOk result (λ p. key_of p.table ≡ start) }
-    ensures prepared { IfOk result IsPrepared }
+    ensures { Prepares start script first workers result }
 {
     let batch = Batch::make(alloc, start.ring)?;
     let (table, mut boss) = LogTable::make(alloc, start)?;
@@ -138,10 +129,7 @@ fn relief_of<'a, D: LogDisk, K: Sink>(
 ) -> FlushingRelief<'a, D, K>
     requires seat { (n : ℕ) × HasHired table.now n seat }
     requires batch { table.now.ring ≤ batch.room }
-    requires stand { D.honest outside.disk.now → (opened : Log) × LogStands tail opened (D.images outside.disk.now) }
-    requires shut { D.honest outside.disk.now → IsShut tail.at (D.images outside.disk.now) }
-    requires next { tail.next ≡ (key_of table.now).start }
-    requires place { tail.at ≤ 2 ^ 63 + 16 * tail.next }
+    requires log { MayGoOn D.LogDisk tail table.now outside.disk.now }
     ensures ready { MayTurn D.LogDisk result.daemon }
     ensures begun { IsBegun D.LogDisk K.Sink tail voice seat outside.entry.disk.now outside.entry.out.now result.daemon }
     ensures table { result.daemon.flusher.table ≡ table.entry }
@@ -168,9 +156,7 @@ fn serve_crew<'a, 'c, R: Threads + Wait + Clock + Sync, D: LogDisk, K: Sink, G: 
     relief: &'c mut FlushingRelief<'a, D, K>,
     ends: &mut Option<Vec<Worked>>,
 ) -> &'c mut FlushingRelief<'a, D, K>
-    requires allowed { All (IsAllowedJob table.now.accounts) jobs.old.queue.script }
-    requires enlisted { AreEnlisted jobs.old }
-    requires flags { length refused.now ≡ workers_of jobs.old }
+    requires jobs { MayBeTaken table.now (length refused.now) jobs.old }
     requires hands { AreReady table.now jobs.old.queue (length refused.now) hands }
     requires boss { HasHired table.now (length refused.now) relief.old.daemon.flusher.seat }
     requires ready { MayTurn D.LogDisk relief.old.daemon }
@@ -234,13 +220,8 @@ fn run_crew<'a, R: Threads + Wait + Clock + Sync, D: LogDisk, K: Sink, G: Gate +
     served: &mut Option<Served>,
 ) -> Outside<'a, D, K>
     requires crew { IsCrew table.now jobs.old.queue (length refused.now) crew }
-    requires allowed { All (IsAllowedJob table.now.accounts) jobs.old.queue.script }
-    requires enlisted { AreEnlisted jobs.old }
-    requires flags { length refused.now ≡ workers_of jobs.old }
-    requires stand { D.honest outside.disk.now → (opened : Log) × LogStands tail opened (D.images outside.disk.now) }
-    requires shut { D.honest outside.disk.now → IsShut tail.at (D.images outside.disk.now) }
-    requires next { tail.next ≡ (key_of table.now).start }
-    requires place { tail.at ≤ 2 ^ 63 + 16 * tail.next }
+    requires jobs { MayBeTaken table.now (length refused.now) jobs.old }
+    requires log { MayGoOn D.LogDisk tail table.now outside.disk.now }
     ensures turned { IsSomeAnd served.new (HasTurned D.LogDisk K.Sink table.now jobs.old.queue (length refused.now) wait
         tail voice crew.boss outside.entry.disk.now result.disk.now outside.entry.out.now result.out.now) }
     ensures disk { result.disk.ghost_name ≡ outside.entry.disk.ghost_name }
@@ -290,7 +271,8 @@ pub fn run_transfers<R: Threads + Wait + Clock + Sync, D: LogDisk, K: Sink, G: G
     gate: &G,
 ) -> Ended
     requires prepared { IsPrepared prepared }
-    requires opened { (opened : OpenedList) × IsOpened D.LogDisk disk.old tail opened prepared.jobs.queue.first (key_of prepared.table) }
+    requires opened { (opened : OpenedList)
+        × IsOpened D.LogDisk disk.old tail opened prepared.jobs.queue.first (key_of prepared.table) }
     ensures ended { (opened : OpenedList) → IsOpened D.LogDisk disk.old tail opened prepared.jobs.queue.first (key_of prepared.table)
         → HasEnded D.LogDisk K.Sink prepared opened tail voice wait disk.old disk.new out.old out.new result }
 {

@@ -1,4 +1,4 @@
-use Rattle.std.proofs.Common.{◌≡◌, ◌∙◌, [], ap, sym, subst}
+use Rattle.std.proofs.Common.{rules, ◌≡◌, ◌∙◌, [], ap, sym, subst}
 use Rattle.log_rule.specs.declared.view.Books.{Books}
 use Rattle.log_rule.specs.declared.view.View.{View}
 use Rattle.log_table.specs.Seats.{view_of}
@@ -28,8 +28,8 @@ work-worked-requires-clause-may g c =
       room = hired.room;
     }
 
-pub returns-clause-done : goal.returns-clause-done
-returns-clause-done g c =
+pub returns : goal.returns
+returns g c =
     let hired = c.requires.hired in
     let did = c.work-worked.ensures.done in
     let jobs = jobs_of c.args.run.now.queue.now in
@@ -45,16 +45,21 @@ returns-clause-done g c =
     (view_of c.args.worker.seat) new first none did.worked did.jobs did.works in
     let all = subst (HasDone jobs taken worked) (sym left) done in
     record {
-      seat = IsOf-left c.work-worked.new.seat c.leave.new.seat leaves c.args.run.now.table.now
-          c.work-worked.ensures.worker.seat;
-      ended = ended-left c.work-worked.new.seat c.leave.new.seat leaves;
-      pass = did.pass;
-      jobs_are = all.jobs_are;
-      has = all.has;
-      works = all.works;
-      mark = did.all;
-      waited = λ waits.
-          subst (λ (v : View). HaveWaited jobs (made_of taken worked) v.entries v.books.given) (sym left)
-          (HaveWaited-worked jobs start taken c.waits-wait.result worked c.args.worker.rows c.work-worked.new.rows
-          (view_of c.args.worker.seat) new did.rows first (c.waits-wait.ensures ∙ waits));
+      number = search rules;
+      done = record {
+        seat = IsOf-left c.work-worked.new.seat c.leave.new.seat leaves c.args.run.now.table.now
+            c.work-worked.ensures.worker.seat;
+        ended = ended-left c.work-worked.new.seat c.leave.new.seat leaves;
+        pass = did.pass;
+        jobs_are = all.jobs_are;
+        has = all.has;
+        works = all.works;
+        mark = did.all;
+        waited = λ waits.
+            subst (λ (v : View). HaveWaited jobs (made_of taken worked) v.entries v.books.given) (sym left)
+            (HaveWaited-worked jobs start taken c.waits-wait.result worked c.args.worker.rows c.work-worked.new.rows
+            (view_of c.args.worker.seat) new did.rows first (c.waits-wait.ensures ∙ waits));
+      };
+      relief = c.work-worked.ensures.worker.relief;
+      later = c.work-worked.ensures.later;
     }

@@ -13,7 +13,7 @@ start-requires-clause-flag g c =
     let P = IsUnusedAs c.args.run.now.table.now c.args.run.now.queue.now in
     let number = (subst (λ l. Makes P (IsStartedAs c.args.run.now.table.now c.args.run.now.queue.now c.args.run.now.wait) c.loop-worker.yielded l
     c.loop-worker.started.items) front was.makes).left_are.0.0 in
-    omega (arith, number, was.all, ap length front, c.requires.flags, c.args.workers.ok.0)
+    omega (arith, number, was.all, ap length front, c.requires.hands.flags, c.args.workers.ok.0)
 
 pub loop-worker-preserved : goal.loop-worker-preserved
 loop-worker-preserved g c =

@@ -23,17 +23,13 @@ run_crew-outside-requires-clause-crew g c = λ κs within.
     let flags : length c.as_slice.result.now ≡ workers_of c.args.prepared.jobs = c.as_slice.ensures.len ∙ c.requires.prepared.flags in
     rw flags c.requires.prepared.crew
 
-pub run_crew-outside-requires-clause-stand : goal.run_crew-outside-requires-clause-stand
-run_crew-outside-requires-clause-stand g c = λ κs within honest. (log_of c.requires.opened.0, c.requires.opened.1.stand honest)
-
-pub run_crew-outside-requires-clause-shut : goal.run_crew-outside-requires-clause-shut
-run_crew-outside-requires-clause-shut g c = λ κs within. c.requires.opened.1.shut
-
-pub run_crew-outside-requires-clause-next : goal.run_crew-outside-requires-clause-next
-run_crew-outside-requires-clause-next g c = λ κs within. let log = c.requires.opened.1 in log.next ∙ sym log.start
-
-pub run_crew-outside-requires-clause-place : goal.run_crew-outside-requires-clause-place
-run_crew-outside-requires-clause-place g c = λ κs within. c.requires.opened.1.place
+pub run_crew-outside-requires-clause-log : goal.run_crew-outside-requires-clause-log
+run_crew-outside-requires-clause-log g c = λ κs within. let log = c.requires.opened.1 in record {
+  stand = λ honest. (log_of c.requires.opened.0, log.stand honest);
+  shut = log.shut;
+  next = log.next ∙ sym log.start;
+  place = log.place;
+}
 
 pub close-requires : goal.close-requires
 close-requires g c = record {

@@ -10,13 +10,20 @@ use Rattle.cli_threads.proofs.TakenPlaces.{front-back}
 use Rattle.cli_threads.proofs.TransferredLemmas.{AreDone-here, HasLeft-all, takes_all-constants, takes_all-sending}
 use Rattle.cli_threads.proofs.transfers.serve_crew.Goals as goal
 
-pub serve_all-relief-requires-clause-workers : goal.serve_all-relief-requires-clause-workers
-serve_all-relief-requires-clause-workers g c = λ κs within.
-    let queue = c.make-run.ensures.queue ∙ c.queue-queue.ensures in
-    rw (c.make-run.ensures.table, queue) c.requires.hands.workers
-
-pub serve_all-relief-requires-clause-flags : goal.serve_all-relief-requires-clause-flags
-serve_all-relief-requires-clause-flags g c = λ κs within. omega (arith, ap length c.make-run.ensures.refused, c.requires.hands.count)
+pub serve_all-relief-requires-clause-hands : goal.serve_all-relief-requires-clause-hands
+serve_all-relief-requires-clause-hands g c = λ κs within.
+    let hands = c.requires.hands in
+    let queue = c.make-run.ensures.queue ∙ c.queue-queue.ensures in record {
+      start = record {
+        workers = rw (c.make-run.ensures.table, queue) hands.workers;
+        flags = omega (arith, ap length c.make-run.ensures.refused, hands.count);
+        none = hands.room.none.0;
+        room = omega (arith, hands.room.started, hands.count);
+      };
+      none = hands.room.none.1;
+      room = omega (arith, hands.room.back, hands.count);
+      ready = λ fine. c.requires.ready;
+    }
 
 pub serve_all-relief-requires-clause-told : goal.serve_all-relief-requires-clause-told
 serve_all-relief-requires-clause-told g c = λ κs within. c.requires.boss.knows.told
@@ -25,16 +32,16 @@ pub gather-worked-requires-clause-workers : goal.gather-worked-requires-clause-w
 gather-worked-requires-clause-workers g c =
     let workers = c.serve_all-relief.result.1 in
     let done = AreDone-here workers.items c.make-run.ensures.table (c.make-run.ensures.queue ∙ c.queue-queue.ensures) c.make-run.ensures.wait
-    c.serve_all-relief.ensures.done in
+    c.serve_all-relief.ensures.served.done in
     HasLeft-all c.args.table.now c.args.jobs.now.queue c.args.wait 0 workers.items done
 
 pub count_taken-requires-clause-out : goal.count_taken-requires-clause-out
 count_taken-requires-clause-out g c = omega (
   arith,
   c.gather-worked.ensures.out,
-  c.requires.enlisted.out,
-  c.requires.flags,
-  c.serve_all-relief.ensures.count,
+  c.requires.jobs.enlisted.out,
+  c.requires.jobs.flags,
+  c.serve_all-relief.ensures.served.count,
   c.requires.hands.count,
 )
 
@@ -64,19 +71,19 @@ pub returns-clause-turned : goal.returns-clause-turned
 returns-clause-turned g c =
     let workers = c.serve_all-relief.result.1 in
     let done = AreDone-here workers.items c.make-run.ensures.table (c.make-run.ensures.queue ∙ c.queue-queue.ensures) c.make-run.ensures.wait
-    c.serve_all-relief.ensures.done in
+    c.serve_all-relief.ensures.served.done in
     let gathered = c.gather-worked.ensures in
     let counted = c.count_taken.ensures in
     record {
       last = c.serve_all-relief.result.0.now.daemon;
       workers = workers.items;
-      later = c.serve_all-relief.ensures.later;
+      later = c.serve_all-relief.ensures.served.later;
       done = done;
-      count = sym workers.ok.0 ∙ (c.serve_all-relief.ensures.count ∙ c.requires.hands.count);
+      count = sym workers.ok.0 ∙ (c.serve_all-relief.ensures.served.count ∙ c.requires.hands.count);
       front = front-back c.args.jobs.now c.gather-worked.new.jobs c.count_taken.new.self (all_places workers.items) (all_marks workers.items)
-          c.requires.enlisted.none_back gathered.same gathered.places gathered.marks counted.jobs counted.same counted.back counted.taken;
+          c.requires.jobs.enlisted.none_back gathered.same gathered.places gathered.marks counted.jobs counted.same counted.back counted.taken;
       stops = gathered.stops;
-      drained = c.serve_all-relief.ensures.drained;
+      drained = c.serve_all-relief.ensures.served.drained;
       seat = search rules;
       view = search rules;
       ends_are = gathered.ends;
