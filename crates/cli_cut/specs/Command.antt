@@ -20,12 +20,12 @@ use Rattle.cli_cut.specs.Upgrading.{AllHoldUpgrade, CostsUpgrade, GrowsByUpgrade
 pub record MakesLog {D S K : Type 0} (g : Ghosts D) (h : SourceGhosts S) (i : SinkGhosts K)
     (MayBe : Option (List ℕ) → (List ℕ → Type 0) → List ℕ → Type 0) (AllHold : Option (List ℕ) → (List ℕ → Type 0) → Type 0)
     (Takes Grows : D → D → Type 0) (log : List ℕ) (old new : World D S K) (detail : Detail) : Type 0 where
-  pub answer : IfSome (h.left old.script) (λ bytes.
-      AnswersCut bytes (h.left new.script) (i.held_bytes old.out) (i.held_bytes new.out) detail)
+  pub answer : IfSome (h.left old.input) (λ bytes.
+      AnswersCut bytes (h.left new.input) (i.held_bytes old.out) (i.held_bytes new.out) detail)
   pub silent : StaysSilent (i.held_bytes old.out) (i.held_bytes new.out) detail
   pub range : IsAnswerToCut detail
-  pub images : g.honest old.disk → Leaves g.moment g.images_since (MayBe (h.left old.script) (g.images old.disk)) old.disk new.disk
-  pub made : g.honest old.disk → FollowsCut detail → AllHold (h.left old.script) (g.images new.disk)
+  pub images : g.honest old.disk → Leaves g.moment g.images_since (MayBe (h.left old.input) (g.images old.disk)) old.disk new.disk
+  pub made : g.honest old.disk → FollowsCut detail → AllHold (h.left old.input) (g.images new.disk)
   pub kept : PrecedesCut detail → Leaves g.moment g.images_since (g.images old.disk) old.disk new.disk
   pub unchanged : g.honest old.disk → PrecedesCut detail → g.reads new.disk ≡ g.reads old.disk
   pub exists : g.honest old.disk → TellsWhether (BeginsOpen (g.reads old.disk)) detail
@@ -35,8 +35,8 @@ pub record MakesLog {D S K : Type 0} (g : Ghosts D) (h : SourceGhosts S) (i : Si
 
 abbrev pub DoesCut : {D S K : Type 0} → Ghosts D → SourceGhosts S → SinkGhosts K → List ℕ → World D S K → World D S K → Detail → Type 0
 DoesCut g h i log old new detail =
-    MakesLog g h i MayBeCut AllHoldCut (Costs g 7 11) (GrowsByCut g (h.left old.script)) log old new detail
+    MakesLog g h i MayBeCut AllHoldCut (Costs g 7 11) (GrowsByCut g (h.left old.input)) log old new detail
 
 abbrev pub DoesUpgrade : {D S K : Type 0} → Ghosts D → SourceGhosts S → SinkGhosts K → List ℕ → World D S K → World D S K → Detail → Type 0
-DoesUpgrade g h i log old new detail = MakesLog g h i MayBeUpgraded AllHoldUpgrade (CostsUpgrade g (h.left old.script))
-    (GrowsByUpgrade g (h.left old.script)) log old new detail
+DoesUpgrade g h i log old new detail = MakesLog g h i MayBeUpgraded AllHoldUpgrade (CostsUpgrade g (h.left old.input))
+    (GrowsByUpgrade g (h.left old.input)) log old new detail

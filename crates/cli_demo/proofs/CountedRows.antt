@@ -5,14 +5,14 @@ use Rattle.log_disk.specs.declared.sink.Sink.{Ghosts as SinkGhosts}
 use Rattle.log_recovery.specs.Opened.{base_left}
 use Rattle.segment_file.specs.declared.scan_result.Tail.{Tail}
 use Rattle.end_lines.specs.declared.voice.Voice.TheVariants.{Count}
-use Rattle.cli_ending.specs.declared.conclusion.Ended.{Ended}
+use Rattle.cli_ending.specs.declared.conclusion.RunEnd.{RunEnd}
 use Rattle.cli_threads.specs.declared.transfers.Prepared.{Prepared}
 use Rattle.cli_threads.specs.Ending.{HasEnded}
 use Rattle.cli_threads.proofs.EndingLemmas.{kept-ended}
 use Rattle.cli_demo.specs.Summary.{generated_opening}
 
 module _ {D : Type 0} {K : Type 0} (g : Ghosts D) (h : SinkGhosts K) (prepared : Prepared) {tail : Tail} {wait : Bool} (disk disk_new : D) (sink sink_new : K)
-    (ended : Ended) (has : HasEnded g h prepared generated_opening tail Count wait disk disk_new sink sink_new ended) where
+    (ended : RunEnd) (has : HasEnded g h prepared generated_opening tail Count wait disk disk_new sink sink_new ended) where
   pub rows-ended : length ended.closed.accounts.rows ≤ 4096
   rows-ended =
       let count = (kept-ended g h prepared generated_opening Count disk disk_new sink sink_new ended has).count in

@@ -42,7 +42,7 @@ use Rattle.lock_core.specs.Transfers.{transfer_of}
 use Rattle.cli_shared.specs.declared.report.Detail.{Detail}
 use Rattle.cli_shared.specs.declared.report.Detail.TheVariants.{Fine, NoMemory, Usage, Script, Read, Write, Disk, NotALog, BadSnapshot, BadBatch, BadRec, Unlawful, LogEnd, TxnEnd, Exists, NoSuchLsn, BadStream, Gap, StreamUnlawful, NoAccount}
 use Rattle.cli_threads.specs.declared.transfers.ReadyRun.{ReadyRun}
-use Rattle.cli_ending.specs.declared.conclusion.Ended.{Ended}
+use Rattle.cli_ending.specs.declared.conclusion.RunEnd.{RunEnd}
 use Rattle.cli_threads.specs.declared.transfers.Prepared.{Prepared}
 use Rattle.cli_shared.specs.Creation.{IsFindingFault, TellsWhether, genesis_list}
 use Rattle.command_line.specs.Ranges.{AreInRange}
@@ -230,7 +230,7 @@ later-opening records =
 
 module _ {D : Type 0} {K : Type 0} (g : Ghosts D) (h : SinkGhosts K) (n seed : ℕ) (options : RunOptions) (range : AreInRange options) (few : n ≤ 100000) (ready : ReadyRun) {wait : Bool}
     (entry disk disk_new : D)
-    (sink sink_mid sink_new : K) (ended : Ended) (is : IsReadyDemo g n seed options entry disk ready)
+    (sink sink_mid sink_new : K) (ended : RunEnd) (is : IsReadyDemo g n seed options entry disk ready)
     (has : HasEnded g h ready.prepared generated_opening ready.tail Count wait disk disk_new sink sink_mid ended) where
   abbrev jobs : NumberedJobs
   jobs = jobs_of ready.prepared.jobs.queue

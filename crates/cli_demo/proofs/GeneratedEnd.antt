@@ -12,7 +12,7 @@ use Rattle.log_recovery.proofs.OpenedLemmas.{list_end-more}
 use Rattle.lock_core.specs.Alone.{PlainTransfer, Done, ShortAt, OverAt, Outcome, leg_updates, outcome_alone, outcome_records}
 use Rattle.lock_core.specs.AnyOrder.{IsDoneIn, weight_of}
 use Rattle.lock_core.specs.History.{history_from}
-use Rattle.lock_core.specs.Serial.{Task, numbered, IsCutShort, IsPartlySerialAfter}
+use Rattle.lock_core.specs.Serial.{NumberedTransfer, numbered, IsCutShort, IsPartlySerialAfter}
 use Rattle.lock_core.specs.Sums.{BaseState}
 use Rattle.lock_core.specs.Transactions.{own_records_of, all_without_prev, in_order}
 use Rattle.lock_core.proofs.Doing.{end_of-weight, partly-done}
@@ -55,7 +55,7 @@ records-most h n rest planned same =
     let whole = ap (weight_of size_of) same in
     omega arith
 
-task-most : (h : List Placed) (n x : ℕ) → let task : Task = record { number = n; job = transfer_of (job_from x) } in
+task-most : (h : List Placed) (n x : ℕ) → let task : NumberedTransfer = record { number = n; job = transfer_of (job_from x) } in
     IsDoneIn h task ⊎ IsCutShort h task → weight_of size_of (own_records_of n h) ≤ 5
 task-most h n x (inl done) = omega (arith, records-most h n [] _ done, outcome-most n x Done)
 task-most h n x (inr cut) = let same = records-most h n cut.rest _ cut.front in omega arith
@@ -63,7 +63,7 @@ task-most h n x (inr cut) = let same = records-most h n cut.rest _ cut.front in 
 -- ---- all of them
 
 tasks-most : (h : List Placed) (first n seed : ℕ)
-    → AllByRecursion (λ (task : Task). IsDoneIn h task ⊎ IsCutShort h task) (numbered first (generated_transfers n seed))
+    → AllByRecursion (λ (task : NumberedTransfer). IsDoneIn h task ⊎ IsCutShort h task) (numbered first (generated_transfers n seed))
     → each_task (λ task. weight_of size_of (own_records_of task.number h)) (numbered first (generated_transfers n seed)) ≤ 5 * n
 tasks-most h first zero seed each = omega arith
 tasks-most h first (suc n) seed each =

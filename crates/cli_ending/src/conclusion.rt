@@ -14,7 +14,7 @@ use txn_runner::{Cause, Worked};
 /// How a run ended: what befell the daemon, how many transfers it counted as done and as refused, how each worker's work ended,
 /// and what the table held.
 #[derive(Drop)]
-pub struct Ended {
+pub struct RunEnd {
     pub fault: Option<DaemonFault>,
     pub done: u64,
     pub refused: u64,
@@ -23,7 +23,7 @@ pub struct Ended {
 }
 
 /// What the program answers once the transfers have ended. Where nothing befell them it writes the accounts text.
-pub fn conclude<K: Sink>(ended: &Ended, out: &mut K) -> Detail
+pub fn conclude<K: Sink>(ended: &RunEnd, out: &mut K) -> Detail
     requires { MayConclude ended.now }
     ensures { HasConcluded K.Sink ended.now (closed_text ended.now) out.old out.new result }
 {
@@ -37,7 +37,7 @@ pub fn conclude<K: Sink>(ended: &Ended, out: &mut K) -> Detail
 }
 
 /// Why the transfers were stopped, if they were: what befell the daemon, or else the end of the log.
-pub fn stopped(ended: &Ended) -> Option<Detail>
+pub fn stopped(ended: &RunEnd) -> Option<Detail>
     requires { MayConclude ended.now }
     ensures some { IfSome result (StoppedAs ended.now) }
     ensures none { IfNone result (NothingStopped ended.now) }

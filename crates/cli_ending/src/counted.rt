@@ -4,14 +4,14 @@ ghost use Rattle.std.specs.Prelude.{◌≡◌, ◌≤◌, length};
 ghost use Rattle.log_record.specs.declared.limits.TheConstants.{MOST_ACCOUNTS};
 ghost use Rattle.cli_ending.specs.Ending.{HasConcluded, MayConclude, counted_text};
 
-use crate::conclusion::{Ended, stopped};
+use crate::conclusion::{RunEnd, stopped};
 use cli_shared::Detail;
 use log_disk::Sink;
 use run_summary::{Counts, put_summary};
 
 /// What the program answers once so many transfers, which were counted and not told, have ended. Where nothing befell them it writes their
 /// summary.
-pub fn conclude_counted<K: Sink>(ended: &Ended, transfers: u32, out: &mut K) -> Detail
+pub fn conclude_counted<K: Sink>(ended: &RunEnd, transfers: u32, out: &mut K) -> Detail
     requires stopped { MayConclude ended.now }
     requires few { length ended.now.closed.accounts.rows ≤ MOST_ACCOUNTS }
     ensures { HasConcluded K.Sink ended.now (counted_text transfers ended.now) out.old out.new result }

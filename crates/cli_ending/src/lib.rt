@@ -4,5 +4,5 @@
 mod conclusion;
 mod counted;
 
-pub use conclusion::{Ended, conclude, stopped};
+pub use conclusion::{RunEnd, conclude, stopped};
 pub use counted::conclude_counted;

@@ -17,16 +17,16 @@ use Rattle.cli_new.specs.Creation.{AllHoldNew, FollowsLog, GrowsByNew, MayBeLeft
 
 pub record DoesNew {D S K : Type 0} (g : Ghosts D) (h : SourceGhosts S) (i : SinkGhosts K) (log : List ℕ) (old new : World D S K)
     (detail : Detail) : Type 0 where
-  pub answer : IfSome (h.left old.script) (λ bytes.
-      AnswersNew bytes (h.left new.script) (i.held_bytes old.out) (i.held_bytes new.out) detail)
+  pub answer : IfSome (h.left old.input) (λ bytes.
+      AnswersNew bytes (h.left new.input) (i.held_bytes old.out) (i.held_bytes new.out) detail)
   pub silent : StaysSilent (i.held_bytes old.out) (i.held_bytes new.out) detail
   pub range : IsAnswerToNew detail
   pub images : g.honest old.disk
-      → Leaves g.moment g.images_since (MayBeLeft (h.left old.script) (g.images old.disk)) old.disk new.disk
-  pub made : g.honest old.disk → FollowsLog detail → AllHoldNew (h.left old.script) (g.images new.disk)
+      → Leaves g.moment g.images_since (MayBeLeft (h.left old.input) (g.images old.disk)) old.disk new.disk
+  pub made : g.honest old.disk → FollowsLog detail → AllHoldNew (h.left old.input) (g.images new.disk)
   pub kept : PrecedesLog detail → Leaves g.moment g.images_since (g.images old.disk) old.disk new.disk
   pub unchanged : g.honest old.disk → PrecedesLog detail → g.reads new.disk ≡ g.reads old.disk
   pub exists : g.honest old.disk → TellsWhether (BeginsOpen (g.reads old.disk)) detail
   pub count : g.honest old.disk → Costs g 7 11 old.disk new.disk
   pub attached : g.honest old.disk → LeavesAttached (existing_or_made log) (g.attached old.disk) (g.attached new.disk) detail
-  pub grows : g.honest old.disk → GrowsByNew g (h.left old.script) old.disk new.disk
+  pub grows : g.honest old.disk → GrowsByNew g (h.left old.input) old.disk new.disk

@@ -23,15 +23,15 @@ read-as before now detail read = record { counted = λ is. read.counted (ap Err 
 
 module _ {S K : Type 0} (h : SourceGhosts S) (i : SinkGhosts K)
     (Answers : List ℕ → Option (List ℕ) → Option (List ℕ) → Option (List ℕ) → Detail → Type 0) (IsAnswer : Detail → Type 0)
-    (script script_new : S) (out : K) where
+    (input script_new : S) (out : K) where
   -- the answer for the bytes of the input
   abbrev AnswersInput : K → Detail → Type 0
   AnswersInput out_new detail =
-      IfSome (h.left script) (λ bytes. Answers bytes (h.left script_new) (i.held_bytes out) (i.held_bytes out_new) detail)
+      IfSome (h.left input) (λ bytes. Answers bytes (h.left script_new) (i.held_bytes out) (i.held_bytes out_new) detail)
 
   -- all is written
-  pub reported-fine : (out_new : K) → IsAnswer Fine → h.faults script_new ≡ h.faults script → i.faults out_new ≡ i.faults out
-      → AnswersInput out_new Fine → HasReported h i Answers IsAnswer script script_new out out_new Fine
+  pub reported-fine : (out_new : K) → IsAnswer Fine → h.faults script_new ≡ h.faults input → i.faults out_new ≡ i.faults out
+      → AnswersInput out_new Fine → HasReported h i Answers IsAnswer input script_new out out_new Fine
   reported-fine out_new range read write answer = record {
     answer = answer;
     silent = tt;
@@ -41,8 +41,8 @@ module _ {S K : Type 0} (h : SourceGhosts S) (i : SinkGhosts K)
   }
 
   -- the writing failed
-  pub reported-part : (out_new : K) → IsAnswer Write → h.faults script_new ≡ h.faults script → Rose (i.faults out) (i.faults out_new)
-      → AnswersInput out_new Write → HasReported h i Answers IsAnswer script script_new out out_new Write
+  pub reported-part : (out_new : K) → IsAnswer Write → h.faults script_new ≡ h.faults input → Rose (i.faults out) (i.faults out_new)
+      → AnswersInput out_new Write → HasReported h i Answers IsAnswer input script_new out out_new Write
   reported-part out_new range read write answer = record {
     answer = answer;
     silent = tt;
@@ -52,9 +52,9 @@ module _ {S K : Type 0} (h : SourceGhosts S) (i : SinkGhosts K)
   }
 
   -- nothing was written
-  pub reported-none : (detail : Detail) → IsAnswer detail → CountsWhere (detail ≡ Read) (h.faults script) (h.faults script_new)
+  pub reported-none : (detail : Detail) → IsAnswer detail → CountsWhere (detail ≡ Read) (h.faults input) (h.faults script_new)
       → StaysSilent (i.held_bytes out) (i.held_bytes out) detail → (TellsWrite detail → ⊥)
-      → AnswersInput out detail → HasReported h i Answers IsAnswer script script_new out out detail
+      → AnswersInput out detail → HasReported h i Answers IsAnswer input script_new out out detail
   reported-none detail range read silent write answer = record {
     answer = answer;
     silent = silent;
@@ -65,15 +65,15 @@ module _ {S K : Type 0} (h : SourceGhosts S) (i : SinkGhosts K)
 
   -- the bytes have this fault
   pub reported-fault : (f : RecoverFault) (detail : Detail) → detail ≡ recover_detail f → IsAnswer (recover_detail f)
-      → h.faults script_new ≡ h.faults script
-      → AnswersInput out (recover_detail f) → HasReported h i Answers IsAnswer script script_new out out detail
-  reported-fault f detail is range read answer = subst (HasReported h i Answers IsAnswer script script_new out out) (sym is)
+      → h.faults script_new ≡ h.faults input
+      → AnswersInput out (recover_detail f) → HasReported h i Answers IsAnswer input script_new out out detail
+  reported-fault f detail is range read answer = subst (HasReported h i Answers IsAnswer input script_new out out) (sym is)
       (reported-none (recover_detail f) range (read-whole _ _ _ read (read-fault f)) (silent-fault _ f) (write-fault f) answer)
 
   -- the input gave no bytes
   pub reported-unread : {T : Type 0} → IsAnswer Read → IsAnswer NoMemory → AnswersInput out Read → AnswersInput out NoMemory
-      → (detail : Detail) → IsReadingFault detail → CountsWhere (IsErrOf {T = T} (Err detail) Read) (h.faults script) (h.faults script_new)
-      → HasReported h i Answers IsAnswer script script_new out out detail
+      → (detail : Detail) → IsReadingFault detail → CountsWhere (IsErrOf {T = T} (Err detail) Read) (h.faults input) (h.faults script_new)
+      → HasReported h i Answers IsAnswer input script_new out out detail
   reported-unread failed_range wanting_range failed wanting detail is read =
       reported-none detail (by-reading IsAnswer failed_range wanting_range detail is) (read-as _ _ detail read)
       (by-reading (StaysSilent (i.held_bytes out) (i.held_bytes out)) (kept-text _) (kept-text _) detail is)

@@ -10,9 +10,9 @@ use Rattle.cli_shared.specs.declared.report.Detail.TheVariants.{Read, Write}
 -- what it answers for the bytes, which answers there are, and that one fault is counted where one is answered, and none else
 pub record HasReported {S K : Type 0} (h : SourceGhosts S) (i : SinkGhosts K)
     (Answers : List ℕ → Option (List ℕ) → Option (List ℕ) → Option (List ℕ) → Detail → Type 0) (IsAnswer : Detail → Type 0)
-    (script script_new : S) (out out_new : K) (detail : Detail) : Type 0 where
-  pub answer : IfSome (h.left script) (λ bytes. Answers bytes (h.left script_new) (i.held_bytes out) (i.held_bytes out_new) detail)
+    (input script_new : S) (out out_new : K) (detail : Detail) : Type 0 where
+  pub answer : IfSome (h.left input) (λ bytes. Answers bytes (h.left script_new) (i.held_bytes out) (i.held_bytes out_new) detail)
   pub silent : StaysSilent (i.held_bytes out) (i.held_bytes out_new) detail
   pub range : IsAnswer detail
-  pub read : CountsWhere (detail ≡ Read) (h.faults script) (h.faults script_new)
+  pub read : CountsWhere (detail ≡ Read) (h.faults input) (h.faults script_new)
   pub write : CountsWhere (detail ≡ Write) (i.faults out) (i.faults out_new)

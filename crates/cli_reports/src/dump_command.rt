@@ -10,10 +10,10 @@ use log_recovery::{listed, put_dump};
 use std::alloc::Global;
 
 /// Answers the bytes of a log by its records, lawful or not.
-pub fn dump_command<S: Source, K: Sink>(alloc: Global, script: &mut S, out: &mut K) -> Detail
-    ensures { HasReported S.Source K.Sink AnswersDump IsAnswerToDump script.old script.new out.old out.new result }
+pub fn dump_command<S: Source, K: Sink>(alloc: Global, input: &mut S, out: &mut K) -> Detail
+    ensures { HasReported S.Source K.Sink AnswersDump IsAnswerToDump input.old input.new out.old out.new result }
 {
-    let bytes = match read_input(alloc, script) {
+    let bytes = match read_input(alloc, input) {
         Ok(bytes) => bytes,
         Err(detail) => return detail,
     };

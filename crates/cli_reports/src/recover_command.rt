@@ -10,10 +10,10 @@ use log_recovery::{put_accounts, recover_owned};
 use std::alloc::Global;
 
 /// Answers the bytes of a log by its accounts text.
-pub fn recover_command<S: Source, K: Sink>(alloc: Global, script: &mut S, out: &mut K) -> Detail
-    ensures { HasReported S.Source K.Sink AnswersRecover IsAnswerToRecover script.old script.new out.old out.new result }
+pub fn recover_command<S: Source, K: Sink>(alloc: Global, input: &mut S, out: &mut K) -> Detail
+    ensures { HasReported S.Source K.Sink AnswersRecover IsAnswerToRecover input.old input.new out.old out.new result }
 {
-    let bytes = match read_input(alloc, script) {
+    let bytes = match read_input(alloc, input) {
         Ok(bytes) => bytes,
         Err(detail) => return detail,
     };

@@ -29,7 +29,7 @@ use Rattle.cli_shared.specs.Opening.{most_calls}
 use Rattle.cli_shared.specs.declared.report.Detail.{Detail}
 use Rattle.cli_shared.specs.declared.report.Detail.TheVariants.{Fine, Read, Write, Disk, LogEnd}
 use Rattle.cli_threads.specs.declared.transfers.ReadyRun.{ReadyRun}
-use Rattle.cli_ending.specs.declared.conclusion.Ended.{Ended}
+use Rattle.cli_ending.specs.declared.conclusion.RunEnd.{RunEnd}
 use Rattle.cli_ending.specs.Ending.{AreWhole, Concludes, IsFirstLogEnd, closed_text}
 use Rattle.cli_threads.specs.Ending.{HasEnded}
 use Rattle.cli_threads.specs.Run.{HoldsRun, RunIsDrained, RunKeepsLog}
@@ -49,7 +49,7 @@ accounts_text-some list =
     omega (arith, length-append (lsn_line (list_end list)) lines, lsn_line-some (list_end list))
 
 module _ {D : Type 0} {K : Type 0} (g : Ghosts D) (h : SinkGhosts K) (options : RunOptions) (ready : ReadyRun) {wait : Bool}
-    (entry disk disk_new : D) (left left_new : Option (List ℕ)) (sink sink_mid sink_new : K) (ended : Ended)
+    (entry disk disk_new : D) (left left_new : Option (List ℕ)) (sink sink_mid sink_new : K) (ended : RunEnd)
     (is : IsReadyFor g options entry disk left left_new ready)
     (has : HasEnded g h ready.prepared is.opened ready.tail Lines wait disk disk_new sink sink_mid ended)
     (honest : g.honest entry) (honest_mid : g.honest disk) where
@@ -260,7 +260,7 @@ pub write-before : (detail : Detail) → IsBeforeRun detail → detail ≡ Write
 write-before detail before is = subst IsBeforeRun is before
 
 -- what is concluded is an answer of `run` at which something may be written, and no fault of the input
-module _ {K : Type 0} (h : SinkGhosts K) (ended : Ended) (text : List ℕ) (sink sink_new : K) where
+module _ {K : Type 0} (h : SinkGhosts K) (ended : RunEnd) (text : List ℕ) (sink sink_new : K) where
   pub range-concluded : (detail : Detail) → Concludes h ended text sink sink_new detail → IsAnswerToRun detail
   range-concluded = by-conclusion h ended text sink sink_new IsAnswerToRun (λ _. tt) (λ _. tt) (λ _. tt) (λ _. tt) (λ _ _ _. tt)
 

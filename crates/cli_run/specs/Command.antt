@@ -14,8 +14,8 @@ use Rattle.cli_run.specs.RunAnswers.{AnswersRun, IsAnswerToRun, RunStaysSilent}
 pub record DoesRun {D S K : Type 0} (g : Ghosts D) (h : SourceGhosts S) (i : SinkGhosts K) (log : List ℕ) (options : RunOptions)
     (old new : World D S K) (detail : Detail) : Type 0 where
   pub answer : g.honest old.disk
-      → AnswersRun g options (outside old.disk (h.left old.script) (i.held_bytes old.out))
-      (outside new.disk (h.left new.script) (i.held_bytes new.out)) detail
+      → AnswersRun g options (outside old.disk (h.left old.input) (i.held_bytes old.out))
+      (outside new.disk (h.left new.input) (i.held_bytes new.out)) detail
   pub silent : RunStaysSilent (i.held_bytes old.out) (i.held_bytes new.out) detail
   pub range : IsAnswerToRun detail
   pub attached : g.honest old.disk → LeavesAttached (existing log) (g.attached old.disk) (g.attached new.disk) detail

@@ -8,7 +8,7 @@ use Rattle.segment_file.specs.declared.scan_result.Tail.{Tail}
 use Rattle.end_lines.specs.declared.voice.Voice.TheVariants.{Lines}
 use Rattle.cli_shared.specs.declared.report.Detail.{Detail}
 use Rattle.cli_shared.specs.declared.report.Detail.TheVariants.{Write}
-use Rattle.cli_ending.specs.declared.conclusion.Ended.{Ended}
+use Rattle.cli_ending.specs.declared.conclusion.RunEnd.{RunEnd}
 use Rattle.cli_ending.specs.Ending.{Concludes, closed_text}
 use Rattle.cli_threads.specs.declared.transfers.Prepared.{Prepared}
 use Rattle.cli_threads.specs.Ending.{HasEnded}
@@ -16,7 +16,7 @@ use Rattle.cli_threads.specs.Ending.{HasEnded}
 -- the transfers ended so, each told, which left this sink, and this was concluded then
 pub record HasFinished {D : Type 0} {K : Type 0} (g : Ghosts D) (h : SinkGhosts K) (prepared : Prepared) (opened : OpenedList) (tail : Tail)
     (wait : Bool) (disk disk_new : D) (sink sink_new : K) (detail : Detail) : Type 0 where
-  pub ended : Ended
+  pub ended : RunEnd
   pub told : K
   pub has : HasEnded g h prepared opened tail Lines wait disk disk_new sink told ended
   pub concludes : Concludes h ended (closed_text ended) told sink_new detail

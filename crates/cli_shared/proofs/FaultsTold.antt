@@ -11,7 +11,7 @@ use Rattle.cli_shared.proofs.ToldLemmas.{TellsRead, TellsWrite, TellsDisk}
 
 module _ {D S K : Type 0} (g : Ghosts D) (h : SourceGhosts S) (i : SinkGhosts K) (old new : World D S K) where
   -- nothing failed
-  pub told-fine : h.faults new.script ≡ h.faults old.script → i.faults new.out ≡ i.faults old.out → g.faults new.disk ≡ g.faults old.disk
+  pub told-fine : h.faults new.input ≡ h.faults old.input → i.faults new.out ≡ i.faults old.out → g.faults new.disk ≡ g.faults old.disk
       → (g.honest old.disk ↔ g.honest new.disk) → TellsFaults g h i old new Fine
   told-fine read write disk honest = record {
     read = record { counted = λ is. absurd (subst TellsRead (sym is) tt); fine = λ other. read };
@@ -21,7 +21,7 @@ module _ {D S K : Type 0} (g : Ghosts D) (h : SourceGhosts S) (i : SinkGhosts K)
   }
 
   -- the writing failed
-  pub told-part : h.faults new.script ≡ h.faults old.script → Rose (i.faults old.out) (i.faults new.out)
+  pub told-part : h.faults new.input ≡ h.faults old.input → Rose (i.faults old.out) (i.faults new.out)
       → g.faults new.disk ≡ g.faults old.disk → (g.honest old.disk ↔ g.honest new.disk) → TellsFaults g h i old new Write
   told-part read write disk honest = record {
     read = record { counted = λ is. absurd (subst TellsRead (sym is) tt); fine = λ other. read };
@@ -32,7 +32,7 @@ module _ {D S K : Type 0} (g : Ghosts D) (h : SourceGhosts S) (i : SinkGhosts K)
 
   -- a part failed that writes nothing out, with this detail
   pub told-before : {T : Type 0} (detail : Detail) → (detail ≡ Write → ⊥)
-      → CountsWhere (IsErrOf {T = T} (Err detail) Read) (h.faults old.script) (h.faults new.script) → i.faults new.out ≡ i.faults old.out
+      → CountsWhere (IsErrOf {T = T} (Err detail) Read) (h.faults old.input) (h.faults new.input) → i.faults new.out ≡ i.faults old.out
       → CountsWhere (IsErrOf {T = T} (Err detail) Disk) (g.faults old.disk) (g.faults new.disk) → (g.honest old.disk ↔ g.honest new.disk)
       → TellsFaults g h i old new detail
   told-before detail other read write disk honest = record {

@@ -11,16 +11,16 @@ use Rattle.cli_shared.specs.declared.report.Detail.TheVariants.{Read, Write, Dis
 -- what the program works on
 pub record World (D S K : Type 0) : Type 0 where
   pub disk : D
-  pub script : S
+  pub input : S
   pub out : K
 
 abbrev pub world : {D S K : Type 0} → D → S → K → World D S K
-world disk script out = record { disk = disk; script = script; out = out }
+world disk input out = record { disk = disk; input = input; out = out }
 
 -- One fault is counted where one is answered, by the object that the answer names, and none else.
 pub record TellsFaults {D S K : Type 0} (g : Ghosts D) (h : SourceGhosts S) (i : SinkGhosts K) (old new : World D S K) (detail : Detail)
     : Type 0 where
-  pub read : CountsWhere (detail ≡ Read) (h.faults old.script) (h.faults new.script)
+  pub read : CountsWhere (detail ≡ Read) (h.faults old.input) (h.faults new.input)
   pub write : CountsWhere (detail ≡ Write) (i.faults old.out) (i.faults new.out)
   pub disk : CountsWhere (detail ≡ Disk) (g.faults old.disk) (g.faults new.disk)
   pub honest : g.honest old.disk ↔ g.honest new.disk

@@ -200,9 +200,9 @@ counts-no-read result before now other same = record { counted = λ is. absurd (
 
 module _ {D S : Type 0} (g : Ghosts D) (h : SourceGhosts S) where
   -- that is so whatever would have been made of the whole input
-  pub ends-failed : {T U : Type 0} (Made : Base D → T → Type 0) (Other : Base D → U → Type 0) (s t : Standby D) (script script_new : S)
-      (detail : Detail) → FeedEnds g h Made s t script script_new (Err detail) → FeedEnds g h Other s t script script_new (Err detail)
-  ends-failed Made Other s t script script_new detail ends = record {
+  pub ends-failed : {T U : Type 0} (Made : Base D → T → Type 0) (Other : Base D → U → Type 0) (s t : Standby D) (input script_new : S)
+      (detail : Detail) → FeedEnds g h Made s t input script_new (Err detail) → FeedEnds g h Other s t input script_new (Err detail)
+  ends-failed Made Other s t input script_new detail ends = record {
     ok = tt;
     stops = ends.stops;
     range = ends.range;
@@ -211,12 +211,12 @@ module _ {D S : Type 0} (g : Ghosts D) (h : SourceGhosts S) where
   }
 
   -- the standby went no further, and no read failed
-  pub ends-no-further : {T : Type 0} (Made : Base D → T → Type 0) (s t : Standby D) (script script_new : S) (f : StandbyFault)
+  pub ends-no-further : {T : Type 0} (Made : Base D → T → Type 0) (s t : Standby D) (input script_new : S) (f : StandbyFault)
       → ((base : Base D) → Follows g base [] s
-      → StopsFeeding g base (h.left script) (h.left script_new) (stream_detail f) t.disk.now)
-      → h.faults script_new ≡ h.faults script → t.disk.ghost_name ≡ s.disk.ghost_name
-      → FeedEnds g h Made s t script script_new (Err (stream_detail f))
-  ends-no-further Made s t script script_new f stops fine same = record {
+      → StopsFeeding g base (h.left input) (h.left script_new) (stream_detail f) t.disk.now)
+      → h.faults script_new ≡ h.faults input → t.disk.ghost_name ≡ s.disk.ghost_name
+      → FeedEnds g h Made s t input script_new (Err (stream_detail f))
+  ends-no-further Made s t input script_new f stops fine same = record {
     ok = tt;
     stops = stops;
     range = inr (f, refl);

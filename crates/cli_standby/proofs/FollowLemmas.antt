@@ -115,14 +115,14 @@ module _ {D : Type 0} (g : Ghosts D) (old mid : D) (tail : Tail) (judge : Judge)
 
 -- what `follow` ensures, once the stream was followed as far as it goes
 module _ {D S : Type 0} (g : Ghosts D) (h : SourceGhosts S) (old mid : D) (tail : Tail) (judge : Judge)
-    (opened : IsOpened g old mid tail judge) (file : Attached) (script script_new : S) (new : D)
+    (opened : IsOpened g old mid tail judge) (file : Attached) (input script_new : S) (new : D)
     (honest : g.honest old ↔ g.honest mid) (attached : g.honest old → g.attached mid ≡ Some file) (fine : g.faults mid ≡ g.faults old) where
   abbrev start : Base D
   start = begun opened.list tail mid
 
   ends-whole : (both : ℕ × Accounts)
-      → HasFedWhole g start (h.left script) (h.left script_new) both.0 both.1.rows new
-      → h.faults script_new ≡ h.faults script → FollowEnds g h file old new script script_new (Ok both)
+      → HasFedWhole g start (h.left input) (h.left script_new) both.0 both.1.rows new
+      → h.faults script_new ≡ h.faults input → FollowEnds g h file old new input script_new (Ok both)
   ends-whole both has read = record {
     ok = λ was. followed-input g old mid tail judge opened was (honest.0 was) _ _ new both.0 both.1.rows has;
     none = λ was. tt;
@@ -133,9 +133,9 @@ module _ {D S : Type 0} (g : Ghosts D) (h : SourceGhosts S) (old mid : D) (tail 
     disk = record { counted = λ is. absurd cc; fine = λ other. has.fine ∙ fine };
   }
 
-  ends-stopped : (detail : Detail) → StopsFeeding g start (h.left script) (h.left script_new) detail new → IsFeedingFault detail
-      → CountsWhere (IsErrOf {T = ℕ × Accounts} (Err detail) Read) (h.faults script) (h.faults script_new)
-      → FollowEnds g h file old new script script_new (Err detail)
+  ends-stopped : (detail : Detail) → StopsFeeding g start (h.left input) (h.left script_new) detail new → IsFeedingFault detail
+      → CountsWhere (IsErrOf {T = ℕ × Accounts} (Err detail) Read) (h.faults input) (h.faults script_new)
+      → FollowEnds g h file old new input script_new (Err detail)
   ends-stopped detail stops range read = record {
     ok = λ was. tt;
     none = λ was. unsaid-stopped g old mid tail judge opened was (honest.0 was) _ _ new detail range stops;
@@ -148,11 +148,11 @@ module _ {D S : Type 0} (g : Ghosts D) (h : SourceGhosts S) (old mid : D) (tail 
 
   pub follow-ends : (result : Result (ℕ × Accounts) Detail)
       → IfOk result (λ both. (l : OpenedList) → KeepsList g l judge tail mid
-      → HasFedWhole g (begun l tail mid) (h.left script) (h.left script_new) both.0 both.1.rows new)
+      → HasFedWhole g (begun l tail mid) (h.left input) (h.left script_new) both.0 both.1.rows new)
       → IfErr result (λ detail. (l : OpenedList) → KeepsList g l judge tail mid
-      → StopsFeeding g (begun l tail mid) (h.left script) (h.left script_new) detail new) → IfErr result IsFeedingFault
-      → CountsWhere (IsErrOf result Read) (h.faults script) (h.faults script_new)
-      → FollowEnds g h file old new script script_new result
+      → StopsFeeding g (begun l tail mid) (h.left input) (h.left script_new) detail new) → IfErr result IsFeedingFault
+      → CountsWhere (IsErrOf result Read) (h.faults input) (h.faults script_new)
+      → FollowEnds g h file old new input script_new result
   follow-ends (Ok both) whole stops range read = ends-whole both (whole opened.list opened.kept) (read.fine (λ is. cc))
   follow-ends (Err detail) whole stops range read = ends-stopped detail (stops opened.list opened.kept) range read
 
@@ -235,12 +235,12 @@ no-read-recovery fault.NoMemory is = cc
 no-read : (detail : Detail) → IsUnopened detail → detail ≡ Read → ⊥
 no-read = unopened-each (λ detail. detail ≡ Read → ⊥) (λ is. cc) no-read-recovery
 
-pub ends-unopened : {D S T : Type 0} (g : Ghosts D) (h : SourceGhosts S) (file : Attached) (old new : D) (script : S) (detail : Detail)
-    → (g.honest old → AnswersUnsaid g old new (h.left script) (h.left script) detail) → IsUnopened detail → (g.honest old ↔ g.honest new)
+pub ends-unopened : {D S T : Type 0} (g : Ghosts D) (h : SourceGhosts S) (file : Attached) (old new : D) (input : S) (detail : Detail)
+    → (g.honest old → AnswersUnsaid g old new (h.left input) (h.left input) detail) → IsUnopened detail → (g.honest old ↔ g.honest new)
     → (g.honest old → LeavesAttached file (g.attached old) (g.attached new) detail)
     → CountsWhere (IsErrOf {T = T} (Err detail) Disk) (g.faults old) (g.faults new)
-    → FollowEnds g h file old new script script (Err detail)
-ends-unopened g h file old new script detail none range honest attached disk = record {
+    → FollowEnds g h file old new input input (Err detail)
+ends-unopened g h file old new input detail none range honest attached disk = record {
   ok = λ was. tt;
   none = none;
   range = inl range;

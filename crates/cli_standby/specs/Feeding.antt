@@ -106,12 +106,12 @@ IsUnfed {D = D} g s = (base : Base D) × Follows g base [] s
 -- A standby that no byte had come to, `s`, was fed what a source gives: it is `t` then, and has `Made` this of the input; or it went no
 -- further.
 pub record FeedEnds {D S T : Type 0} (g : Ghosts D) (h : SourceGhosts S) (Made : Base D → T → Type 0) (s t : Standby D)
-    (script script_new : S) (result : Result T Detail) : Type 0 where
+    (input script_new : S) (result : Result T Detail) : Type 0 where
   pub ok : IfOk result (λ value. (base : Base D) → Follows g base [] s → Made base value)
   pub stops : IfErr result (λ detail. (base : Base D) → Follows g base [] s
-      → StopsFeeding g base (h.left script) (h.left script_new) detail t.disk.now)
+      → StopsFeeding g base (h.left input) (h.left script_new) detail t.disk.now)
   pub range : IfErr result IsFeedingFault
-  pub read : CountsWhere (IsErrOf result Read) (h.faults script) (h.faults script_new)
+  pub read : CountsWhere (IsErrOf result Read) (h.faults input) (h.faults script_new)
   pub same : t.disk.ghost_name ≡ s.disk.ghost_name
 
 -- what `follow` answers where nothing is written
@@ -138,12 +138,12 @@ pub record HasFollowedInput {D : Type 0} (g : Ghosts D) (old new : D) (left left
   pub text : rows_text lsn rows ≡ accounts_text (with_frames opened frames)
 
 -- what there is once the log was opened and the stream was followed as far as it goes: the clauses of `follow`
-pub record FollowEnds {D S : Type 0} (g : Ghosts D) (h : SourceGhosts S) (file : Attached) (old new : D) (script script_new : S)
+pub record FollowEnds {D S : Type 0} (g : Ghosts D) (h : SourceGhosts S) (file : Attached) (old new : D) (input script_new : S)
     (result : Result (ℕ × Accounts) Detail) : Type 0 where
-  pub ok : g.honest old → IfOk result (λ both. HasFollowedInput g old new (h.left script) (h.left script_new) both.0 both.1.rows)
-  pub none : g.honest old → IfErr result (AnswersUnsaid g old new (h.left script) (h.left script_new))
+  pub ok : g.honest old → IfOk result (λ both. HasFollowedInput g old new (h.left input) (h.left script_new) both.0 both.1.rows)
+  pub none : g.honest old → IfErr result (AnswersUnsaid g old new (h.left input) (h.left script_new))
   pub range : IfErr result IsUnsaid
   pub honest : g.honest old ↔ g.honest new
   pub attached : g.honest old → EndsAttached file (g.attached old) (g.attached new) result
-  pub read : CountsWhere (IsErrOf result Read) (h.faults script) (h.faults script_new)
+  pub read : CountsWhere (IsErrOf result Read) (h.faults input) (h.faults script_new)
   pub disk : CountsWhere (IsErrOf result Disk) (g.faults old) (g.faults new)

@@ -33,14 +33,14 @@ pub fn follow_command<D: LogDisk, S: Source, K: Sink>(
     alloc: Global,
     log: &Word,
     disk: &mut D,
-    script: &mut S,
+    input: &mut S,
     out: &mut K,
 ) -> Detail
     ensures done { DoesFollow D.LogDisk S.Source K.Sink log.now
-        (world disk.old script.old out.old) (world disk.new script.new out.new) result }
-    ensures faults { TellsFaults D.LogDisk S.Source K.Sink (world disk.old script.old out.old) (world disk.new script.new out.new) result }
+        (world disk.old input.old out.old) (world disk.new input.new out.new) result }
+    ensures faults { TellsFaults D.LogDisk S.Source K.Sink (world disk.old input.old out.old) (world disk.new input.new out.new) result }
 {
-    let (lsn, accounts) = match follow(alloc, log, disk, script) {
+    let (lsn, accounts) = match follow(alloc, log, disk, input) {
         Ok(both) => both,
         Err(detail) => return detail,
     };
@@ -55,13 +55,13 @@ fn follow<D: LogDisk, S: Source>(
     alloc: Global,
     log: &Word,
     disk: &mut D,
-    script: &mut S,
+    input: &mut S,
 ) -> Result<(Lsn, Balances), Detail>
-    ensures { FollowEnds D.LogDisk S.Source (existing log.now) disk.old disk.new script.old script.new result }
+    ensures { FollowEnds D.LogDisk S.Source (existing log.now) disk.old disk.new input.old input.new result }
 {
     let (tail, judge) = open_standby(alloc, log, disk)?;
     let mut followed = Err(Detail::NoMemory);
-    let _kept = follow_stream(alloc, Kept { disk }, tail, judge, script, &mut followed);
+    let _kept = follow_stream(alloc, Kept { disk }, tail, judge, input, &mut followed);
     followed
 }
 
@@ -71,17 +71,17 @@ fn follow_stream<'a, D: LogDisk, S: Source>(
     kept: Kept<'a, D>,
     tail: Tail,
     judge: Judge,
-    script: &mut S,
+    input: &mut S,
     followed: &mut Result<(Lsn, Balances), Detail>,
 ) -> Kept<'a, D>
     requires { (list : OpenedList) × KeepsList D.LogDisk list judge tail kept.disk.now }
     ensures ok { IfOk followed.new (λ both. (list : OpenedList) → KeepsList D.LogDisk list judge tail kept.entry.disk.now
-        → HasFedWhole D.LogDisk (begun list tail kept.entry.disk.now) (S.left script.old) (S.left script.new) both.0 both.1.rows
+        → HasFedWhole D.LogDisk (begun list tail kept.entry.disk.now) (S.left input.old) (S.left input.new) both.0 both.1.rows
         result.disk.now) }
     ensures stops { IfErr followed.new (λ detail. (list : OpenedList) → KeepsList D.LogDisk list judge tail kept.entry.disk.now
-        → StopsFeeding D.LogDisk (begun list tail kept.entry.disk.now) (S.left script.old) (S.left script.new) detail result.disk.now) }
+        → StopsFeeding D.LogDisk (begun list tail kept.entry.disk.now) (S.left input.old) (S.left input.new) detail result.disk.now) }
     ensures range { IfErr followed.new IsFeedingFault }
-    ensures read { CountsWhere (IsErrOf followed.new Detail.Read) (S.faults script.old) (S.faults script.new) }
+    ensures read { CountsWhere (IsErrOf followed.new Detail.Read) (S.faults input.old) (S.faults input.new) }
     ensures same { result.disk.ghost_name ≡ kept.entry.disk.ghost_name }
 {
     let Kept { disk } = kept;
@@ -92,7 +92,7 @@ fn follow_stream<'a, D: LogDisk, S: Source>(
             return Kept { disk: unmade.disk };
         }
     };
-    let ended = end_stream(&mut standby, script);
+    let ended = end_stream(&mut standby, input);
     let Standby { disk, judge, .. } = standby;
     match ended {
         Ok(lsn) => {
@@ -109,14 +109,14 @@ fn follow_stream<'a, D: LogDisk, S: Source>(
 /// Feeds a standby, to which no byte has come, the whole input, and answers where the log ends then.
 fn end_stream<D: LogDisk, S: Source>(
     standby: &mut Standby<'_, D>,
-    script: &mut S,
+    input: &mut S,
 ) -> Result<Lsn, Detail>
     requires { IsUnfed D.LogDisk standby.old }
     ensures { FeedEnds D.LogDisk S.Source
-        (λ base lsn. HasFedEnd D.LogDisk base (S.left script.old) (S.left script.new) lsn standby.new)
-        standby.old standby.new script.old script.new result }
+        (λ base lsn. HasFedEnd D.LogDisk base (S.left input.old) (S.left input.new) lsn standby.new)
+        standby.old standby.new input.old input.new result }
 {
-    if let Err(detail) = feed_all(standby, script) {
+    if let Err(detail) = feed_all(standby, input) {
         return Err(detail);
     }
     match standby.end() {
@@ -128,16 +128,16 @@ fn end_stream<D: LogDisk, S: Source>(
 /// Feeds a standby, to which no byte has come, the whole input, piece by piece.
 fn feed_all<D: LogDisk, S: Source>(
     standby: &mut Standby<'_, D>,
-    script: &mut S,
+    input: &mut S,
 ) -> Result<(), Detail>
     requires { IsUnfed D.LogDisk standby.old }
     ensures { FeedEnds D.LogDisk S.Source
-        (λ base done. HasFedAll D.LogDisk base (S.left script.old) (S.left script.new) standby.new)
-        standby.old standby.new script.old script.new result }
+        (λ base done. HasFedAll D.LogDisk base (S.left input.old) (S.left input.new) standby.new)
+        standby.old standby.new input.old input.new result }
 {
     let mut buf = [0; PIECE];
     'pieces: loop {
-        let count = match script.read(&mut buf) {
+        let count = match input.read(&mut buf) {
             Ok(0) => return Ok(()),
             Ok(count) => count,
             Err(_) => return Err(Detail::Read),

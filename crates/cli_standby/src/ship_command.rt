@@ -16,13 +16,13 @@ use std::alloc::Global;
 pub fn ship_command<S: Source, K: Sink>(
     alloc: Global,
     from: Lsn,
-    script: &mut S,
+    input: &mut S,
     out: &mut K,
 ) -> Detail
     ensures { HasReported S.Source K.Sink (AnswersReport (SaysStream from) (RefusesLsn from)) IsAnswerAtLsn
-        script.old script.new out.old out.new result }
+        input.old input.new out.old out.new result }
 {
-    let (_, listed) = match read_log::<Judge, S>(alloc, script) {
+    let (_, listed) = match read_log::<Judge, S>(alloc, input) {
         Ok(both) => both,
         Err(detail) => return detail,
     };

@@ -29,7 +29,7 @@ use Rattle.txn_jobs.specs.declared.cause.Worked.{Worked}
 use Rattle.txn_jobs.specs.declared.cause.Worked.TheVariants as worked
 use Rattle.cli_shared.specs.declared.report.Detail.{Detail}
 use Rattle.cli_shared.specs.declared.report.Detail.TheVariants.{Fine, NoMemory, Usage, Script, Read, Write, Disk, NotALog, BadSnapshot, BadBatch, BadRec, Unlawful, LogEnd, TxnEnd, Exists, NoSuchLsn, BadStream, Gap, StreamUnlawful, NoAccount}
-use Rattle.cli_ending.specs.declared.conclusion.Ended.{Ended}
+use Rattle.cli_ending.specs.declared.conclusion.RunEnd.{RunEnd}
 use Rattle.cli_ending.specs.Ending.{AreWhole, Concludes, NoneStopped, NothingStopped, StoppedAs, IsFirstLogEnd}
 use Rattle.cli_threads.specs.declared.transfers.Prepared.{Prepared}
 use Rattle.cli_threads.specs.Ending.{HasEnded}
@@ -70,7 +70,7 @@ length-behind [] above end = omega arith
 length-behind (first ∷ below) above end = let shorter = length-behind below above end in omega arith
 
 -- what is concluded is Disk, Write, where something stopped the transfers or the text could not be written whole, Fine or LogEnd
-module _ {K : Type 0} (h : SinkGhosts K) (ended : Ended) (text : List ℕ) (old new : K) (P : Detail → Type 0)
+module _ {K : Type 0} (h : SinkGhosts K) (ended : RunEnd) (text : List ℕ) (old new : K) (P : Detail → Type 0)
     (disk : Concludes h ended text old new Disk → P Disk) (stopped : StoppedAs ended Write × (new ≡ old) → P Write)
     (cut : NothingStopped ended × AppendsPart (h.held_bytes old) (h.held_bytes new) text → P Write)
     (fine : Concludes h ended text old new Fine → P Fine)
@@ -99,7 +99,7 @@ module _ {K : Type 0} (h : SinkGhosts K) (ended : Ended) (text : List ℕ) (old 
   by-conclusion (NoAccount account) said = absurd said
 
 module _ {D : Type 0} {K : Type 0} (g : Ghosts D) (h : SinkGhosts K) (prepared : Prepared) (opened : OpenedList) (voice : Voice)
-    {tail : Tail} {wait : Bool} (disk disk_new : D) (sink sink_new : K) (ended : Ended)
+    {tail : Tail} {wait : Bool} (disk disk_new : D) (sink sink_new : K) (ended : RunEnd)
     (has : HasEnded g h prepared opened tail voice wait disk disk_new sink sink_new ended) where
   abbrev pub list : List Rec
   list = records_of has.view.entries

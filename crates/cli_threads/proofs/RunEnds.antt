@@ -14,7 +14,7 @@ use Rattle.log_record.specs.LogList.{size_of, end_of}
 use Rattle.log_record.proofs.LogListLemmas.{front_is_boundary}
 use Rattle.lock_core.specs.Alone.{outcome_alone}
 use Rattle.lock_core.specs.Records.{without_prev}
-use Rattle.lock_core.specs.Serial.{Task}
+use Rattle.lock_core.specs.Serial.{NumberedTransfer}
 use Rattle.lock_core.specs.Transactions.{own_records_of, has_end, all_without_prev, in_order}
 use Rattle.lock_core.proofs.NextRecords.{own_records_of-own, has_end-own, unended-next, planned-next, size-without_prev}
 use Rattle.log_rule.specs.declared.view.Entry.{Entry}
@@ -185,8 +185,8 @@ module _ (opened : OpenedList) (jobs : NumberedJobs) (view : View) (below : (ope
 
     -- where no worker was cut off, each transfer ended
     pub all-ended : AllByRecursion (λ (share : Share). share.worked ≡ All) shares
-        → AllByRecursion (λ (task : Task). has_end (own_records_of task.number later) ≡ true) (tasks_of jobs)
-    all-ended all = each-numbered (λ (task : Task). has_end (own_records_of task.number later) ≡ true) jobs.first jobs.script
+        → AllByRecursion (λ (task : NumberedTransfer). has_end (own_records_of task.number later) ≡ true) (tasks_of jobs)
+    all-ended all = each-numbered (λ (task : NumberedTransfer). has_end (own_records_of task.number later) ≡ true) jobs.first jobs.script
         (λ place inside.
         let first = share-at shares 0 gathered.someone in
         let whole = gathered.all 0 first.0 first.1 (worked-all shares 0 first.0 all first.1) in

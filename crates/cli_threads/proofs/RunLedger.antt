@@ -6,7 +6,7 @@ use Rattle.log_record.specs.declared.rec.Placed.{Placed}
 use Rattle.log_record.specs.Spelling.{IsSpellable}
 use Rattle.lock_core.specs.Lawful.{IsLawful, base_with}
 use Rattle.lock_core.specs.Records.{txn_of}
-use Rattle.lock_core.specs.Serial.{Task, IsPartlySerialAfter}
+use Rattle.lock_core.specs.Serial.{NumberedTransfer, IsPartlySerialAfter}
 use Rattle.lock_core.specs.Settling.{KeepsRows}
 use Rattle.lock_core.specs.Soundness.{IsSoundAfter}
 use Rattle.lock_core.specs.Sums.{as_opening, BaseState, BeginsInRange, ShowsAccounts, balance_of, last_commit_of}
@@ -75,7 +75,7 @@ module _ (opened : OpenedList) (list : List Rec) (jobs : NumberedJobs) (lawful :
   }
 
   -- with each transfer ended
-  pub runs-whole : AllByRecursion (λ (task : Task). has_end (own_records_of task.number (later_of opened list)) ≡ true) (tasks_of jobs)
+  pub runs-whole : AllByRecursion (λ (task : NumberedTransfer). has_end (own_records_of task.number (later_of opened list)) ≡ true) (tasks_of jobs)
       → RunsWhole opened jobs list
   runs-whole ended = record {
     later = later_of opened list;

@@ -16,7 +16,7 @@ use Rattle.log_record.specs.Spelling.{IsSpellable}
 use Rattle.log_record.proofs.SpellingLemmas.{units_of-injective}
 use Rattle.lock_core.specs.History.{history_from}
 use Rattle.lock_core.specs.Lawful.{IsLawful}
-use Rattle.lock_core.specs.Serial.{Task, IsPartlySerialAfter, IsSerialAfter}
+use Rattle.lock_core.specs.Serial.{NumberedTransfer, IsPartlySerialAfter, IsSerialAfter}
 use Rattle.lock_core.specs.Settling.{KeepsRows}
 use Rattle.lock_core.specs.Sums.{as_opening, BaseState}
 use Rattle.lock_core.proofs.ListLemmas.{all-append, all-split}
@@ -75,7 +75,7 @@ module _ {D : Type 0} {K : Type 0} (g : Ghosts D) (h : SinkGhosts K) (opened : O
   abbrev base : BaseState
   base = base_left opened
 
-  abbrev taken : List Task
+  abbrev taken : List NumberedTransfer
   taken = map task_of (all_taken jobs shares)
 
   abbrev sharing : Sharing

@@ -7,7 +7,7 @@ use mathlib.Core.Logic.{dite}
 use mathlib.Core.Option.{some}
 use native.Mathlib.Decide.{ℕ_discrete, dec_lt}
 use lib.ListN.{get_elem?}
-use Rattle.lock_core.specs.Serial.{Task, numbered}
+use Rattle.lock_core.specs.Serial.{NumberedTransfer, numbered}
 use Rattle.lock_core.specs.Transfers.{transfer_of}
 use Rattle.lock_core.specs.declared.job.Job.{Job}
 use Rattle.lock_core.proofs.ListLemmas.{all-append}
@@ -25,11 +25,11 @@ abbrev pub places_taken : List Share → List ℕ
 places_taken shares = concat (map (λ (share : Share). share.taken) shares)
 
 -- the job at this place, under its number
-abbrev pub task_at : ℕ → List Job → ℕ → Task
+abbrev pub task_at : ℕ → List Job → ℕ → NumberedTransfer
 task_at first script place =
     record { number = first + place; job = transfer_of (get_or script place (record { legs = []; note = None })) }
 
-abbrev pub tasks_of : NumberedJobs → List Task
+abbrev pub tasks_of : NumberedJobs → List NumberedTransfer
 tasks_of jobs = numbered jobs.first (map transfer_of jobs.script)
 
 -- ---- how often a number was taken
@@ -38,7 +38,7 @@ times_taken-append : (n : ℕ) (xs ys : List TakenJob) → times_taken n (xs ++ 
 times_taken-append n [] ys = omega arith
 times_taken-append n (taken ∷ xs) ys = let rest = times_taken-append n xs ys in omega arith
 
-times_taken-none : (n : ℕ) (list : List TakenJob) → AllByRecursion (λ (task : Task). task.number ≢ n) (map task_of list)
+times_taken-none : (n : ℕ) (list : List TakenJob) → AllByRecursion (λ (task : NumberedTransfer). task.number ≢ n) (map task_of list)
     → times_taken n list ≡ 0
 times_taken-none n [] others = refl
 times_taken-none n (taken ∷ list) others =
@@ -73,7 +73,7 @@ module _ (jobs : NumberedJobs) (x : ℕ) where
 
 -- ---- the jobs taken, as those of the script under their numbers
 
-module _ (P : Task → Type 0) where
+module _ (P : NumberedTransfer → Type 0) where
   -- what holds of the job at each place
   pub each-numbered : (first : ℕ) (script : List Job) → ((place : ℕ) → place < length script → P (task_at first script place))
       → AllByRecursion P (numbered first (map transfer_of script))
@@ -110,13 +110,13 @@ pub numbered-has : (first : ℕ) (script : List Job) (place : ℕ) → place < l
 numbered-has first [] place inside = absurd (omega arith)
 numbered-has first (job ∷ script) zero inside = (0, omega arith, ap (λ n. record { number = n; job = transfer_of job }) (omega arith))
 numbered-has first (job ∷ script) (suc place) inside =
-    let tasks : List Task = numbered (first + 1) (map transfer_of script) in
+    let tasks : List NumberedTransfer = numbered (first + 1) (map transfer_of script) in
     Contains-append_right (record { number = first; job = transfer_of job } ∷ []) tasks (task_at first (job ∷ script) (suc place))
     (subst (λ n. Contains tasks (record { number = n; job = (task_at first script place).job })) (omega arith)
     (numbered-has (first + 1) script place (omega arith)))
 
 module _ (jobs : NumberedJobs) (place : ℕ) where
-  abbrev own_task : Task
+  abbrev own_task : NumberedTransfer
   own_task = task_of (taken_at jobs place)
 
   -- what is joined has the tasks of both
@@ -151,7 +151,7 @@ share-at (first ∷ shares) zero inside = (first, refl)
 share-at (first ∷ shares) (suc i) inside = share-at shares i (omega arith)
 
 module _ (jobs : NumberedJobs) (front : ℕ) (shares : List Share) (shared : IsSharedOut (length shares) jobs (sharing_of front shares)) where
-  abbrev taken : List Task
+  abbrev taken : List NumberedTransfer
   taken = map task_of (all_taken jobs shares)
 
   -- the places that were taken are those of the front
@@ -165,7 +165,7 @@ module _ (jobs : NumberedJobs) (front : ℕ) (shares : List Share) (shared : IsS
   pub taken-once : (n : ℕ) → times_taken n (all_taken jobs shares) ≤ 1
   taken-once n = dite (dec_lt n jobs.first)
       (λ low.
-      let none = times_taken-none n (all_taken jobs shares) (each-taken (λ (task : Task). task.number ≢ n) jobs shares
+      let none = times_taken-none n (all_taken jobs shares) (each-taken (λ (task : NumberedTransfer). task.number ≢ n) jobs shares
       (λ place has is. omega (arith, low, is))) in omega (arith, none))
       (λ high. subst (λ m. times_taken m (all_taken jobs shares) ≤ 1) (omega (arith, high)) (at-place (n - jobs.first)))
     where
@@ -173,13 +173,13 @@ module _ (jobs : NumberedJobs) (front : ℕ) (shares : List Share) (shared : IsS
       at-place place = omega (arith, times_taken-shares jobs place shares, shared.once place, once-most place front)
 
   -- a job behind the front has another number than each that was taken
-  pub not_taken : (place : ℕ) → front ≤ place → AllByRecursion (λ (task : Task). task.number ≢ number_at jobs place) taken
-  not_taken place behind = each-taken (λ (task : Task). task.number ≢ number_at jobs place) jobs shares
+  pub not_taken : (place : ℕ) → front ≤ place → AllByRecursion (λ (task : NumberedTransfer). task.number ≢ number_at jobs place) taken
+  not_taken place behind = each-taken (λ (task : NumberedTransfer). task.number ≢ number_at jobs place) jobs shares
       (λ other has is. omega (arith, behind, is, taken-inside other has))
 
   -- each job of the script was taken, or has a number of its own
   pub taken-or_not : (place : ℕ)
-      → Contains taken (task_at jobs.first jobs.script place) ⊎ AllByRecursion (λ (task : Task). task.number ≢ jobs.first + place) taken
+      → Contains taken (task_at jobs.first jobs.script place) ⊎ AllByRecursion (λ (task : NumberedTransfer). task.number ≢ jobs.first + place) taken
   taken-or_not place = dite (dec_lt place front)
       (λ inside. inl (taken-has jobs place shares (taken-front place inside)))
       (λ behind. inr (not_taken place (omega (arith, behind))))

@@ -128,15 +128,15 @@ MayClose-all table queue wait key workers done view taken =
       all_merged = λ worker known. subst (λ l. list_any (eqb worker) l ≡ true) (made ∙ sym (merged ∙ ap hired_numbers count)) known;
     }
 
-module _ {D : Type 0} {K : Type 0} (g : Ghosts D) (h : SinkGhosts K) {tail : Tail} {voice : Voice} {boss : Seat} {disk : D} {sink : K}
-    (first last : Daemon D K g h) (begun : IsBegun g h tail voice boss disk sink first) (later : Later g h first last) where
+module _ {D : Type 0} {K : Type 0} (g : Ghosts D) (h : SinkGhosts K) {tail : Tail} {voice : Voice} {flusher_seat : Seat} {disk : D} {sink : K}
+    (first last : Daemon D K g h) (begun : IsBegun g h tail voice flusher_seat disk sink first) (later : Later g h first last) where
   same : IsSameDaemon g first last
   same = Later-same g h first last later
 
-  standing : (view_of last.flusher.seat).standing ≡ (view_of boss).standing
+  standing : (view_of last.flusher.seat).standing ≡ (view_of flusher_seat).standing
   standing = same.flusher.workers ∙ ap (λ (s : Seat). (view_of s).standing) begun.seat_is
 
-  pub HasTaken-turned : (key : Start) (workers : ℕ) → KnowsHired key workers (view_of boss) → HasTaken key workers (view_of last.flusher.seat)
+  pub HasTaken-turned : (key : Start) (workers : ℕ) → KnowsHired key workers (view_of flusher_seat) → HasTaken key workers (view_of last.flusher.seat)
   HasTaken-turned key workers knows = record {
     flusher = ap (λ (s : Standing). s.role) standing ∙ knows.flusher;
     made = ap (λ (s : Standing). s.made) standing ∙ knows.made;
@@ -148,7 +148,7 @@ module _ {D : Type 0} {K : Type 0} (g : Ghosts D) (h : SinkGhosts K) {tail : Tai
   }
 
   -- the first daemon had sent nothing
-  IsFresh-begun : (key : Start) (workers : ℕ) → KnowsHired key workers (view_of boss) → IsFresh key first
+  IsFresh-begun : (key : Start) (workers : ℕ) → KnowsHired key workers (view_of flusher_seat) → IsFresh key first
   IsFresh-begun key workers knows = record {
     constants = ap (λ (s : Seat). (view_of s).constants) begun.seat_is ∙ knows.constants;
     made = begun.made;
@@ -157,14 +157,14 @@ module _ {D : Type 0} {K : Type 0} (g : Ghosts D) (h : SinkGhosts K) {tail : Tai
   }
 
   pub MayClose-gathered : (key : Start) (table : LogTable) (queue : Queue) (wait : Bool) (workers : List Worker)
-      → KnowsHired key (length workers) (view_of boss) → AreDone table queue wait workers
+      → KnowsHired key (length workers) (view_of flusher_seat) → AreDone table queue wait workers
       → (view : View) → view ≡ takes_all (view_of last.flusher.seat) (map view_in workers) → MayClose view
   MayClose-gathered key table queue wait workers knows done view is = subst MayClose (sym is)
       (MayClose-all table queue wait key workers done (view_of last.flusher.seat) (HasTaken-turned key (length workers) knows))
 
   -- Once all seats are taken in, a front of the script was taken, and the table is closed, all is known of the run.
   pub HasTransferred-gathered : (key : Start) (table : LogTable) (queue : Queue) (wait : Bool) (workers : List Worker)
-      → KnowsHired key (length workers) (view_of boss) → (opened : OpenedList) → IsOpened g disk tail opened queue.first key
+      → KnowsHired key (length workers) (view_of flusher_seat) → (opened : OpenedList) → IsOpened g disk tail opened queue.first key
       → AreDone table queue wait workers → 1 ≤ length workers
       → (front : AreFront (length queue.script) (all_places workers) (all_marks workers))
       → AllByRecursion (HasReadStop (view_of last.flusher.seat).sending.stop) (map view_in workers)

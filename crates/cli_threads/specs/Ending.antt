@@ -10,7 +10,7 @@ use Rattle.log_rule.specs.declared.view.View.{View}
 use Rattle.log_table.specs.Seats.{key_of}
 use Rattle.commit_pipeline.specs.declared.daemon.Daemon.{Daemon}
 use Rattle.end_lines.specs.declared.voice.Voice.{Voice}
-use Rattle.cli_ending.specs.declared.conclusion.Ended.{Ended}
+use Rattle.cli_ending.specs.declared.conclusion.RunEnd.{RunEnd}
 use Rattle.job_queue.specs.Passes.{jobs_of, workers_of}
 use Rattle.cli_threads.specs.declared.transfers.Prepared.{Prepared}
 use Rattle.cli_threads.specs.Shares.{Share}
@@ -20,7 +20,7 @@ use Rattle.cli_threads.specs.Waiting.{HaveWaited, made_of}
 -- Turns led from a daemon over the one disk and sink, which went on at this tail, to one over the other, and the transfers ended so.
 -- Where workers wait, each transfer that they made, but for one that was cut off, gave its accounts back once its end was durable.
 pub record HasEnded {D : Type 0} {K : Type 0} (g : Ghosts D) (h : SinkGhosts K) (prepared : Prepared) (opened : OpenedList) (tail : Tail)
-    (voice : Voice) (wait : Bool) (disk disk_new : D) (sink sink_new : K) (ended : Ended) : Type 0 where
+    (voice : Voice) (wait : Bool) (disk disk_new : D) (sink sink_new : K) (ended : RunEnd) : Type 0 where
   pub front : ℕ
   pub shares : List Share
   pub count : length shares ≡ workers_of prepared.jobs

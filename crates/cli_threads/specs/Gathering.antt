@@ -52,7 +52,7 @@ takes_all view (other ∷ others) = takes_all (takes_in view other) others
 -- this is what the work of each came to.
 pub record GathersAll {Y Z : Type 0} (table : LogTable) (old new : Seat) (jobs_old jobs_new : Jobs) (workers : Vec Worker Y)
     (came : Vec Worked Z) : Type 0 where
-  pub boss : IsOf table new
+  pub flusher_seat : IsOf table new
   pub view : view_of new ≡ takes_all (view_of old) (map view_in workers.items)
   pub stops : AllByRecursion (HasReadStop (view_of old).sending.stop) (map view_in workers.items)
   pub ends : came.items ≡ map worked_of workers.items

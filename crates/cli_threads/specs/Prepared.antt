@@ -20,7 +20,7 @@ use Rattle.commit_pipeline.specs.declared.daemon.Daemon.{Daemon}
 use Rattle.end_lines.specs.declared.voice.Voice.{Voice}
 use Rattle.commit_pipeline.specs.Turning.{IsMade}
 use Rattle.txn_jobs.specs.declared.cause.Worked.{Worked}
-use Rattle.cli_ending.specs.declared.conclusion.Ended.{Ended}
+use Rattle.cli_ending.specs.declared.conclusion.RunEnd.{RunEnd}
 use Rattle.job_queue.specs.declared.jobs.Jobs.{Jobs}
 use Rattle.job_queue.specs.declared.queue.Queue.{Queue}
 use Rattle.job_queue.specs.Passes.{HasFirstPass, marks_back, passes_out, places_back, workers_of}
@@ -50,7 +50,7 @@ pub record AreReady (table : LogTable) (queue : Queue) (size : ℕ) (hands : Han
 
 -- All of so many workers are enrolled, as the flusher's seat knows, and there is room for all that they and the daemon need.
 pub record IsCrew (table : LogTable) (queue : Queue) (size : ℕ) (crew : Crew) : Type 0 where
-  pub boss : HasHired table size crew.boss
+  pub flusher_seat : HasHired table size crew.flusher_seat
   pub batch : table.ring ≤ crew.batch.room
   pub hands : AreReady table queue size crew.hands
 
@@ -125,16 +125,16 @@ pub record IsLeftOf {D : Type 0} {K : Type 0} (g : Ghosts D) (h : SinkGhosts K) 
   pub done : left.tally.done ≡ served.done
   pub refused : left.tally.refused ≡ served.refused
   pub ends_are : served.ends.items ≡ ends
-  pub boss : served.boss ≡ left.flusher.seat
-  pub over : MayClose (view_of served.boss)
+  pub flusher_seat : served.flusher_seat ≡ left.flusher.seat
+  pub over : MayClose (view_of served.flusher_seat)
 
 -- A daemon was made just now, over this seat, disk and sink, and the crew was served by it; this is left, with these disk and sink.
 pub record HasTurned {D : Type 0} {K : Type 0} (g : Ghosts D) (h : SinkGhosts K) (table : LogTable) (queue : Queue) (size : ℕ) (wait : Bool)
-    (tail : Tail) (voice : Voice) (boss : Seat) (disk disk_new : D) (sink sink_new : K) (served : Served) : Type 0 where
+    (tail : Tail) (voice : Voice) (flusher_seat : Seat) (disk disk_new : D) (sink sink_new : K) (served : Served) : Type 0 where
   pub first : Daemon D K g h
   pub left : Daemon D K g h
   pub ends : List Worked
-  pub begun : IsBegun g h tail voice boss disk sink first
+  pub begun : IsBegun g h tail voice flusher_seat disk sink first
   pub crew : HasServedAll g h table queue size wait first left ends
   pub rest : IsLeftOf g h left ends served
   pub disk_is : left.flusher.disk.now ≡ disk_new
@@ -142,15 +142,15 @@ pub record HasTurned {D : Type 0} {K : Type 0} (g : Ghosts D) (h : SinkGhosts K)
 
 -- the table may be closed
 pub record IsOver (table : LogTable) (served : Served) : Type 0 where
-  pub seat : IsOf table served.boss
-  pub over : MayClose (view_of served.boss)
+  pub seat : IsOf table served.flusher_seat
+  pub over : MayClose (view_of served.flusher_seat)
 
 -- the table was closed, and nothing else is told than was left
-pub record IsEndOf (table : LogTable) (ended : Ended) (served : Served) : Type 0 where
+pub record IsEndOf (table : LogTable) (ended : RunEnd) (served : Served) : Type 0 where
   pub fault : served.fault ≡ ended.fault
   pub done : served.done ≡ ended.done
   pub refused : served.refused ≡ ended.refused
   pub ends_are : served.ends.items ≡ ended.ends.items
-  pub gathered : IsGathered ended.closed.tail (view_of served.boss)
-  pub settled : IsSettled (base_of (key_of table)) (view_of served.boss) ended.closed.accounts.rows
-  pub heard : HasHeardOfWorkers (view_of served.boss)
+  pub gathered : IsGathered ended.closed.tail (view_of served.flusher_seat)
+  pub settled : IsSettled (base_of (key_of table)) (view_of served.flusher_seat) ended.closed.accounts.rows
+  pub heard : HasHeardOfWorkers (view_of served.flusher_seat)

@@ -12,7 +12,7 @@ use Rattle.txn_runner.specs.Working.{EndsByMark, HasWorked, Works, jobs_of, plac
 use Rattle.cli_workers.specs.declared.workers.Worker.{Worker}
 use Rattle.cli_workers.specs.Workers.{AreUnused, IsHired, Numbered}
 use Rattle.cli_threads.specs.declared.serving.Started.{Started}
-use Rattle.cli_threads.specs.declared.serving.Started.TheVariants.{Running, Refused}
+use Rattle.cli_threads.specs.declared.serving.Started.TheVariants.{Running, NoThread}
 use Rattle.cli_threads.specs.Waiting.{HaveWaited, made_of}
 
 -- the worker did its work, which came to this, and has ended; where it waits, accounts went back once the ends were durable
@@ -46,13 +46,13 @@ ComesBack table queue wait worker = MatchOption worker.worked (IsHired table que
 -- the number of the worker that runs, or was done here
 abbrev pub number_of : Started → ℕ
 number_of (Running child) = child.promise.number
-number_of (Refused worker) = worker.seat.worker
+number_of (NoThread worker) = worker.seat.worker
 
 -- its thread promises a worker that comes back, or it has none and is done
 abbrev pub IsStarted : LogTable → Queue → Bool → Started → Type 0
 IsStarted table queue wait (Running child) =
     (child.promise.table.value ≡ table) × (child.promise.queue.value ≡ queue) × (child.promise.wait ≡ wait)
-IsStarted table queue wait (Refused worker) = IsDone table queue wait worker
+IsStarted table queue wait (NoThread worker) = IsDone table queue wait worker
 
 -- the worker of this number is started, or done
 abbrev pub IsStartedAs : LogTable → Queue → Bool → ℕ → Started → Type 0

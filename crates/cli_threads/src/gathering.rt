@@ -14,22 +14,22 @@ use txn_runner::{Jobs, Worked};
 /// work of each came to.
 pub(crate) fn gather(
     table: &LogTable,
-    boss: &mut Seat,
+    flusher_seat: &mut Seat,
     jobs: &mut Jobs,
     workers: Vec<Worker>,
     mut ends: Vec<Worked>,
 ) -> Vec<Worked>
-    requires boss { IsOf table.now boss.old }
-    requires flusher { (view_of boss.old).standing.role ≡ Flusher }
+    requires flusher_seat { IsOf table.now flusher_seat.old }
+    requires flusher { (view_of flusher_seat.old).standing.role ≡ Flusher }
     requires jobs { HasFirstPass jobs.old }
     requires workers { AllByRecursion (HasLeft table.now jobs.old.queue) workers.items }
     requires none { ends.items ≡ [] }
     requires room { vec_len workers ≤ vec_capacity ends }
-    ensures { GathersAll table.now boss.old boss.new jobs.old jobs.new workers result }
+    ensures { GathersAll table.now flusher_seat.old flusher_seat.new jobs.old jobs.new workers result }
 {
     for worker in workers {
         let Worker { seat, rows, worked } = worker;
-        table.merge(boss, seat);
+        table.merge(flusher_seat, seat);
         jobs.dismiss(rows);
         let Some(worked) = worked else { unreachable!() };
         ends.push_reserved(worked);

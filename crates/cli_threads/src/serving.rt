@@ -31,7 +31,7 @@ impl Promise<Worker> for Comes {
 #[derive(Drop)]
 pub(crate) enum Started {
     Running(PromisedHandle<Worker, Comes>),
-    Refused(Worker),
+    NoThread(Worker),
 }
 
 /// A worker's whole life: its work, and its end.
@@ -135,7 +135,7 @@ fn start<'a, R: Threads + Wait + Clock + Sync, G: Gate + Sync, E, Q: Relief>(
         Err(start) => {
             flag.store(true, Ordering::SeqCst);
             let worker = (start.value)();
-            Started::Refused(finish(run, worker, relief))
+            Started::NoThread(finish(run, worker, relief))
         }
     }
 }
@@ -173,7 +173,7 @@ fn join<'a, R: Threads + Wait + Sync, G: Gate + Sync, Q: Relief>(
 {
     let worker = match started {
         Started::Running(child) => child.join(run.rt),
-        Started::Refused(worker) => worker,
+        Started::NoThread(worker) => worker,
     };
     finish(run, worker, relief)
 }

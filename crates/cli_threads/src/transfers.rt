@@ -16,7 +16,7 @@ ghost use Rattle.commit_pipeline.specs.Turning.{MayTurn};
 use crate::gathering::gather;
 use crate::room::{Room, flags};
 use crate::scope::serve_all;
-use cli_ending::Ended;
+use cli_ending::RunEnd;
 use cli_workers::{Run, Worker, hire_all};
 use commit_pipeline::{Daemon, DaemonFault, DaemonParts, Voice};
 use flusher::{Flusher, FlusherParts};
@@ -53,7 +53,7 @@ pub struct ReadyRun {
 /// The table's first seat, a batch as long as the ring, and the workers.
 #[derive(Drop)]
 pub(crate) struct Crew {
-    pub(crate) boss: Seat,
+    pub(crate) flusher_seat: Seat,
     pub(crate) batch: Batch,
     pub(crate) hands: Hands,
 }
@@ -79,7 +79,7 @@ struct Served {
     done: u64,
     refused: u64,
     ends: Vec<Worked>,
-    boss: Seat,
+    flusher_seat: Seat,
 }
 
 /// Makes the table, and all that workers and the daemon need. The transfers are put into a queue, of which each worker has its pass.
@@ -100,16 +100,20 @@ pub fn prepare<R: Wait>(
     ensures { Prepares start script first workers result }
 {
     let batch = Batch::make(alloc, start.ring)?;
-    let (table, mut boss) = LogTable::make(alloc, start)?;
+    let (table, mut flusher_seat) = LogTable::make(alloc, start)?;
     let mut jobs = Jobs::make(rt, alloc, script, first, workers)?;
-    let hired = hire_all(alloc, &table, &mut boss, &mut jobs, workers)?;
+    let hired = hire_all(alloc, &table, &mut flusher_seat, &mut jobs, workers)?;
     let refused = flags(alloc, workers)?;
     let room = Room::make(alloc, workers)?;
     let hands = Hands {
         workers: hired,
         room,
     };
-    let crew = Crew { boss, batch, hands };
+    let crew = Crew {
+        flusher_seat,
+        batch,
+        hands,
+    };
     Ok(Prepared {
         table,
         jobs,
@@ -158,7 +162,7 @@ fn serve_crew<'a, 'c, R: Threads + Wait + Clock + Sync, D: LogDisk, K: Sink, G: 
 ) -> &'c mut FlushingRelief<'a, D, K>
     requires jobs { MayBeTaken table.now (length refused.now) jobs.old }
     requires hands { AreReady table.now jobs.old.queue (length refused.now) hands }
-    requires boss { HasHired table.now (length refused.now) relief.old.daemon.flusher.seat }
+    requires flusher_seat { HasHired table.now (length refused.now) relief.old.daemon.flusher.seat }
     requires ready { MayTurn D.LogDisk relief.old.daemon }
     ensures turned { IsSomeAnd ends.new (λ ends. HasServedAll D.LogDisk K.Sink table.now jobs.old.queue (length refused.now) wait
         relief.old.daemon result.now.daemon ends.items) }
@@ -200,7 +204,7 @@ fn take_apart<'a, D: LogDisk, K: Sink>(
         done,
         refused,
         ends,
-        boss: seat,
+        flusher_seat: seat,
     });
     Outside { disk, out: sink }
 }
@@ -223,11 +227,11 @@ fn run_crew<'a, R: Threads + Wait + Clock + Sync, D: LogDisk, K: Sink, G: Gate +
     requires jobs { MayBeTaken table.now (length refused.now) jobs.old }
     requires log { MayGoOn D.LogDisk tail table.now outside.disk.now }
     ensures turned { IsSomeAnd served.new (HasTurned D.LogDisk K.Sink table.now jobs.old.queue (length refused.now) wait
-        tail voice crew.boss outside.entry.disk.now result.disk.now outside.entry.out.now result.out.now) }
+        tail voice crew.flusher_seat outside.entry.disk.now result.disk.now outside.entry.out.now result.out.now) }
     ensures disk { result.disk.ghost_name ≡ outside.entry.disk.ghost_name }
     ensures out { result.out.ghost_name ≡ outside.entry.out.ghost_name }
 {
-    let mut relief = relief_of(table, crew.boss, crew.batch, outside, tail, voice);
+    let mut relief = relief_of(table, crew.flusher_seat, crew.batch, outside, tail, voice);
     let mut ends = None;
     let _relief = serve_crew(
         rt,
@@ -245,17 +249,17 @@ fn run_crew<'a, R: Threads + Wait + Clock + Sync, D: LogDisk, K: Sink, G: Gate +
 }
 
 /// Closes the table, once all seats were taken in, so that it is known which transfers were taken.
-fn close(table: LogTable, served: Option<Served>) -> Ended
+fn close(table: LogTable, served: Option<Served>) -> RunEnd
     requires served { IsSomeAnd served (IsOver table) }
     ensures { IsSomeAnd served (IsEndOf table result) }
 {
     let Some(served) = served else { unreachable!() };
-    Ended {
+    RunEnd {
         fault: served.fault,
         done: served.done,
         refused: served.refused,
         ends: served.ends,
-        closed: table.close(served.boss),
+        closed: table.close(served.flusher_seat),
     }
 }
 
@@ -269,7 +273,7 @@ pub fn run_transfers<R: Threads + Wait + Clock + Sync, D: LogDisk, K: Sink, G: G
     voice: Voice,
     wait: bool,
     gate: &G,
-) -> Ended
+) -> RunEnd
     requires prepared { IsPrepared prepared }
     requires opened { (opened : OpenedList)
         × IsOpened D.LogDisk disk.old tail opened prepared.jobs.queue.first (key_of prepared.table) }

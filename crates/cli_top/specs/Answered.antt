@@ -22,7 +22,7 @@ use Rattle.cli_world.specs.Reports.{DoesAsOf, DoesDump, DoesRecover, DoesShip, D
 pub record DoesDemo {D S K : Type 0} (g : Ghosts D) (i : SinkGhosts K) (log : List ℕ) (n seed : ℕ) (options : RunOptions)
     (old new : World D S K) (detail : Detail) : Type 0 where
   pub demonstrated : HasDemonstrated g i log n seed options old.disk new.disk old.out new.out detail
-  pub unread : new.script ≡ old.script
+  pub unread : new.input ≡ old.input
 
 -- the command did what it promises
 abbrev pub Does : {D S K : Type 0} → Ghosts D → SourceGhosts S → SinkGhosts K → Command → World D S K → World D S K → Detail → Type 0

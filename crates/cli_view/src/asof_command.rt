@@ -19,13 +19,13 @@ use std::alloc::Global;
 pub fn asof_command<S: Source, K: Sink>(
     alloc: Global,
     lsn: Lsn,
-    script: &mut S,
+    input: &mut S,
     out: &mut K,
 ) -> Detail
     ensures { HasReported S.Source K.Sink (AnswersReport (SaysAccounts lsn) (RefusesLsn lsn)) IsAnswerAtLsn
-        script.old script.new out.old out.new result }
+        input.old input.new out.old out.new result }
 {
-    let (view, listed) = match read_log::<View, S>(alloc, script) {
+    let (view, listed) = match read_log::<View, S>(alloc, input) {
         Ok(both) => both,
         Err(detail) => return detail,
     };

@@ -49,7 +49,7 @@ pub record HandsOut (count : ℕ) (old new : Jobs) : Type 0 where
 
 -- All workers of a run, so many, were hired by this seat, which knows all of them. Each has its pass of the queue.
 pub record HiresAll {Z : Type 0} (table : LogTable) (size : ℕ) (hirer : Seat) (old new : Jobs) (workers : Vec Worker Z) : Type 0 where
-  pub boss : HasHired table size hirer
+  pub flusher_seat : HasHired table size hirer
   pub jobs : HasFirstPass new
   pub out : HandsOut size old new
   pub unused : AreUnused table new.queue workers.items

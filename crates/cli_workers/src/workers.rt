@@ -23,14 +23,14 @@ pub struct Worker {
 fn hire(
     alloc: Global,
     table: &LogTable,
-    boss: &mut Seat,
+    flusher_seat: &mut Seat,
     jobs: &mut Jobs,
     number: u32,
 ) -> Result<Worker, NoMemory>
-    requires boss { HasHired table.now number boss.old }
+    requires flusher_seat { HasHired table.now number flusher_seat.old }
     requires jobs { HasFirstPass jobs.old }
     requires mark { passes_out jobs.old + length (marks_back jobs.old) < workers_of jobs.old }
-    ensures boss { OnOk result (HasHired table.now (number + 1) boss.new) }
+    ensures flusher_seat { OnOk result (HasHired table.now (number + 1) flusher_seat.new) }
     ensures jobs { HasFirstPass jobs.new }
     ensures out { OnOk result (HandsOut 1 jobs.old jobs.new) }
     ensures number { IfOk result (λ worker. worker.seat.worker ≡ number) }
@@ -39,7 +39,7 @@ fn hire(
     let mut rows = Rows::make(alloc, jobs.count() as u32)?;
     jobs.enlist(alloc, &mut rows)?;
     Ok(Worker {
-        seat: table.hire(boss, number),
+        seat: table.hire(flusher_seat, number),
         rows,
         worked: None,
     })
@@ -49,19 +49,19 @@ fn hire(
 pub fn hire_all(
     alloc: Global,
     table: &LogTable,
-    boss: &mut Seat,
+    flusher_seat: &mut Seat,
     jobs: &mut Jobs,
     count: u32,
 ) -> Result<Vec<Worker>, NoMemory>
-    requires boss { HasHired table.now 0 boss.old }
+    requires flusher_seat { HasHired table.now 0 flusher_seat.old }
     requires jobs { HasFirstPass jobs.old }
     requires fresh { (passes_out jobs.old ≡ 0) × (marks_back jobs.old ≡ []) }
     requires count { count ≡ workers_of jobs.old }
-    ensures { IfOk result (HiresAll table.now count boss.new jobs.old jobs.new) }
+    ensures { IfOk result (HiresAll table.now count flusher_seat.new jobs.old jobs.new) }
 {
     let mut workers = room_for(alloc, count)?;
     for number in 0..count {
-        workers.push_reserved(hire(alloc, table, boss, jobs, number)?);
+        workers.push_reserved(hire(alloc, table, flusher_seat, jobs, number)?);
     }
     Ok(workers)
 }

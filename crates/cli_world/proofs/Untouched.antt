@@ -10,10 +10,10 @@ use Rattle.cli_reports.specs.Command.{HasReported}
 
 module _ {D S K : Type 0} (g : Ghosts D) (h : SourceGhosts S) (i : SinkGhosts K)
     (Answers : List ℕ → Option (List ℕ) → Option (List ℕ) → Option (List ℕ) → Detail → Type 0) (IsAnswer : Detail → Type 0) where
-  pub untouched-faults : (disk : D) (script script_new : S) (out out_new : K) (detail : Detail) → (detail ≡ Disk → ⊥)
-      → HasReported h i Answers IsAnswer script script_new out out_new detail
-      → TellsFaults g h i (world disk script out) (world disk script_new out_new) detail
-  untouched-faults disk script script_new out out_new detail no_disk report = record {
+  pub untouched-faults : (disk : D) (input script_new : S) (out out_new : K) (detail : Detail) → (detail ≡ Disk → ⊥)
+      → HasReported h i Answers IsAnswer input script_new out out_new detail
+      → TellsFaults g h i (world disk input out) (world disk script_new out_new) detail
+  untouched-faults disk input script_new out out_new detail no_disk report = record {
     read = report.read;
     write = report.write;
     disk = record { counted = λ is. absurd (no_disk is); fine = λ not_disk. refl };

@@ -14,7 +14,7 @@ use Rattle.cli_view.specs.Reports.{RefusesAccount, SaysAccounts, SaysStatement}
 pub record DoesReport {D S K : Type 0} (h : SourceGhosts S) (i : SinkGhosts K)
     (Answers : List ℕ → Option (List ℕ) → Option (List ℕ) → Option (List ℕ) → Detail → Type 0) (IsAnswer : Detail → Type 0)
     (old new : World D S K) (detail : Detail) : Type 0 where
-  pub report : HasReported h i Answers IsAnswer old.script new.script old.out new.out detail
+  pub report : HasReported h i Answers IsAnswer old.input new.input old.out new.out detail
   pub untouched : new.disk ≡ old.disk
 
 abbrev pub DoesRecover : {D S K : Type 0} → SourceGhosts S → SinkGhosts K → World D S K → World D S K → Detail → Type 0

@@ -17,24 +17,24 @@ use std::alloc::Global;
 pub fn obey_recover<D: LogDisk, S: Source, K: Sink>(
     alloc: Global,
     disk: &mut D,
-    script: &mut S,
+    input: &mut S,
     out: &mut K,
 ) -> Detail
-    ensures { ObeysAlone D.LogDisk S.Source K.Sink Recover (world disk.old script.old out.old) (world disk.new script.new out.new) result }
+    ensures { ObeysAlone D.LogDisk S.Source K.Sink Recover (world disk.old input.old out.old) (world disk.new input.new out.new) result }
 {
-    recover_command(alloc, script, out)
+    recover_command(alloc, input, out)
 }
 
 /// What `dump` answers.
 pub fn obey_dump<D: LogDisk, S: Source, K: Sink>(
     alloc: Global,
     disk: &mut D,
-    script: &mut S,
+    input: &mut S,
     out: &mut K,
 ) -> Detail
-    ensures { ObeysAlone D.LogDisk S.Source K.Sink Dump (world disk.old script.old out.old) (world disk.new script.new out.new) result }
+    ensures { ObeysAlone D.LogDisk S.Source K.Sink Dump (world disk.old input.old out.old) (world disk.new input.new out.new) result }
 {
-    dump_command(alloc, script, out)
+    dump_command(alloc, input, out)
 }
 
 /// What `ship` answers.
@@ -42,13 +42,13 @@ pub fn obey_ship<D: LogDisk, S: Source, K: Sink>(
     alloc: Global,
     from: u32,
     disk: &mut D,
-    script: &mut S,
+    input: &mut S,
     out: &mut K,
 ) -> Detail
     ensures { ObeysAlone D.LogDisk S.Source K.Sink (Ship from)
-        (world disk.old script.old out.old) (world disk.new script.new out.new) result }
+        (world disk.old input.old out.old) (world disk.new input.new out.new) result }
 {
-    ship_command(alloc, Lsn::new(from), script, out)
+    ship_command(alloc, Lsn::new(from), input, out)
 }
 
 /// What `asof` answers.
@@ -56,13 +56,13 @@ pub fn obey_asof<D: LogDisk, S: Source, K: Sink>(
     alloc: Global,
     lsn: u32,
     disk: &mut D,
-    script: &mut S,
+    input: &mut S,
     out: &mut K,
 ) -> Detail
     ensures { ObeysAlone D.LogDisk S.Source K.Sink (AsOf lsn)
-        (world disk.old script.old out.old) (world disk.new script.new out.new) result }
+        (world disk.old input.old out.old) (world disk.new input.new out.new) result }
 {
-    asof_command(alloc, Lsn::new(lsn), script, out)
+    asof_command(alloc, Lsn::new(lsn), input, out)
 }
 
 /// What `statement` answers.
@@ -70,11 +70,11 @@ pub fn obey_statement<D: LogDisk, S: Source, K: Sink>(
     alloc: Global,
     account: u32,
     disk: &mut D,
-    script: &mut S,
+    input: &mut S,
     out: &mut K,
 ) -> Detail
     ensures { ObeysAlone D.LogDisk S.Source K.Sink (Statement account)
-        (world disk.old script.old out.old) (world disk.new script.new out.new) result }
+        (world disk.old input.old out.old) (world disk.new input.new out.new) result }
 {
-    statement_command(alloc, account, script, out)
+    statement_command(alloc, account, input, out)
 }

@@ -6,8 +6,8 @@ use Rattle.clap.specs.Words.{Row, subcommand_of}
 use Rattle.command_line.specs.CommandLine.{aether_command, Answers, AreKnown, AreTaken, Asks, AsksNothing, AsksNumber, HasNumbers, IsCommandLine, IsDemo, IsMismatchOf, IsRefusalOf, NamesBadNumbers, NamesNumbers, NamesSubcommand, log_in, name_of}
 use Rattle.command_line.specs.declared.command.Command.{Command}
 use Rattle.command_line.specs.declared.command.Command.TheVariants as command
-use Rattle.command_line.specs.declared.command.Refused.{Refused}
-use Rattle.command_line.specs.declared.command.Refused.TheVariants.{NoMemory, Usage}
+use Rattle.command_line.specs.declared.command.RefusedWords.{RefusedWords}
+use Rattle.command_line.specs.declared.command.RefusedWords.TheVariants.{NoMemory, Usage}
 use Rattle.command_line.specs.declared.command.Subcommand.{Subcommand}
 use Rattle.command_line.specs.declared.command.Subcommand.TheVariants.{New, Run, Recover, Dump, Demo, Cut, Upgrade, Ship, Follow, AsOf, Statement}
 use Rattle.command_line.specs.declared.options.RunOptions.{RunOptions}
@@ -118,7 +118,7 @@ module _ (words : List (List ℕ)) where
       ]
 
   -- words that the command doesn't take ask nothing
-  pub refuses-mismatch : (refused : Refused) → IsMismatchOf words refused → IsRefusalOf words refused
+  pub refuses-mismatch : (refused : RefusedWords) → IsMismatchOf words refused → IsRefusalOf words refused
   refuses-mismatch Usage unknown = λ taken. unknown taken.1.known
   refuses-mismatch NoMemory any = tt
 
@@ -128,13 +128,13 @@ module _ (words : List (List ℕ)) where
         none taken.0 (same-asked this taken.1.subcommand rows taken.1.rows taken.0 named taken.1.named taken.1.asked)
 
     -- what is answered for the subcommand that words name is what they ask, or that they ask nothing
-    pub answers-words : AreKnown words → (result : Result Command Refused) → Answers this rows result
+    pub answers-words : AreKnown words → (result : Result Command RefusedWords) → Answers this rows result
         → MatchResult result (IsCommandLine words) (IsRefusalOf words)
     answers-words known (Ok command) is = record { known = known; subcommand = this; rows = rows; named = named; asked = is }
     answers-words known (Err fault) (inl memory) = subst (IsRefusalOf words) (sym memory) tt
     answers-words known (Err fault) (inr usage) = subst (IsRefusalOf words) (sym usage.0) (none-asked usage.1)
 
-    pub refuses-numbers : (result : Result Command Refused) → Answers this rows result
+    pub refuses-numbers : (result : Result Command RefusedWords) → Answers this rows result
         → IfErr result (λ fault. (fault ≡ NoMemory) ⊎ NamesBadNumbers words)
     refuses-numbers (Ok command) is = tt
     refuses-numbers (Err fault) (inl memory) = inl memory

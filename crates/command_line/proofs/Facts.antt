@@ -12,8 +12,8 @@ use Rattle.clap.specs.Walk.{Names, Held, Text, finished, nothing_held, settled, 
 use Rattle.clap.specs.Words.{App, Row, Shape, is_simple, is_simple_and_free, subcommand_of, fault_of, built}
 use Rattle.command_line.specs.CommandLine.{aether_command, demo_command, run_command, AreKnown, IsMismatchOf, IsSubcommand, NamesSubcommand}
 use Rattle.command_line.specs.declared.command.Subcommand.TheVariants as subcommand
-use Rattle.command_line.specs.declared.command.Refused.{Refused}
-use Rattle.command_line.specs.declared.command.Refused.TheVariants.{NoMemory, Usage}
+use Rattle.command_line.specs.declared.command.RefusedWords.{RefusedWords}
+use Rattle.command_line.specs.declared.command.RefusedWords.TheVariants.{NoMemory, Usage}
 
 pub is_simple-aether : is_simple aether_command ≡ true
 unfolding aether_command run_command demo_command
@@ -121,6 +121,6 @@ module _ {B : Type 0} (name_of : B → Text) (rows_of : B → List Row) where
   rows-none (Some b) none = cc
 
 -- want of memory is the only refusal of words that the command takes
-pub mismatch-memory : (words : List Text) (refused : Refused) → (AreKnown words → refused ≡ NoMemory) → IsMismatchOf words refused
+pub mismatch-memory : (words : List Text) (refused : RefusedWords) → (AreKnown words → refused ≡ NoMemory) → IsMismatchOf words refused
 mismatch-memory words NoMemory memory = tt
 mismatch-memory words Usage memory = λ known. let never : Usage ≡ NoMemory = memory known in cc

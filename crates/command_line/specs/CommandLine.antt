@@ -13,8 +13,8 @@ use Rattle.command_line.specs.declared.command.Command.{Command}
 use Rattle.command_line.specs.declared.command.Command.TheVariants.{New, Run, Recover, Dump, Demo, Cut, Upgrade, Ship, Follow, AsOf, Statement}
 use Rattle.command_line.specs.declared.command.Subcommand.{Subcommand}
 use Rattle.command_line.specs.declared.command.Subcommand.TheVariants as subcommand
-use Rattle.command_line.specs.declared.command.Refused.{Refused}
-use Rattle.command_line.specs.declared.command.Refused.TheVariants as refused
+use Rattle.command_line.specs.declared.command.RefusedWords.{RefusedWords}
+use Rattle.command_line.specs.declared.command.RefusedWords.TheVariants as refused
 
 -- a value that must be given, by its place
 abbrev pub required_rule : List ℕ → Rule
@@ -176,16 +176,16 @@ NamesBadNumbers words =
     (this : Subcommand) × (rows : List Row) × HasNumbers this × NamesSubcommand words (name_of this) rows × AsksNothing this rows
 
 -- what is answered for a subcommand with these matches: what it asks, want of memory, or that it asks nothing
-abbrev pub Answers : Subcommand → List Row → Result Command Refused → Type 0
+abbrev pub Answers : Subcommand → List Row → Result Command RefusedWords → Type 0
 Answers this rows result =
     MatchResult result (Asks this rows) (λ fault. (fault ≡ refused.NoMemory) ⊎ ((fault ≡ refused.Usage) × AsksNothing this rows))
 
 -- why the command doesn't take words; want of memory says nothing of them
-abbrev pub IsMismatchOf : List (List ℕ) → Refused → Type 0
+abbrev pub IsMismatchOf : List (List ℕ) → RefusedWords → Type 0
 IsMismatchOf words refused.Usage = fault_of aether_command words ≢ []
 IsMismatchOf words refused.NoMemory = Unit {0}
 
 -- why words ask nothing
-abbrev pub IsRefusalOf : List (List ℕ) → Refused → Type 0
+abbrev pub IsRefusalOf : List (List ℕ) → RefusedWords → Type 0
 IsRefusalOf words refused.Usage = AreTaken words → ⊥
 IsRefusalOf words refused.NoMemory = Unit {0}

@@ -79,7 +79,7 @@ pub(crate) enum Subcommand {
 
 /// Why words ask nothing.
 #[derive(Clone, Copy, Debug, PartialEq, Eq)]
-pub enum Refused {
+pub enum RefusedWords {
     /// The command doesn't take them, or a number isn't written as it should be, or is outside its range.
     Usage,
 

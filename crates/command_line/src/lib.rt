@@ -8,7 +8,7 @@ mod matching;
 mod options;
 mod parsing;
 
-pub use command::{Command, Refused};
+pub use command::{Command, RefusedWords};
 pub use laws::{format_numbers, one_command};
 pub use options::{
     DEFAULT_RING, DEFAULT_SLOTS, DEFAULT_WORKERS, MOST_SLOTS, MOST_WORKERS, RunOptions,

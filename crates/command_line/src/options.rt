@@ -3,7 +3,7 @@ ghost use Rattle.std.specs.Prelude.{◌≡◌, ◌≤◌, ◌↔◌, ℕ, Some, 
 ghost use Rattle.clap.specs.Words.{found_of, rows_of, first_of};
 ghost use Rattle.command_line.specs.CommandLine.{AreOptions, HasNoOptions, IsGiven, IsNumberOf};
 
-use crate::command::Refused;
+use crate::command::RefusedWords;
 use clap::ArgMatches;
 use lsn_space::{GREATEST_RING, LEAST_RING, number};
 
@@ -80,16 +80,21 @@ fn number_in(
 }
 
 /// The number up to `most` that this argument gives.
-pub(crate) fn given_in(found: &ArgMatches<'_>, argument: &str, most: u32) -> Result<u32, Refused>
+pub(crate) fn given_in(
+    found: &ArgMatches<'_>,
+    argument: &str,
+    most: u32,
+) -> Result<u32, RefusedWords>
     ensures ok { IfOk result (IsGiven (rows_of (found_of found.now)) argument.now most) }
-    ensures err { IfErr result (λ e. (e ≡ Refused.Usage) × ((n : ℕ) → IsGiven (rows_of (found_of found.now)) argument.now most n → ⊥)) }
+    ensures err { IfErr result (λ e. (e ≡ RefusedWords.Usage)
+        × ((n : ℕ) → IsGiven (rows_of (found_of found.now)) argument.now most n → ⊥)) }
 {
     let Some(text) = found.get_str(argument) else {
-        return Err(Refused::Usage);
+        return Err(RefusedWords::Usage);
     };
     match number(text.as_bytes(), 0, most) {
         Some(n) => Ok(n),
-        None => Err(Refused::Usage),
+        None => Err(RefusedWords::Usage),
     }
 }
 

@@ -3,7 +3,7 @@ ghost use Rattle.std.specs.Prelude.{◌≡◌, ◌⊎◌, List, ℕ, IfErr, Matc
 ghost use Rattle.clap.specs.Words.{found_of, rows_of, subcommand_of, subcommand_rows_of, takes};
 ghost use Rattle.command_line.specs.CommandLine.{aether_command, Answers, AreKnown, IsCommandLine, IsRefusalOf, IsSubcommand, NamesBadNumbers, NamesSubcommand, log_in, name_of};
 
-use crate::command::{Command, Refused, Subcommand};
+use crate::command::{Command, RefusedWords, Subcommand};
 use crate::matching::matches_of;
 use crate::options::{given_in, options_in};
 use clap::ArgMatches;
@@ -17,9 +17,9 @@ pub const GREATEST_SEED: u32 = 65536;
 pub const GREATEST_ACCOUNT: u32 = MOST_ACCOUNTS - 1;
 
 /// What the words ask.
-pub fn parse(alloc: Global, words: &[Word]) -> Result<Command, Refused>
+pub fn parse(alloc: Global, words: &[Word]) -> Result<Command, RefusedWords>
     ensures exact { MatchResult result (IsCommandLine words.now) (IsRefusalOf words.now) }
-    ensures taken { takes aether_command words.now ≡ true → IfErr result (λ e. (e ≡ Refused.NoMemory) ⊎ NamesBadNumbers words.now) }
+    ensures taken { takes aether_command words.now ≡ true → IfErr result (λ e. (e ≡ RefusedWords.NoMemory) ⊎ NamesBadNumbers words.now) }
 {
     match matches_of(alloc, words) {
         Ok(matches) => asked_by(alloc, &matches),
@@ -28,12 +28,12 @@ pub fn parse(alloc: Global, words: &[Word]) -> Result<Command, Refused>
 }
 
 /// What words ask in which this was found.
-fn asked_by(alloc: Global, matches: &ArgMatches<'_>) -> Result<Command, Refused>
+fn asked_by(alloc: Global, matches: &ArgMatches<'_>) -> Result<Command, RefusedWords>
     requires { (words : List (List ℕ)) × AreKnown words × (subcommand_rows_of matches.now ≡ subcommand_of aether_command words) }
     ensures exact { (words : List (List ℕ)) → AreKnown words → subcommand_rows_of matches.now ≡ subcommand_of aether_command words
         → MatchResult result (IsCommandLine words) (IsRefusalOf words) }
     ensures taken { (words : List (List ℕ)) → AreKnown words → subcommand_rows_of matches.now ≡ subcommand_of aether_command words
-        → IfErr result (λ e. (e ≡ Refused.NoMemory) ⊎ NamesBadNumbers words) }
+        → IfErr result (λ e. (e ≡ RefusedWords.NoMemory) ⊎ NamesBadNumbers words) }
 {
     let Some((name, found)) = matches.subcommand() else {
         unreachable!()
@@ -42,12 +42,12 @@ fn asked_by(alloc: Global, matches: &ArgMatches<'_>) -> Result<Command, Refused>
 }
 
 /// What words ask that name this subcommand, with what is found of it.
-fn asked(alloc: Global, name: &str, found: &ArgMatches<'_>) -> Result<Command, Refused>
+fn asked(alloc: Global, name: &str, found: &ArgMatches<'_>) -> Result<Command, RefusedWords>
     requires { IsSubcommand name.now }
     ensures exact { (words : List (List ℕ)) → AreKnown words → NamesSubcommand words name.now (rows_of (found_of found.now))
         → MatchResult result (IsCommandLine words) (IsRefusalOf words) }
     ensures taken { (words : List (List ℕ)) → AreKnown words → NamesSubcommand words name.now (rows_of (found_of found.now))
-        → IfErr result (λ e. (e ≡ Refused.NoMemory) ⊎ NamesBadNumbers words) }
+        → IfErr result (λ e. (e ≡ RefusedWords.NoMemory) ⊎ NamesBadNumbers words) }
 {
     answer(alloc, subcommand(name), found)
 }
@@ -74,7 +74,11 @@ fn subcommand(name: &str) -> Subcommand
 }
 
 /// What this subcommand asks, with what is found of it.
-fn answer(alloc: Global, subcommand: Subcommand, found: &ArgMatches<'_>) -> Result<Command, Refused>
+fn answer(
+    alloc: Global,
+    subcommand: Subcommand,
+    found: &ArgMatches<'_>,
+) -> Result<Command, RefusedWords>
     ensures { Answers subcommand (rows_of (found_of found.now)) result }
 {
     match subcommand {
@@ -106,23 +110,23 @@ fn answer(alloc: Global, subcommand: Subcommand, found: &ArgMatches<'_>) -> Resu
     }
 }
 
-fn run(alloc: Global, found: &ArgMatches<'_>) -> Result<Command, Refused>
+fn run(alloc: Global, found: &ArgMatches<'_>) -> Result<Command, RefusedWords>
     ensures { Answers Subcommand.Run (rows_of (found_of found.now)) result }
 {
     let Some(options) = options_in(found) else {
-        return Err(Refused::Usage);
+        return Err(RefusedWords::Usage);
     };
     let log = log_of(alloc, found)?;
     Ok(Command::Run { log, options })
 }
 
-fn demo(alloc: Global, found: &ArgMatches<'_>) -> Result<Command, Refused>
+fn demo(alloc: Global, found: &ArgMatches<'_>) -> Result<Command, RefusedWords>
     ensures { Answers Subcommand.Demo (rows_of (found_of found.now)) result }
 {
     let transfers = given_in(found, "N", MOST_GENERATED)?;
     let seed = given_in(found, "SEED", GREATEST_SEED)?;
     let Some(options) = options_in(found) else {
-        return Err(Refused::Usage);
+        return Err(RefusedWords::Usage);
     };
     let log = log_of(alloc, found)?;
     Ok(Command::Demo {
@@ -134,11 +138,11 @@ fn demo(alloc: Global, found: &ArgMatches<'_>) -> Result<Command, Refused>
 }
 
 /// The value of LOG.
-fn log_of(alloc: Global, found: &ArgMatches<'_>) -> Result<Word, Refused>
-    ensures { MatchResult result (λ log. log ≡ log_in (rows_of (found_of found.now))) (λ e. e ≡ Refused.NoMemory) }
+fn log_of(alloc: Global, found: &ArgMatches<'_>) -> Result<Word, RefusedWords>
+    ensures { MatchResult result (λ log. log ≡ log_in (rows_of (found_of found.now))) (λ e. e ≡ RefusedWords.NoMemory) }
 {
     match Word::make(alloc, found.get_str("LOG").unwrap_or("")) {
         Ok(log) => Ok(log),
-        Err(_) => Err(Refused::NoMemory),
+        Err(_) => Err(RefusedWords::NoMemory),
     }
 }

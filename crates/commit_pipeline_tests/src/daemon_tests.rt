@@ -129,11 +129,19 @@ fn report_one<R: Wait + Clock + Abort>(
 ) -> Option<[(Drained, Turn); 2]>
     requires { IsOnlyImage [] (ImagesOf disk.old) }
 {
-    let Ok((table, mut boss)) = table_of(alloc, (100, 0), 4) else {
+    let Ok((table, mut flusher_seat)) = table_of(alloc, (100, 0), 4) else {
         return None;
     };
-    let seat = worker(&table, &mut boss, 0, 1);
-    let mut daemon = daemon_on(alloc, (100, 0), &table, boss, disk, sink, Voice::Lines)?;
+    let seat = worker(&table, &mut flusher_seat, 0, 1);
+    let mut daemon = daemon_on(
+        alloc,
+        (100, 0),
+        &table,
+        flusher_seat,
+        disk,
+        sink,
+        Voice::Lines,
+    )?;
     report_worker(rt, alloc, &table, seat, &mut daemon).ok()
 }
 
@@ -168,11 +176,19 @@ fn count_one<R: Wait + Clock + Abort>(
 ) -> Option<(Drained, Lsn, [u64; 2])>
     requires { IsOnlyImage [] (ImagesOf disk.old) }
 {
-    let Ok((table, mut boss)) = table_of(alloc, (100, 0), 4) else {
+    let Ok((table, mut flusher_seat)) = table_of(alloc, (100, 0), 4) else {
         return None;
     };
-    let mut seat = worker(&table, &mut boss, 0, 1);
-    let mut daemon = daemon_on(alloc, (100, 0), &table, boss, disk, sink, Voice::Count)?;
+    let mut seat = worker(&table, &mut flusher_seat, 0, 1);
+    let mut daemon = daemon_on(
+        alloc,
+        (100, 0),
+        &table,
+        flusher_seat,
+        disk,
+        sink,
+        Voice::Count,
+    )?;
     transfer(rt, alloc, &table, &mut seat, 1);
     table.leave(&mut seat);
     let behind = ask(&mut daemon);
@@ -202,12 +218,20 @@ fn faulty_turn<R: Wait + Clock + Abort>(
     disk_failing: &[u64],
     sink_failing: &[u64],
 ) -> Result<(Result<Turn, DaemonFault>, u64), NoMemory> {
-    let (table, mut boss) = table_of(alloc, (100, 0), 4)?;
-    let mut seat = worker(&table, &mut boss, 0, 1);
+    let (table, mut flusher_seat) = table_of(alloc, (100, 0), 4)?;
+    let mut seat = worker(&table, &mut flusher_seat, 0, 1);
     let mut disk = MemoryDisk::make(alloc, &[], 1000, disk_failing)?;
     let mut sink = MemorySink::make(alloc, 100, sink_failing)?;
     let (disk, sink) = (&mut disk, &mut sink);
-    let daemon = daemon_on(alloc, (100, 0), &table, boss, disk, sink, Voice::Lines);
+    let daemon = daemon_on(
+        alloc,
+        (100, 0),
+        &table,
+        flusher_seat,
+        disk,
+        sink,
+        Voice::Lines,
+    );
     let Some(mut daemon) = daemon else {
         return Err(NoMemory);
     };
@@ -259,12 +283,20 @@ fn three_in_a_turn<R: Wait + Clock + Abort>(
     alloc: Global,
     sink: &mut MemorySink,
 ) -> Option<(Result<Turn, DaemonFault>, [u64; 2])> {
-    let Ok((table, mut boss)) = table_of(alloc, (100, 0), 4) else {
+    let Ok((table, mut flusher_seat)) = table_of(alloc, (100, 0), 4) else {
         return None;
     };
-    let mut seat = worker(&table, &mut boss, 0, 1);
+    let mut seat = worker(&table, &mut flusher_seat, 0, 1);
     let mut disk = MemoryDisk::make(alloc, &[], 1000, &[]).ok()?;
-    let mut daemon = daemon_on(alloc, (100, 0), &table, boss, &mut disk, sink, Voice::Lines)?;
+    let mut daemon = daemon_on(
+        alloc,
+        (100, 0),
+        &table,
+        flusher_seat,
+        &mut disk,
+        sink,
+        Voice::Lines,
+    )?;
     transfer(rt, alloc, &table, &mut seat, 3);
     let answer = turn(&mut daemon);
     Some((answer, [daemon.done(), daemon.refused()]))

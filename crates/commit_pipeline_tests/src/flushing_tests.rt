@@ -56,13 +56,18 @@ fn fills<R: Abort>(rt: &R, table: &LogTable, seat: &mut Seat, job: &Job)
 }
 
 /// A flush sends the whole ring to the disk, and the next finds nothing.
-fn empties<R: Abort>(rt: &R, alloc: Global, table: &LogTable, boss: Seat) -> Result<(), Fail>
-    requires boss { HasHired table.now 1 boss }
+fn empties<R: Abort>(
+    rt: &R,
+    alloc: Global,
+    table: &LogTable,
+    flusher_seat: Seat,
+) -> Result<(), Fail>
+    requires flusher_seat { HasHired table.now 1 flusher_seat }
     requires start { (key_of table.now).start ≡ 4 }
     requires ring { table.now.ring ≡ 1024 }
 {
     let mut disk = MemoryDisk::make(alloc, &[], 20_000, &[])?;
-    let Some(mut flusher) = flusher_on(alloc, (100, 0), table, boss, &mut disk) else {
+    let Some(mut flusher) = flusher_on(alloc, (100, 0), table, flusher_seat, &mut disk) else {
         return Err(Fail::new("no memory"));
     };
     let (from, to) = (Lsn::new(ENDS.0), Lsn::new(ENDS.1));
@@ -88,13 +93,13 @@ fn goes_on<R: Abort>(rt: &R, table: &LogTable, seat: &mut Seat, job: &Job)
 #[test]
 fn ring_full_until_flushed(rt: HostRuntime) -> Result<(), Fail> {
     let alloc = rt.alloc();
-    let (table, mut boss) = table_of(alloc, (100, 0), 4)?;
-    let mut seat = worker(&table, &mut boss, 0, 1);
+    let (table, mut flusher_seat) = table_of(alloc, (100, 0), 4)?;
+    let mut seat = worker(&table, &mut flusher_seat, 0, 1);
     let Some(job) = noted_job(b"aaaaaaaa") else {
         return Err(Fail::new("no job"));
     };
     fills(&rt, &table, &mut seat, &job);
-    empties(&rt, alloc, &table, boss)?;
+    empties(&rt, alloc, &table, flusher_seat)?;
     goes_on(&rt, &table, &mut seat, &job);
     Ok(())
 }

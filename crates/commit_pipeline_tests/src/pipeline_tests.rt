@@ -98,12 +98,20 @@ fn run_notes<R: Threads + Wait + Clock + Sync, D: LogDisk>(
 ) -> Option<(u32, Outcome)>
     requires { D.honest disk.old → IsStableGate 0 (D.images disk.old) }
 {
-    let Ok((table, mut boss)) = table_of(alloc, (RICH, 0), 4) else {
+    let Ok((table, mut flusher_seat)) = table_of(alloc, (RICH, 0), 4) else {
         return None;
     };
-    let one = worker(&table, &mut boss, 0, 1);
-    let two = worker(&table, &mut boss, 1, 501);
-    let mut daemon = daemon_on(alloc, (RICH, 0), &table, boss, disk, sink, Voice::Lines)?;
+    let one = worker(&table, &mut flusher_seat, 0, 1);
+    let two = worker(&table, &mut flusher_seat, 1, 501);
+    let mut daemon = daemon_on(
+        alloc,
+        (RICH, 0),
+        &table,
+        flusher_seat,
+        disk,
+        sink,
+        Voice::Lines,
+    )?;
     let note = noted_job(b"a")?;
     let (t, job) = (&table, &note);
     Some(join(
@@ -126,12 +134,20 @@ fn run_transfers<R: Threads + Wait + Clock + Sync, D: LogDisk>(
 ) -> Option<(usize, Outcome)>
     requires { D.honest disk.old → IsStableGate 0 (D.images disk.old) }
 {
-    let Ok((table, mut boss)) = table_of(alloc, (RICH, 0), 4) else {
+    let Ok((table, mut flusher_seat)) = table_of(alloc, (RICH, 0), 4) else {
         return None;
     };
     let mut jobs = thirties(rt, alloc, 2 * TRANSFERS, 2)?;
-    let crew = hands(alloc, &table, &mut boss, &mut jobs, 2)?;
-    let mut daemon = daemon_on(alloc, (RICH, 0), &table, boss, disk, sink, Voice::Lines)?;
+    let crew = hands(alloc, &table, &mut flusher_seat, &mut jobs, 2)?;
+    let mut daemon = daemon_on(
+        alloc,
+        (RICH, 0),
+        &table,
+        flusher_seat,
+        disk,
+        sink,
+        Voice::Lines,
+    )?;
     let rows = AtomicUsize::new(0);
     let (t, queue, count) = (&table, jobs.queue(), &rows);
     let ((), outcome) = join(

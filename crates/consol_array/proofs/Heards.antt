@@ -5,7 +5,7 @@ use Rattle.log_table.specs.declared.table.Seat.{Seat}
 use Rattle.log_rule.specs.Books.{placing}
 use Rattle.log_table.specs.Seats.{Becomes, view_of}
 use Rattle.log_rule.specs.SlotViews.{saw_slot}
-use Rattle.log_rule.proofs.Contending.{contended-looked}
+use Rattle.log_rule.proofs.Contention.{contended-looked}
 use Rattle.ring_buffer.specs.Calls.{IsSameWorker}
 use Rattle.ring_buffer.specs.declared.refused.Refused.{Refused}
 use Rattle.ring_buffer.proofs.TwoCalls.{IsSameWorker-trans}

@@ -9,7 +9,7 @@ use Rattle.log_table.specs.declared.table.Seat.{Seat}
 use Rattle.log_rule.specs.May.{IsAtRest, MayJoinSlot}
 use Rattle.log_table.specs.Seats.{IsOf, Becomes, view_of}
 use Rattle.log_rule.specs.SlotViews.{own_slot_of, saw_slot, joined_slot, call_seeing, contended_seeing}
-use Rattle.log_rule.proofs.Contending.{clears-unless_gathering, clears-without_room}
+use Rattle.log_rule.proofs.Contention.{clears-unless_gathering, clears-without_room}
 use Rattle.ring_buffer.specs.Calls.{MayPlace}
 use Rattle.consol_array.specs.Joining.{IsStateJoined, LacksSlotRoom}
 use Rattle.consol_array.proofs.Keeping.{Becomes-then}

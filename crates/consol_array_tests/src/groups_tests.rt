@@ -33,21 +33,21 @@ struct Sharer {
 fn joins<R: Abort>(
     rt: &R,
     table: &LogTable,
-    boss: &mut Seat,
+    flusher_seat: &mut Seat,
     number: u32,
     letters: &[u8],
     offset: u32,
 ) -> Result<Sharer, Fail>
-    requires boss { HasHired table.now number boss.old }
+    requires flusher_seat { HasHired table.now number flusher_seat.old }
     requires few { number ≤ 1000 }
     requires slots { 1 ≤ table.now.slots }
     requires accounts { table.now.accounts ≡ 2 }
-    ensures boss { IfOk result (λ sharer. HasHired table.now (number + 1) boss.new) }
+    ensures flusher_seat { IfOk result (λ sharer. HasHired table.now (number + 1) flusher_seat.new) }
     ensures own { IfOk result (λ sharer. IsOf table.now sharer.seat) }
     ensures share { IfOk result (λ sharer. HasShare table.now sharer.joined sharer.units (step_joining sharer.joined.offset) sharer.seat) }
     ensures goes_on { IfOk result (λ sharer. (next : ℕ) → number + 1 < next → GoesOn next (view_of sharer.seat)) }
 {
-    let mut seat = worker(table, boss, number, number + 1);
+    let mut seat = worker(table, flusher_seat, number, number + 1);
     let Some(job) = noted_job(letters) else {
         return Err(Fail::new("no job"));
     };
@@ -118,15 +118,15 @@ fn puts<R: Abort>(rt: &R, table: &LogTable, placed: Placed, at: u32, last: bool)
 fn releases_in_turn<R: Abort + Wait>(
     rt: &R,
     table: &LogTable,
-    boss: &mut Seat,
+    flusher_seat: &mut Seat,
     leader_first: bool,
 ) -> Result<(), Fail>
-    requires boss { HasHired table.now 0 boss.old }
+    requires flusher_seat { HasHired table.now 0 flusher_seat.old }
     requires slots { 1 ≤ table.now.slots }
     requires accounts { table.now.accounts ≡ 2 }
 {
-    let first = joins(rt, table, boss, 0, b"aaaaaaaa", 0)?;
-    let second = joins(rt, table, boss, 1, b"bbbbbbbbb", 2)?;
+    let first = joins(rt, table, flusher_seat, 0, b"aaaaaaaa", 0)?;
+    let second = joins(rt, table, flusher_seat, 1, b"bbbbbbbbb", 2)?;
     let first = hears(rt, table, first, 4)?;
     let second = hears(rt, table, second, 6)?;
     let mut seat = if leader_first {
@@ -146,19 +146,19 @@ fn releases_in_turn<R: Abort + Wait>(
 #[test]
 fn the_last_to_release_exposes(rt: HostRuntime) -> Result<(), Fail> {
     for leader_first in [true, false] {
-        let (table, mut boss) = table_with_slots(rt.alloc(), (100, 0), 4, 1)?;
-        releases_in_turn(&rt, &table, &mut boss, leader_first)?;
+        let (table, mut flusher_seat) = table_with_slots(rt.alloc(), (100, 0), 4, 1)?;
+        releases_in_turn(&rt, &table, &mut flusher_seat, leader_first)?;
     }
     Ok(())
 }
 
 #[test]
 fn a_group_of_one_goes_on(rt: HostRuntime) -> Result<(), Fail> {
-    let (table, mut boss) = table_with_slots(rt.alloc(), (100, 0), 4, 1)?;
-    let only = joins(&rt, &table, &mut boss, 0, b"aaaaaaaa", 0)?;
+    let (table, mut flusher_seat) = table_with_slots(rt.alloc(), (100, 0), 4, 1)?;
+    let only = joins(&rt, &table, &mut flusher_seat, 0, b"aaaaaaaa", 0)?;
     let only = hears(&rt, &table, only, 4)?;
     puts(&rt, &table, only, 4, true);
-    let next = joins(&rt, &table, &mut boss, 1, b"bbbbbbbbb", 0)?;
+    let next = joins(&rt, &table, &mut flusher_seat, 1, b"bbbbbbbbb", 0)?;
     let next = hears(&rt, &table, next, 6)?;
     puts(&rt, &table, next, 6, true);
     Ok(())
@@ -194,16 +194,16 @@ fn inserts_alone<R: Abort>(
 fn first_goes_on<R: Abort + Wait>(
     rt: &R,
     table: &LogTable,
-    boss: &mut Seat,
+    flusher_seat: &mut Seat,
     job: &Job,
 ) -> Result<(), Fail>
-    requires boss { HasHired table.now 0 boss.old }
+    requires flusher_seat { HasHired table.now 0 flusher_seat.old }
     requires slots { 1 ≤ table.now.slots }
     requires accounts { table.now.accounts ≡ 2 }
     requires job { IsNotedJob job.now }
 {
-    let first = joins(rt, table, boss, 0, b"aaaaaaaa", 0)?;
-    let second = joins(rt, table, boss, 1, b"bbbbbbbbb", 2)?;
+    let first = joins(rt, table, flusher_seat, 0, b"aaaaaaaa", 0)?;
+    let second = joins(rt, table, flusher_seat, 1, b"bbbbbbbbb", 2)?;
     let first = hears(rt, table, first, 4)?;
     let second = hears(rt, table, second, 6)?;
     let mut ahead = puts(rt, table, first, 4, false);
@@ -217,22 +217,27 @@ fn first_goes_on<R: Abort + Wait>(
 
 #[test]
 fn the_first_goes_on_before_its_group_is_exposed(rt: HostRuntime) -> Result<(), Fail> {
-    let (table, mut boss) = table_with_slots(rt.alloc(), (100, 0), 4, 1)?;
+    let (table, mut flusher_seat) = table_with_slots(rt.alloc(), (100, 0), 4, 1)?;
     let Some(job) = noted_job(b"cccccccc") else {
         return Err(Fail::new("no job"));
     };
-    first_goes_on(&rt, &table, &mut boss, &job)
+    first_goes_on(&rt, &table, &mut flusher_seat, &job)
 }
 
 /// 256 workers fill the ring, which nobody flushes: each inserts a note of four units, exposes it and is let go.
-fn fill_ring<R: Abort>(rt: &R, table: &LogTable, boss: &mut Seat, job: &Job) -> Result<(), Fail>
-    requires boss { HasHired table.now 0 boss.old }
+fn fill_ring<R: Abort>(
+    rt: &R,
+    table: &LogTable,
+    flusher_seat: &mut Seat,
+    job: &Job,
+) -> Result<(), Fail>
+    requires flusher_seat { HasHired table.now 0 flusher_seat.old }
     requires accounts { table.now.accounts ≡ 2 }
     requires job { IsNotedJob job.now }
-    ensures boss { IfOk result (λ done. HasHired table.now 256 boss.new) }
+    ensures flusher_seat { IfOk result (λ done. HasHired table.now 256 flusher_seat.new) }
 {
     for i in 0..256 {
-        let mut seat = worker(table, boss, i, i + 1);
+        let mut seat = worker(table, flusher_seat, i, i + 1);
         inserts_alone(rt, table, &mut seat, i + 1, job, 4 + 4 * i)?;
     }
     Ok(())
@@ -271,13 +276,13 @@ fn is_turned_away<R: Abort + Wait>(
 
 #[test]
 fn a_group_is_refused_with_its_own_numbers(rt: HostRuntime) -> Result<(), Fail> {
-    let (table, mut boss) = table_with_slots(rt.alloc(), (100, 0), 4, 1)?;
+    let (table, mut flusher_seat) = table_with_slots(rt.alloc(), (100, 0), 4, 1)?;
     let Some(job) = noted_job(&[97; 24]) else {
         return Err(Fail::new("no job"));
     };
-    fill_ring(&rt, &table, &mut boss, &job)?;
-    let first = joins(&rt, &table, &mut boss, 256, b"aaaaaaaa", 0)?;
-    let second = joins(&rt, &table, &mut boss, 257, b"bbbbbbbbb", 2)?;
+    fill_ring(&rt, &table, &mut flusher_seat, &job)?;
+    let first = joins(&rt, &table, &mut flusher_seat, 256, b"aaaaaaaa", 0)?;
+    let second = joins(&rt, &table, &mut flusher_seat, 257, b"bbbbbbbbb", 2)?;
     let full = Refused::RingFull {
         tail: Lsn::new(1028),
         durable: Lsn::new(4),
@@ -285,7 +290,7 @@ fn a_group_is_refused_with_its_own_numbers(rt: HostRuntime) -> Result<(), Fail> 
     };
     is_turned_away(&rt, &table, first, &full, false)?;
     is_turned_away(&rt, &table, second, &full, true)?;
-    joins(&rt, &table, &mut boss, 258, b"aaaaaaaa", 0)?;
+    joins(&rt, &table, &mut flusher_seat, 258, b"aaaaaaaa", 0)?;
     Ok(())
 }
 
@@ -297,16 +302,16 @@ const NEAR_THE_END: u32 = 4294967292;
 fn first_goes_on_alone<R: Abort + Wait>(
     rt: &R,
     table: &LogTable,
-    boss: &mut Seat,
+    flusher_seat: &mut Seat,
     job: &Job,
 ) -> Result<(), Fail>
-    requires boss { HasHired table.now 0 boss.old }
+    requires flusher_seat { HasHired table.now 0 flusher_seat.old }
     requires slots { 1 ≤ table.now.slots }
     requires accounts { table.now.accounts ≡ 2 }
     requires job { IsNotedJob job.now }
 {
-    let first = joins(rt, table, boss, 0, b"aaaaaaaa", 0)?;
-    let second = joins(rt, table, boss, 1, b"bbbbbbbbb", 2)?;
+    let first = joins(rt, table, flusher_seat, 0, b"aaaaaaaa", 0)?;
+    let second = joins(rt, table, flusher_seat, 1, b"bbbbbbbbb", 2)?;
     let end = Refused::LogEnd {
         tail: Lsn::new(NEAR_THE_END),
         total: 5,
@@ -326,9 +331,9 @@ fn first_goes_on_alone<R: Abort + Wait>(
 
 #[test]
 fn a_group_is_refused_at_the_end_of_the_log(rt: HostRuntime) -> Result<(), Fail> {
-    let (table, mut boss) = table_with_slots(rt.alloc(), (100, 0), NEAR_THE_END, 1)?;
+    let (table, mut flusher_seat) = table_with_slots(rt.alloc(), (100, 0), NEAR_THE_END, 1)?;
     let Some(job) = noted_job(b"cccccccc") else {
         return Err(Fail::new("no job"));
     };
-    first_goes_on_alone(&rt, &table, &mut boss, &job)
+    first_goes_on_alone(&rt, &table, &mut flusher_seat, &job)
 }

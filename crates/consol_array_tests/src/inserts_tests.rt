@@ -101,17 +101,17 @@ fn inserts<R: Wait, G: Gate>(
 fn insert_both<R: Threads + Wait + Sync, G: Gate + Sync>(
     rt: &R,
     table: &LogTable,
-    boss: &mut Seat,
+    flusher_seat: &mut Seat,
     jobs: (&Job, &Job),
     gate: &G,
 ) -> (Option<Lsn>, Option<Lsn>)
-    requires boss { HasHired table.now 0 boss.old }
+    requires flusher_seat { HasHired table.now 0 flusher_seat.old }
     requires accounts { table.now.accounts ≡ 2 }
     requires first { IsNotedJob jobs.0.now }
     requires second { IsNotedJob jobs.1.now }
 {
-    let one = worker(table, boss, 0, 1);
-    let two = worker(table, boss, 1, 2);
+    let one = worker(table, flusher_seat, 0, 1);
+    let two = worker(table, flusher_seat, 1, 2);
     let (first, second) = jobs;
     join(
         rt,
@@ -133,8 +133,8 @@ fn who_loses_the_exchange_joins(rt: HostRuntime) -> Result<(), Fail> {
     let (Some(first), Some(second)) = (noted_job(b"aaaaaaaa"), noted_job(b"bbbbbbbbb")) else {
         return Err(Fail::new("no job"));
     };
-    let (table, mut boss) = table_with_slots(rt.alloc(), (100, 0), 4, 1)?;
-    let found = insert_both(&rt, &table, &mut boss, (&first, &second), &gate);
+    let (table, mut flusher_seat) = table_with_slots(rt.alloc(), (100, 0), 4, 1)?;
+    let found = insert_both(&rt, &table, &mut flusher_seat, (&first, &second), &gate);
     let these = (Some(Lsn::new(4)), Some(Lsn::new(6)));
     let those = (Some(Lsn::new(7)), Some(Lsn::new(4)));
     assert!(&rt; found == these || found == those, "{found:?}");
@@ -176,19 +176,19 @@ fn shares<R: Wait>(
 fn share_both<R: Threads + Wait + Sync>(
     rt: &R,
     table: &LogTable,
-    boss: &mut Seat,
+    flusher_seat: &mut Seat,
     jobs: (&Job, &Job),
     meeting: &Meeting,
 ) -> (Option<Released>, Option<Released>)
-    requires boss { HasHired table.now 0 boss.old }
+    requires flusher_seat { HasHired table.now 0 flusher_seat.old }
     requires slots { 1 ≤ table.now.slots }
     requires accounts { table.now.accounts ≡ 2 }
     requires first { IsNotedJob jobs.0.now }
     requires second { IsNotedJob jobs.1.now }
-    ensures boss { HasHired table.now 2 boss.new }
+    ensures flusher_seat { HasHired table.now 2 flusher_seat.new }
 {
-    let one = worker(table, boss, 0, 1);
-    let two = worker(table, boss, 1, 2);
+    let one = worker(table, flusher_seat, 0, 1);
+    let two = worker(table, flusher_seat, 1, 2);
     let (first, second) = jobs;
     join(
         rt,
@@ -207,8 +207,8 @@ fn a_leader_is_held_until_another_has_joined(rt: HostRuntime) -> Result<(), Fail
     let (Some(first), Some(second)) = (noted_job(b"aaaaaaaa"), noted_job(b"bbbbbbbbb")) else {
         return Err(Fail::new("no job"));
     };
-    let (table, mut boss) = table_with_slots(rt.alloc(), (100, 0), 4, 1)?;
-    let found = share_both(&rt, &table, &mut boss, (&first, &second), &meeting);
+    let (table, mut flusher_seat) = table_with_slots(rt.alloc(), (100, 0), 4, 1)?;
+    let found = share_both(&rt, &table, &mut flusher_seat, (&first, &second), &meeting);
     let (Some(ours), Some(theirs)) = found else {
         return Err(Fail::new("a worker has not joined"));
     };
@@ -220,8 +220,8 @@ fn a_leader_is_held_until_another_has_joined(rt: HostRuntime) -> Result<(), Fail
         ours.last != theirs.last,
         true,
     );
-    is_at(&rt, "tail", table.load_tail(&mut boss), 9);
-    is_at(&rt, "exposed", table.load_exposed(&mut boss), 9);
+    is_at(&rt, "tail", table.load_tail(&mut flusher_seat), 9);
+    is_at(&rt, "exposed", table.load_exposed(&mut flusher_seat), 9);
     meeting.was_held(&rt);
     Ok(())
 }

@@ -6,18 +6,18 @@ use Rattle.lock_core.specs.History.{end_from}
 use Rattle.lock_core.specs.Transactions.{recs_of, has_commit, has_end}
 use Rattle.log_table.specs.declared.table.Seat.{Seat}
 use Rattle.log_rule.specs.declared.view.Books.{Books}
-use Rattle.log_rule.specs.declared.view.Held.{Held as HeldAccount}
+use Rattle.log_rule.specs.declared.view.Taken.{Taken as TakenHere}
 use Rattle.log_rule.specs.declared.view.Given.{Given}
 use Rattle.log_rule.specs.declared.view.View.{View}
 use Rattle.log_rule.specs.Accounts.{FollowsJob}
-use Rattle.log_rule.specs.Books.{times_held, balance_taken, mark_taken, taking}
+use Rattle.log_rule.specs.Books.{times_held, balance_taken, last_commit_taken, taking}
 use Rattle.log_table.specs.Seats.{Becomes, view_of}
 use Rattle.log_rule.specs.AccountViews.{saw_account, took_account, gave_account}
 use Rattle.early_locks.specs.declared.taking.Taken.{Taken}
 use Rattle.early_locks.specs.declared.taking.Held.{Held}
 
 -- the account as it was taken
-abbrev pub held_of : Taken → HeldAccount
+abbrev pub held_of : Taken → TakenHere
 held_of taken = record { account = taken.account; balance = taken.balance; mark = taken.mark }
 
 -- the account as a seat with this view gives it back
@@ -53,7 +53,7 @@ WasHeld old new account held = MatchBool held.loaded.held
 pub record HoldsTaken (taken : Taken) (books : Books) : Type 0 where
   pub has : 1 ≤ times_held taken.account books.held
   pub balance : balance_taken books.held taken.account ≡ taken.balance
-  pub mark : mark_taken books.held taken.account ≡ taken.mark
+  pub mark : last_commit_taken books.held taken.account ≡ taken.mark
 
 -- these are the balance and the last Commit with which the account has to go back
 abbrev pub GivesBack : Taken → ℕ → ℕ → Books → Type 0

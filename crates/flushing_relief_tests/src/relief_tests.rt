@@ -118,14 +118,22 @@ fn work_and_flush<R: Wait, D: LogDisk>(
 ) -> Option<Outcome>
     requires { D.honest disk.old → IsStableGate 0 (D.images disk.old) }
 {
-    let Ok((table, mut boss)) = table_of(alloc, (100, 0), 4) else {
+    let Ok((table, mut flusher_seat)) = table_of(alloc, (100, 0), 4) else {
         return None;
     };
     let mut jobs = jobs_of(rt, alloc, b"pay 0 1 30\npay 1 0 30\n", 1)?;
     let rows = enlisted(alloc, &mut jobs, 0).ok()?;
-    let mut seat = worker(&table, &mut boss, 0, 1);
+    let mut seat = worker(&table, &mut flusher_seat, 0, 1);
     let looker = table.note(&mut seat);
-    let daemon = daemon_on(alloc, (100, 0), &table, boss, disk, sink, Voice::Lines)?;
+    let daemon = daemon_on(
+        alloc,
+        (100, 0),
+        &table,
+        flusher_seat,
+        disk,
+        sink,
+        Voice::Lines,
+    )?;
     let queue = jobs.queue();
     Some(looks_and_flushes(rt, &table, seat, looker, queue, rows, daemon))
 }

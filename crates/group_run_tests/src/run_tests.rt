@@ -55,12 +55,20 @@ fn run_groups<R: Threads + Wait + Clock + Sync, D: LogDisk>(
 ) -> Option<(usize, Result<Lsn, DaemonFault>)>
     requires { D.honest disk.old → IsStableGate 0 (D.images disk.old) }
 {
-    let Ok((table, mut boss)) = table_with_slots(alloc, (RICH, 0), 4, 1) else {
+    let Ok((table, mut flusher_seat)) = table_with_slots(alloc, (RICH, 0), 4, 1) else {
         return None;
     };
     let mut jobs = noted_thirties(rt, alloc, TRANSFERS, WORKERS)?;
-    let crew = hands(alloc, &table, &mut boss, &mut jobs, WORKERS)?;
-    let mut daemon = daemon_on(alloc, (RICH, 0), &table, boss, disk, sink, Voice::Lines)?;
+    let crew = hands(alloc, &table, &mut flusher_seat, &mut jobs, WORKERS)?;
+    let mut daemon = daemon_on(
+        alloc,
+        (RICH, 0),
+        &table,
+        flusher_seat,
+        disk,
+        sink,
+        Voice::Lines,
+    )?;
     let rows = AtomicUsize::new(0);
     let (t, queue, count) = (&table, jobs.queue(), &rows);
     let ((), answer) = join(

@@ -17,22 +17,22 @@ weighs-not v = by_flag v.live
     by_flag true none = absurd (omega (arith, none))
 
 -- what is known of the first pass, by its own view
-pub record IsBoss (boss v : Takings) : Type 0 where
+pub record IsBoss (first_pass v : Takings) : Type 0 where
   pub live : v.live ≡ true
-  pub count : boss.count ≡ v.count
-  pub marks : boss.marks ≡ v.marks
-  pub out : boss.out ≡ v.out
+  pub count : first_pass.count ≡ v.count
+  pub marks : first_pass.marks ≡ v.marks
+  pub out : first_pass.out ≡ v.out
   pub budget : CountsMarks v
 
 module _ (items : List ℕ) (views : List Takings) (me : ℕ) (v : Takings) (s : IsShared items views) (at : get_elem? views me ≡ some v) where
-  pub boss-same : me ≡ 0 → s.boss ≡ v
-  boss-same here = some-injective s.boss v (sym s.first ∙ (ap (get_elem? views) (sym here) ∙ at))
+  pub first_pass-same : me ≡ 0 → s.first_pass ≡ v
+  first_pass-same here = some-injective s.first_pass v (sym s.first ∙ (ap (get_elem? views) (sym here) ∙ at))
 
-  pub is-boss : me ≡ 0 → IsBoss s.boss v
-  is-boss here = let boss = boss-same here in record {
-    live = sym (ap (λ (u : Takings). u.live) boss) ∙ s.boss_lives;
-    count = ap (λ (u : Takings). u.count) boss;
-    marks = ap (λ (u : Takings). u.marks) boss;
-    out = ap (λ (u : Takings). u.out) boss;
-    budget = subst CountsMarks boss s.budget;
+  pub is-first_pass : me ≡ 0 → IsBoss s.first_pass v
+  is-first_pass here = let first_pass = first_pass-same here in record {
+    live = sym (ap (λ (u : Takings). u.live) first_pass) ∙ s.first_pass_lives;
+    count = ap (λ (u : Takings). u.count) first_pass;
+    marks = ap (λ (u : Takings). u.marks) first_pass;
+    out = ap (λ (u : Takings). u.out) first_pass;
+    budget = subst CountsMarks first_pass s.budget;
   }

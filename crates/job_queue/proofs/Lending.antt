@@ -9,25 +9,25 @@ use Rattle.job_queue.specs.declared.takings.Takings.{Takings}
 use Rattle.job_queue.specs.Takings.{fresh, handed_out, worker_of, took_back, times_in, CountsMarks}
 use Rattle.job_queue.specs.Rule.{summed, HasCount, lives, marks_left_of, IsInOrder, IsEmptyIfSpent, IsShared}
 use Rattle.job_queue.proofs.Counting.{times-append, there-is, everywhere-set, everywhere-snoc, summed-set, summed-snoc, summed-two}
-use Rattle.job_queue.proofs.FirstPass.{weighs, is-boss}
+use Rattle.job_queue.proofs.FirstPass.{weighs, is-first_pass}
 
 pub forks : (me : ℕ) (v : Takings) → me ≡ 0 → 1 ≤ v.marks_left → Forks IsShared me v (handed_out v) (worker_of v)
 forks me v here some' items views s at =
     let w : Takings = handed_out v in let new : Takings = worker_of v in
-    let boss = is-boss items views me v s at here in let vs : List Takings = set views me w in
-    let count = boss.count in let marks = boss.marks in
+    let first_pass = is-first_pass items views me v s at here in let vs : List Takings = set views me w in
+    let count = first_pass.count in let marks = first_pass.marks in
     let sum = summed-set marks_left_of views me v w at in let sum' = summed-snoc marks_left_of vs new in let all = s.put in record {
       next = s.next;
-      boss = w;
+      first_pass = w;
       first = at_longer vs (new ∷ []) 0 w (subst (λ i. get_elem? vs i ≡ some w) here (set_here views me w (there-is views me v at)));
-      boss_lives = boss.live;
+      first_pass_lives = first_pass.live;
       put = omega arith;
       items_are = s.items_are;
       once = λ y. omega (arith, s.once y, summed-set (times_in y) views me v w at, summed-snoc (times_in y) vs new);
-      out = omega (arith, s.out, summed-set lives views me v w at, summed-snoc lives vs new, boss.out);
-      budget = omega (arith, boss.budget, some');
+      out = omega (arith, s.out, summed-set lives views me v w at, summed-snoc lives vs new, first_pass.out);
+      budget = omega (arith, first_pass.budget, some');
       counts = everywhere-snoc (HasCount v.count) vs new
-          (everywhere-set (HasCount s.boss.count) (HasCount v.count) views me w s.counts
+          (everywhere-set (HasCount s.first_pass.count) (HasCount v.count) views me w s.counts
           (λ on. refl) (λ u h on. h on ∙ count)) (λ on. refl);
       early = λ le. let was = s.early (omega arith) in omega arith;
       late = λ le. let was = s.late (omega arith) in omega arith;
@@ -66,35 +66,35 @@ pub merges : (me : ℕ) (v : Takings) (other : ℕ) (u : Takings) → me ≡ 0 �
     → u.marks_left + (length u.own_marks + length u.marks_back) ≡ 1 → Merges IsShared me v other u (took_back v u) nobody
 merges me v other u here on one items views s at two at' =
     let w : Takings = took_back v u in let vs : List Takings = set views me w in
-    let boss = is-boss items views me v s at here in
+    let first_pass = is-first_pass items views me v s at here in
     let was : get_elem? views other ≡ some u =
     ⊎_elim (λ (t : (other ≡ me) × (w ≡ u)). absurd (two t.0)) (λ (t : (other ≢ me) × (get_elem? views other ≡ some u)). t.1)
     (at_set views me other w u at') in
     let both : lives v + lives u ≤ summed lives views = summed-two lives views me other v u at was two in
-    let weight = weighs u on in let mine = weighs v boss.live in
+    let weight = weighs u on in let mine = weighs v first_pass.live in
     let sum = summed-set lives views me v w at in let sum' = summed-set lives vs other u nobody at' in
-    let out = boss.out in let count = boss.count in let marks = boss.marks in let lives_all = s.out in
+    let out = first_pass.out in let count = first_pass.count in let marks = first_pass.marks in let lives_all = s.out in
     let tick = summed-set marks_left_of views me v w at in let tick' = summed-set marks_left_of vs other u nobody at' in
     let all = s.put in record {
       next = s.next;
-      boss = w;
+      first_pass = w;
       first = set_else vs other 0 nobody (λ e. two (sym e ∙ sym here))
           ∙ subst (λ i. get_elem? vs i ≡ some w) here (set_here views me w (there-is views me v at));
-      boss_lives = boss.live;
+      first_pass_lives = first_pass.live;
       put = omega arith;
       items_are = s.items_are;
       once = λ y. let one' = summed-set (times_in y) views me v w at in let other' = summed-set (times_in y) vs other u nobody at' in
           omega (arith, one', other', times-back v u y, s.once y);
       out = omega arith;
-      budget = budget-back v u (omega arith) one boss.budget;
+      budget = budget-back v u (omega arith) one first_pass.budget;
       counts = everywhere-set (HasCount v.count) (HasCount v.count) vs other nobody
-          (everywhere-set (HasCount s.boss.count) (HasCount v.count) views me w s.counts
+          (everywhere-set (HasCount s.first_pass.count) (HasCount v.count) views me w s.counts
           (λ on'. refl) (λ z h on'. h on' ∙ count))
           (λ off. absurd (true≢false (sym off))) (λ z h. h);
       early = λ le. let was' = s.early (omega arith) in omega arith;
       late = λ le. let was' = s.late (omega arith) in omega arith;
       spent = everywhere-set IsEmptyIfSpent IsEmptyIfSpent vs other nobody
-          (everywhere-set IsEmptyIfSpent IsEmptyIfSpent views me w s.spent (λ off. absurd (true≢false (sym boss.live ∙ off))) (λ z h. h))
+          (everywhere-set IsEmptyIfSpent IsEmptyIfSpent views me w s.spent (λ off. absurd (true≢false (sym first_pass.live ∙ off))) (λ z h. h))
           (λ off y. refl) (λ z h. h);
       in_order = everywhere-set (IsInOrder s.next) (IsInOrder s.next) vs other nobody
           (everywhere-set (IsInOrder s.next) (IsInOrder s.next) views me w s.in_order (s.in_order me v at) (λ z h. h)) (tt, tt) (λ z h. h);

@@ -14,7 +14,7 @@ use Rattle.job_queue.specs.declared.takings.Takings.{Takings}
 use Rattle.job_queue.specs.Takings.{took_place, took_mark, TakesNext, same, times_in, CountsMarks}
 use Rattle.job_queue.specs.Rule.{HasCount, lives, marks_left_of, IsInOrder, IsEmptyIfSpent, IsShared}
 use Rattle.job_queue.proofs.Counting.{counted-first, once-more, times-push, there-is, everywhere-set, summed-set, summed-one}
-use Rattle.job_queue.proofs.FirstPass.{boss-same}
+use Rattle.job_queue.proofs.FirstPass.{first_pass-same}
 
 -- what changes of a pass that takes the number `next`
 record Took (next : ℕ) (v w : Takings) : Type 0 where
@@ -61,31 +61,31 @@ Took-mark next v more some' = record {
 }
 
 -- the first view, where one view changes but for what it put and handed out
-record Boss (views : List Takings) (boss : Takings) : Type 0 where
+record KeepsFirstPass (views : List Takings) (first_pass : Takings) : Type 0 where
   pub now : Takings
   pub first : get_elem? views 0 ≡ some now
-  pub live : now.live ≡ boss.live
-  pub count : now.count ≡ boss.count
-  pub marks : now.marks ≡ boss.marks
-  pub out : now.out ≡ boss.out
+  pub live : now.live ≡ first_pass.live
+  pub count : now.count ≡ first_pass.count
+  pub marks : now.marks ≡ first_pass.marks
+  pub out : now.out ≡ first_pass.out
   pub budget : CountsMarks now
 
 module _ (items : List ℕ) (views : List Takings) (me : ℕ) (v w : Takings) (next : ℕ) (s : IsShared items views)
     (at : get_elem? views me ≡ some v) (took : Took next v w) where
-  boss-here : me ≡ 0 → Boss (set views me w) s.boss
-  boss-here here = let boss = sym (boss-same items views me v s at here) in record {
+  first_pass-here : me ≡ 0 → KeepsFirstPass (set views me w) s.first_pass
+  first_pass-here here = let first_pass = sym (first_pass-same items views me v s at here) in record {
     now = w;
     first = subst (λ i. get_elem? (set views me w) i ≡ some w) here (set_here views me w (there-is views me v at));
-    live = took.live ∙ ap (λ (u : Takings). u.live) boss;
-    count = took.count ∙ ap (λ (u : Takings). u.count) boss;
-    marks = took.marks ∙ ap (λ (u : Takings). u.marks) boss;
-    out = took.out ∙ ap (λ (u : Takings). u.out) boss;
-    budget = took.budget (subst CountsMarks (sym boss) s.budget);
+    live = took.live ∙ ap (λ (u : Takings). u.live) first_pass;
+    count = took.count ∙ ap (λ (u : Takings). u.count) first_pass;
+    marks = took.marks ∙ ap (λ (u : Takings). u.marks) first_pass;
+    out = took.out ∙ ap (λ (u : Takings). u.out) first_pass;
+    budget = took.budget (subst CountsMarks (sym first_pass) s.budget);
   }
 
-  boss-away : me ≢ 0 → Boss (set views me w) s.boss
-  boss-away away = record {
-    now = s.boss;
+  first_pass-away : me ≢ 0 → KeepsFirstPass (set views me w) s.first_pass
+  first_pass-away away = record {
+    now = s.first_pass;
     first = set_else views me 0 w (λ e. away (sym e)) ∙ s.first;
     live = refl;
     count = refl;
@@ -94,26 +94,26 @@ module _ (items : List ℕ) (views : List Takings) (me : ℕ) (v w : Takings) (n
     budget = s.budget;
   }
 
-  boss-stays : Boss (set views me w) s.boss
-  boss-stays = dite (ℕ_discrete me 0) boss-here boss-away
+  first_pass-stays : KeepsFirstPass (set views me w) s.first_pass
+  first_pass-stays = dite (ℕ_discrete me 0) first_pass-here first_pass-away
 
 -- the rule is kept where a pass takes the least number that is left
 keeps : (me : ℕ) (v w : Takings) (x : ℕ) (items : List ℕ) (views : List Takings) → v.live ≡ true → (s : IsShared (x ∷ items) views)
     → get_elem? views me ≡ some v → x ≡ s.next → Took s.next v w → IsShared items (set views me w)
 keeps me v w x items views on s at number took =
-    let boss = boss-stays (x ∷ items) views me v w s.next s at took in let count = s.counts me v at on in
-    let sum = summed-set marks_left_of views me v w at in let all = s.put in let bc = boss.count in let bm = boss.marks in record {
+    let first_pass = first_pass-stays (x ∷ items) views me v w s.next s at took in let count = s.counts me v at on in
+    let sum = summed-set marks_left_of views me v w at in let all = s.put in let bc = first_pass.count in let bm = first_pass.marks in record {
       next = suc s.next;
-      boss = boss.now;
-      first = boss.first;
-      boss_lives = boss.live ∙ s.boss_lives;
+      first_pass = first_pass.now;
+      first = first_pass.first;
+      first_pass_lives = first_pass.live ∙ s.first_pass_lives;
       put = omega arith;
       items_are = (counted-first x s.next items s.items_are).1;
       once = λ y. omega (arith, s.once y, once-more y s.next, took.times y, summed-set (times_in y) views me v w at);
-      out = omega (arith, s.out, summed-set lives views me v w at, boss.out, ap (λ b. cond {A = ℕ} b 1 0) took.live);
-      budget = boss.budget;
-      counts = everywhere-set (HasCount s.boss.count) (HasCount boss.now.count) views me w s.counts
-          (λ on'. took.count ∙ count ∙ sym boss.count) (λ u h on'. h on' ∙ sym boss.count);
+      out = omega (arith, s.out, summed-set lives views me v w at, first_pass.out, ap (λ b. cond {A = ℕ} b 1 0) took.live);
+      budget = first_pass.budget;
+      counts = everywhere-set (HasCount s.first_pass.count) (HasCount first_pass.now.count) views me w s.counts
+          (λ on'. took.count ∙ count ∙ sym first_pass.count) (λ u h on'. h on' ∙ sym first_pass.count);
       early = λ le. ⊎_elim (λ t. let kept = t.1 in let was = s.early (omega arith) in omega arith)
           (λ t. let high = t.0 in absurd (omega arith)) took.left;
       late = λ le. ⊎_elim (λ t. let low = t.0 in let kept = t.1 in let was = s.early (omega arith) in omega arith)
@@ -155,5 +155,5 @@ takes me v on some' x items views s at = dite (dec_lt s.next v.count) (gets-plac
 -- while a mark may be taken, the queue holds something
 pub holds-some : (me : ℕ) (v : Takings) → Learns IsShared me v (λ items. 1 ≤ v.marks_left → 1 ≤ length items)
 holds-some me v items views s at some' =
-    let one = summed-one marks_left_of views me v at in let all = s.put in dite (dec_le s.next s.boss.count)
+    let one = summed-one marks_left_of views me v at in let all = s.put in dite (dec_le s.next s.first_pass.count)
     (λ le. let was = s.early le in omega arith) (λ more. let was = s.late (omega arith) in omega arith)

@@ -8,14 +8,14 @@ use Rattle.job_queue.specs.declared.takings.Takings.{Takings}
 use Rattle.job_queue.specs.Takings.{fresh, put_place, put_mark, times_in}
 use Rattle.job_queue.specs.Rule.{summed, HasCount, lives, marks_left_of, IsInOrder, IsEmptyIfSpent, IsShared}
 use Rattle.job_queue.proofs.Counting.{counted-push, there-is, everywhere-one, everywhere-set, summed-set, summed-two}
-use Rattle.job_queue.proofs.FirstPass.{weighs, is-boss}
+use Rattle.job_queue.proofs.FirstPass.{weighs, is-first_pass}
 
 pub begins : IsShared [] (fresh true 0 0 0 0 ∷ [])
 begins = record {
   next = 0;
-  boss = fresh true 0 0 0 0;
+  first_pass = fresh true 0 0 0 0;
   first = refl;
-  boss_lives = refl;
+  first_pass_lives = refl;
   put = refl;
   items_are = refl;
   once = λ x. refl;
@@ -37,23 +37,23 @@ other-none views me v u j at there other on lives' alone =
 pub puts-place : (n me : ℕ) (v : Takings) (x : ℕ) → me ≡ 0 → x ≡ v.count → v.marks ≡ 0 → v.out ≡ 0
     → Pushes IsShared n me v x (λ w. w ≡ put_place v)
 puts-place n me v x here next unmarked none items views _ s at =
-    let w : Takings = put_place v in let boss = is-boss items views me v s at here in
-    let count = boss.count in let marks = boss.marks in let out = boss.out in
+    let w : Takings = put_place v in let first_pass = is-first_pass items views me v s at here in
+    let count = first_pass.count in let marks = first_pass.marks in let out = first_pass.out in
     let sum = summed-set marks_left_of views me v w at in let all = s.put in (
       w,
       record {
         next = s.next;
-        boss = w;
+        first_pass = w;
         first = subst (λ i. get_elem? (set views me w) i ≡ some w) here (set_here views me w (there-is views me v at));
-        boss_lives = boss.live;
+        first_pass_lives = first_pass.live;
         put = omega (arith, length-append items (x ∷ []));
         items_are = counted-push s.next items x s.items_are (omega arith);
         once = λ y. omega (arith, s.once y, summed-set (times_in y) views me v w at);
         out = omega (arith, s.out, summed-set lives views me v w at);
-        budget = boss.budget;
+        budget = first_pass.budget;
         counts = λ j u there lives'. ⊎_elim (λ (t : (j ≡ me) × (w ≡ u)). ap (λ (z : Takings). z.count) (sym t.1))
             (λ (t : (j ≢ me) × (get_elem? views j ≡ some u)).
-            absurd (other-none views me v u j at t.1 t.0 boss.live lives' (omega (arith, s.out, out, none)))) (at_set views me j w u there);
+            absurd (other-none views me v u j at t.1 t.0 first_pass.live lives' (omega (arith, s.out, out, none)))) (at_set views me j w u there);
         early = λ le. let was = s.early (omega arith) in omega arith;
         late = λ le. absurd (omega arith);
         spent = everywhere-set IsEmptyIfSpent IsEmptyIfSpent views me w s.spent (s.spent me v at) (λ u h. h);
@@ -64,20 +64,20 @@ puts-place n me v x here next unmarked none items views _ s at =
 
 pub puts-mark : (n me : ℕ) (v : Takings) (x : ℕ) → me ≡ 0 → x ≡ v.count + v.marks → Pushes IsShared n me v x (λ w. w ≡ put_mark v)
 puts-mark n me v x here next items views _ s at =
-    let w : Takings = put_mark v in let boss = is-boss items views me v s at here in
-    let count = boss.count in let marks = boss.marks in let sum = summed-set marks_left_of views me v w at in let all = s.put in (
+    let w : Takings = put_mark v in let first_pass = is-first_pass items views me v s at here in
+    let count = first_pass.count in let marks = first_pass.marks in let sum = summed-set marks_left_of views me v w at in let all = s.put in (
       w,
       record {
         next = s.next;
-        boss = w;
+        first_pass = w;
         first = subst (λ i. get_elem? (set views me w) i ≡ some w) here (set_here views me w (there-is views me v at));
-        boss_lives = boss.live;
+        first_pass_lives = first_pass.live;
         put = omega (arith, length-append items (x ∷ []));
         items_are = counted-push s.next items x s.items_are (omega arith);
         once = λ y. omega (arith, s.once y, summed-set (times_in y) views me v w at);
-        out = omega (arith, s.out, summed-set lives views me v w at, boss.out);
-        budget = omega (arith, boss.budget);
-        counts = everywhere-set (HasCount s.boss.count) (HasCount v.count) views me w s.counts
+        out = omega (arith, s.out, summed-set lives views me v w at, first_pass.out);
+        budget = omega (arith, first_pass.budget);
+        counts = everywhere-set (HasCount s.first_pass.count) (HasCount v.count) views me w s.counts
             (λ on. refl) (λ u h on. h on ∙ count);
         early = λ le. let was = s.early (omega arith) in omega arith;
         late = λ le. let was = s.late (omega arith) in omega arith;
@@ -89,4 +89,4 @@ puts-mark n me v x here next items views _ s at =
 
 -- the queue holds no more than was put
 pub knows-put : (me : ℕ) (v : Takings) → me ≡ 0 → Learns IsShared me v (λ items. length items ≤ v.count + v.marks)
-knows-put me v here items views s at = let boss = is-boss items views me v s at here in omega (arith, s.put, boss.count, boss.marks)
+knows-put me v here items views s at = let first_pass = is-first_pass items views me v s at here in omega (arith, s.put, first_pass.count, first_pass.marks)

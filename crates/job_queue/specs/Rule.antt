@@ -42,16 +42,16 @@ IsEmptyIfSpent v = v.live ≡ false → (x : ℕ) → times_in x v ≡ 0
 -- The first pass put them all. `next` is the least number that was not taken.
 pub record IsShared (items : List ℕ) (views : List Takings) : Type 0 where
   pub next : ℕ
-  pub boss : Takings
-  pub first : get_elem? views 0 ≡ some boss
-  pub boss_lives : boss.live ≡ true
-  pub put : boss.count + boss.marks ≡ next + length items
+  pub first_pass : Takings
+  pub first : get_elem? views 0 ≡ some first_pass
+  pub first_pass_lives : first_pass.live ≡ true
+  pub put : first_pass.count + first_pass.marks ≡ next + length items
   pub items_are : items ≡ counted next (length items)
   pub once : (x : ℕ) → summed (times_in x) views ≡ once_below x next
-  pub out : summed lives views ≡ 1 + boss.out
-  pub budget : CountsMarks boss
-  pub counts : Everywhere (HasCount boss.count) views
-  pub early : next ≤ boss.count → summed marks_left_of views ≡ boss.marks
-  pub late : boss.count ≤ next → summed marks_left_of views + next ≡ boss.count + boss.marks
+  pub out : summed lives views ≡ 1 + first_pass.out
+  pub budget : CountsMarks first_pass
+  pub counts : Everywhere (HasCount first_pass.count) views
+  pub early : next ≤ first_pass.count → summed marks_left_of views ≡ first_pass.marks
+  pub late : first_pass.count ≤ next → summed marks_left_of views + next ≡ first_pass.count + first_pass.marks
   pub spent : Everywhere IsEmptyIfSpent views
   pub in_order : Everywhere (IsInOrder next) views

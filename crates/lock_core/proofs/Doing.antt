@@ -17,7 +17,7 @@ use Rattle.lock_core.specs.Records.{txn_of, ends, commits, changes_of, gain, los
 use Rattle.lock_core.specs.Transactions.{recs_of, own_records_of, has_commit, is_committed, all_without_prev, in_order}
 use Rattle.lock_core.specs.Sums.{BaseState, moved, moved_by, total, balance_of}
 use Rattle.lock_core.specs.Alone.{PlainTransfer, IsAllowedLeg, IsAllowedTransfer, Done, ShortAt, OverAt, lacks, overfills, after_leg, outcome_from, with_note, leg_updates, outcome_records}
-use Rattle.lock_core.specs.Serial.{Task, numbered, IsRunWhole, IsCutShort, HasNoOthers, IsSerialAfter, IsPartlySerialAfter}
+use Rattle.lock_core.specs.Serial.{NumberedTransfer, numbered, IsRunWhole, IsCutShort, HasNoOthers, IsSerialAfter, IsPartlySerialAfter}
 use Rattle.lock_core.specs.AnyOrder.{given, taken, legs_of, HasRoomFor, IsDoneIn, done_records, weight_of}
 use Rattle.lock_core.proofs.OneMore.{neither, of_transaction-same, has_commit-unended}
 use Rattle.lock_core.proofs.Apart.{own_records_of-right}
@@ -90,24 +90,24 @@ legs_move-gain account (leg ∷ legs) =
     omega arith
 
 -- the transaction's records are its end record and those before
-own_records_of-run : (base : BaseState) (h : List Placed) (task : Task) (run : IsRunWhole base h task) → own_records_of task.number h ≡ run.end.rec ∷ own_records_of task.number run.front
+own_records_of-run : (base : BaseState) (h : List Placed) (task : NumberedTransfer) (run : IsRunWhole base h task) → own_records_of task.number h ≡ run.end.rec ∷ own_records_of task.number run.front
 own_records_of-run base h task run =
     ap (own_records_of task.number) run.whole
     ∙ own_records_of-right task.number run.later (run.end ∷ run.front) run.last
     ∙ ap recs_of (of_transaction-same task.number run.end run.front run.own)
 
 -- a transfer that is cut short is not committed
-uncommitted-cut : (h : List Placed) (task : Task) → IsCutShort h task → is_committed task.number h ≡ false
+uncommitted-cut : (h : List Placed) (task : NumberedTransfer) → IsCutShort h task → is_committed task.number h ≡ false
 uncommitted-cut h task cut =
     has_commit-unended (own_records_of task.number h) (sym (has_end-without_prev (own_records_of task.number h))
     ∙ has_end-front task.number task.job (all_without_prev (own_records_of task.number h)) cut.rest cut.front)
 
 -- before its end record a transfer is cut short
-cut-before : (base : BaseState) (h : List Placed) (task : Task) (run : IsRunWhole base h task) → IsCutShort run.front task
+cut-before : (base : BaseState) (h : List Placed) (task : NumberedTransfer) (run : IsRunWhole base h task) → IsCutShort run.front task
 cut-before base h task run = cut_short-end base run.end run.front task run.records
 
 -- the records before an end record are a partly serial history
-serial-before : (base : BaseState) (tasks : List Task) (h : List Placed) (task : Task) (run : IsRunWhole base h task)
+serial-before : (base : BaseState) (tasks : List NumberedTransfer) (h : List Placed) (task : NumberedTransfer) (run : IsRunWhole base h task)
     → IsPartlySerialAfter base tasks h → IsPartlySerialAfter base tasks run.front
 serial-before base tasks h task run serial =
     partly_serial-front base tasks (run.later ++ run.end ∷ []) run.front
@@ -123,7 +123,7 @@ module _ (side : ℤ → ℕ) (account : ℕ) where
   moves-note txn (byte ∷ bytes) records = omega arith
 
   -- a transfer that is done moves what its legs say
-  pub moves-done : (task : Task) → weight_of (moves side account) (outcome_records task.number task.job Done) ≡ legs_move side account task.job.legs
+  pub moves-done : (task : NumberedTransfer) → weight_of (moves side account) (outcome_records task.number task.job Done) ≡ legs_move side account task.job.legs
   moves-done task =
       let all = take_all (length task.job.legs) task.job.legs (omega arith) in
       let updates = moves-updates task.number task.job.legs in
@@ -133,7 +133,7 @@ module _ (side : ℤ → ℕ) (account : ℕ) where
       ∙ omega arith
 
   -- and in any other case at most that
-  moves-cut : (h : List Placed) (task : Task) → IsCutShort h task → weight_of (moves side account) (own_records_of task.number h) ≤ legs_move side account task.job.legs
+  moves-cut : (h : List Placed) (task : NumberedTransfer) → IsCutShort h task → weight_of (moves side account) (own_records_of task.number h) ≤ legs_move side account task.job.legs
   moves-cut h task cut =
       let parts = weight_of-in_order (moves side account) (all_without_prev (own_records_of task.number h)) cut.rest in
       let same = weight_of-without_prev (moves side account) (own_records_of task.number h) (moves-prev side account) in
@@ -141,7 +141,7 @@ module _ (side : ℤ → ℕ) (account : ℕ) where
       ∙ moves-updates task.number task.job.legs in
       omega arith
 
-  moves-partly : (base : BaseState) (h : List Placed) (task : Task) → IsRunPartly base h task
+  moves-partly : (base : BaseState) (h : List Placed) (task : NumberedTransfer) → IsRunPartly base h task
       → weight_of (moves side account) (own_records_of task.number h) ≤ legs_move side account task.job.legs
   moves-partly base h task (inr cut) = moves-cut h task cut
   moves-partly base h task (inl run) =
@@ -151,7 +151,7 @@ module _ (side : ℤ → ℕ) (account : ℕ) where
       omega arith
 
   -- what the committed transactions move, as a sum over the transfers
-  abbrev counted : List Placed → Task → ℕ
+  abbrev counted : List Placed → NumberedTransfer → ℕ
   counted h task = cond (is_committed task.number h) (weight_of (moves side account) (own_records_of task.number h)) 0
 
   moved_by-weight : (c : ℕ → Bool) (h : List Placed) → moved_by c side account h ≡ weight_of (λ rec. cond (c (txn_of rec)) (moves side account rec) 0) (recs_of h)
@@ -179,23 +179,23 @@ module _ (side : ℤ → ℕ) (account : ℕ) where
           (λ other. let here = ne_eqb m n other in
           ap (λ b. cond {A = ℕ} b (cond (c m) own 0) 0) here ∙ sym (ap (λ b. cond {A = ℕ} (c n) (cond b own 0) 0) here ∙ nothing (c n)))
 
-  total-tasks : (tasks : List Task) (h : List Placed) → AreDistinct tasks → HasNoOthers tasks h → total side account h ≡ each_task (counted h) tasks
+  total-tasks : (tasks : List NumberedTransfer) (h : List Placed) → AreDistinct tasks → HasNoOthers tasks h → total side account h ≡ each_task (counted h) tasks
   total-tasks tasks h distinct others =
       moved_by-weight (λ txn. is_committed txn h) h
       ∙ weight_of-tasks (λ rec. cond (is_committed (txn_of rec) h) (moves side account rec) 0) tasks h distinct others
       ∙ (λ i. each_task (λ task. weight_of-counted (λ txn. is_committed txn h) task.number h i) tasks)
 
-each_task-le : (f g : Task → ℕ) (tasks : List Task) → AllByRecursion (λ task. f task ≤ g task) tasks → each_task f tasks ≤ each_task g tasks
+each_task-le : (f g : NumberedTransfer → ℕ) (tasks : List NumberedTransfer) → AllByRecursion (λ task. f task ≤ g task) tasks → each_task f tasks ≤ each_task g tasks
 each_task-le f g [] all = omega arith
 each_task-le f g (task ∷ tasks) all = let first = all.0 in let more = each_task-le f g tasks all.1 in omega arith
 
 -- where one of them counts nothing, its amount is left over
-each_task-but : (f g : Task → ℕ) (tasks : List Task) (task : Task) → AllByRecursion (λ t. f t ≤ g t) tasks → Contains tasks task → f task ≡ 0
+each_task-but : (f g : NumberedTransfer → ℕ) (tasks : List NumberedTransfer) (task : NumberedTransfer) → AllByRecursion (λ t. f t ≤ g t) tasks → Contains tasks task → f task ≡ 0
     → each_task f tasks + g task ≤ each_task g tasks
 each_task-but f g tasks task all one = All-contains (λ t. f t ≡ 0 → each_task f tasks + g t ≤ each_task g tasks) tasks task
     (All-from_recursion (λ t. f t ≡ 0 → each_task f tasks + g t ≤ each_task g tasks) tasks (each tasks all)) one
   where
-    each : (tasks : List Task) → AllByRecursion (λ t. f t ≤ g t) tasks → AllByRecursion (λ t. f t ≡ 0 → each_task f tasks + g t ≤ each_task g tasks) tasks
+    each : (tasks : List NumberedTransfer) → AllByRecursion (λ t. f t ≤ g t) tasks → AllByRecursion (λ t. f t ≡ 0 → each_task f tasks + g t ≤ each_task g tasks) tasks
     each [] all = tt
     each (first ∷ tasks) all = (
       (λ none. let more = each_task-le f g tasks all.1 in omega (arith, none)),
@@ -204,7 +204,7 @@ each_task-but f g tasks task all one = All-contains (λ t. f t ≡ 0 → each_ta
     )
 
 -- before its end, what the others moved and what it is to move are at most what all of them move
-total-but : (side : ℤ → ℕ) (account : ℕ) (base : BaseState) (tasks : List Task) (h : List Placed) (task : Task) → AreDistinct tasks
+total-but : (side : ℤ → ℕ) (account : ℕ) (base : BaseState) (tasks : List NumberedTransfer) (h : List Placed) (task : NumberedTransfer) → AreDistinct tasks
     → IsPartlySerialAfter base tasks h → Contains tasks task → IsCutShort h task
     → total side account h + legs_move side account task.job.legs ≤ each_task (λ t. legs_move side account t.job.legs) tasks
 total-but side account base tasks h task distinct serial one cut =
@@ -271,11 +271,11 @@ distinct-numbered : (first : ℕ) (jobs : List PlainTransfer) → AreDistinct (n
 distinct-numbered first [] = tt
 distinct-numbered first (job ∷ jobs) = (has_number-below first (first + 1) jobs (omega arith), distinct-numbered (first + 1) jobs)
 
-allowed-numbered : (accounts first : ℕ) (jobs : List PlainTransfer) → AllByRecursion (IsAllowedTransfer accounts) jobs → AllByRecursion (λ (task : Task). IsAllowedTransfer accounts task.job) (numbered first jobs)
+allowed-numbered : (accounts first : ℕ) (jobs : List PlainTransfer) → AllByRecursion (IsAllowedTransfer accounts) jobs → AllByRecursion (λ (task : NumberedTransfer). IsAllowedTransfer accounts task.job) (numbered first jobs)
 allowed-numbered accounts first [] all = tt
 allowed-numbered accounts first (job ∷ jobs) all = (all.0, allowed-numbered accounts (first + 1) jobs all.1)
 
-all-three : (P Q R S : Task → Type 0) → ((task : Task) → P task → Q task → R task → S task) → (tasks : List Task)
+all-three : (P Q R S : NumberedTransfer → Type 0) → ((task : NumberedTransfer) → P task → Q task → R task → S task) → (tasks : List NumberedTransfer)
     → AllByRecursion P tasks → AllByRecursion Q tasks → AllByRecursion R tasks → AllByRecursion S tasks
 all-three P Q R S f [] p q r = tt
 all-three P Q R S f (task ∷ tasks) p q r = (f task p.0 q.0 r.0, all-three P Q R S f tasks p.1 q.1 r.1)
@@ -287,7 +287,7 @@ weight_of-note weight none txn [] records = refl
 weight_of-note weight none txn (byte ∷ bytes) records = let nothing = none txn (byte ∷ bytes) in omega arith
 
 -- a transfer that is done weighs what its records do
-weight_of-done_in : (weight : Rec → ℕ) (h : List Placed) (task : Task) → IgnoresPrev weight → IsDoneIn h task
+weight_of-done_in : (weight : Rec → ℕ) (h : List Placed) (task : NumberedTransfer) → IgnoresPrev weight → IsDoneIn h task
     → weight_of weight (own_records_of task.number h) ≡ weight_of weight (outcome_records task.number task.job Done)
 weight_of-done_in weight h task ignores done =
     let parts = weight_of-in_order weight (all_without_prev (own_records_of task.number h)) [] in
@@ -295,7 +295,7 @@ weight_of-done_in weight h task ignores done =
     let whole = ap (weight_of weight) done in
     omega arith
 
-weight_of-done_records : (weight : Rec → ℕ) (tasks : List Task)
+weight_of-done_records : (weight : Rec → ℕ) (tasks : List NumberedTransfer)
     → weight_of weight (done_records tasks) ≡ each_task (λ task. weight_of weight (outcome_records task.number task.job Done)) tasks
 weight_of-done_records weight [] = refl
 weight_of-done_records weight (task ∷ tasks) =
@@ -315,7 +315,7 @@ commit_weight-prev (Over txn leg) = refl
 commit_weight-prev (Note txn text) = refl
 
 -- a transfer that is done is committed
-committed-done : (h : List Placed) (task : Task) → IsDoneIn h task → is_committed task.number h ≡ true
+committed-done : (h : List Placed) (task : NumberedTransfer) → IsDoneIn h task → is_committed task.number h ≡ true
 committed-done h task done = by_case (is_committed task.number h) refl
   where
     without : (records : List Rec) → has_commit records ≡ false → weight_of commit_weight records ≡ 0
@@ -344,7 +344,7 @@ module _ (base : BaseState) (first : ℕ) (jobs : List PlainTransfer) (room : Ha
       ∙ legs_of-numbered (given account) refl (given-append account) first jobs
 
   -- before its end each transfer finds what it needs
-  fits-before : (h : List Placed) (task : Task) → IsPartlySerialAfter base (numbered first jobs) h → Contains (numbered first jobs) task → IsCutShort h task
+  fits-before : (h : List Placed) (task : NumberedTransfer) → IsPartlySerialAfter base (numbered first jobs) h → Contains (numbered first jobs) task → IsCutShort h task
       → FitsLegs base.accounts (balance_of base h) task.job.legs
   fits-before h task serial one cut account below =
       let distinct = distinct-numbered first jobs in
@@ -359,7 +359,7 @@ module _ (base : BaseState) (first : ℕ) (jobs : List PlainTransfer) (room : Ha
       (omega arith, omega arith)
 
   run-done : (h : List Placed) → IsPartlySerialAfter base (numbered first jobs) h
-      → (task : Task) → Contains (numbered first jobs) task → IsAllowedTransfer base.accounts task.job → IsRunWhole base h task → IsDoneIn h task
+      → (task : NumberedTransfer) → Contains (numbered first jobs) task → IsAllowedTransfer base.accounts task.job → IsRunWhole base h task → IsDoneIn h task
   run-done h serial task one allowed run =
       let fits = fits-before run.front task (serial-before base (numbered first jobs) h task run serial) one (cut-before base h task run) in
       let done = legs-done base.accounts 0 task.job.legs (balance_of base run.front) allowed.legs.each fits in
@@ -369,8 +369,8 @@ module _ (base : BaseState) (first : ℕ) (jobs : List PlainTransfer) (room : Ha
   each_contained = recursion_from_All (Contains (numbered first jobs)) (numbered first jobs) (All-contains_itself (numbered first jobs))
 
   pub partly-done : (h : List Placed) → IsPartlySerialAfter base (numbered first jobs) h
-      → AllByRecursion (λ (task : Task). IsDoneIn h task ⊎ IsCutShort h task) (numbered first jobs)
-  partly-done h serial = all-three _ _ (IsRunPartly base h) (λ (task : Task). IsDoneIn h task ⊎ IsCutShort h task)
+      → AllByRecursion (λ (task : NumberedTransfer). IsDoneIn h task ⊎ IsCutShort h task) (numbered first jobs)
+  partly-done h serial = all-three _ _ (IsRunPartly base h) (λ (task : NumberedTransfer). IsDoneIn h task ⊎ IsCutShort h task)
       (λ task one allowed run. elim run [ inl whole ↦ inl (run-done h serial task one allowed whole) | inr cut ↦ inr cut ])
       (numbered first jobs) each_contained (allowed-numbered base.accounts first jobs room.allowed) serial.each
 
@@ -395,7 +395,7 @@ module _ (base : BaseState) (first : ℕ) (jobs : List PlainTransfer) (room : Ha
       ∙ each_task-same (counted side account h) (λ task. legs_move side account task.job.legs) (numbered first jobs)
       (all-map (IsDoneIn h) _ all (numbered first jobs) (serial-done h serial))
     where
-      all : (task : Task) → IsDoneIn h task → counted side account h task ≡ legs_move side account task.job.legs
+      all : (task : NumberedTransfer) → IsDoneIn h task → counted side account h task ≡ legs_move side account task.job.legs
       all task done =
           ap (λ b. cond {A = ℕ} b (weight_of (moves side account) (own_records_of task.number h)) 0) (committed-done h task done)
           ∙ weight_of-done_in (moves side account) h task (moves-prev side account) done ∙ moves-done side account task

@@ -10,7 +10,7 @@ use Rattle.lock_core.specs.Records.{txn_of, ends, without_prev}
 use Rattle.lock_core.specs.Transactions.{of_transaction, recs_of, own_records_of, has_end, all_without_prev, in_order}
 use Rattle.lock_core.specs.Sums.{BaseState, balance_of}
 use Rattle.lock_core.specs.Alone.{PlainTransfer, outcome_alone, outcome_records}
-use Rattle.lock_core.specs.Serial.{Task, numbered, IsRunWhole, IsCutShort, HasNoOthers, IsSerialAfter, IsPartlySerialAfter}
+use Rattle.lock_core.specs.Serial.{NumberedTransfer, numbered, IsRunWhole, IsCutShort, HasNoOthers, IsSerialAfter, IsPartlySerialAfter}
 use Rattle.lock_core.proofs.OneMore.{of_transaction-same, of_transaction-other}
 use Rattle.lock_core.proofs.Apart.{of_transaction-older}
 use Rattle.lock_core.proofs.Running.{before-end, has_end-front}
@@ -20,7 +20,7 @@ all-map P Q f [] all = tt
 all-map P Q f (x ∷ xs) all = (f x all.0, all-map P Q f xs all.1)
 
 -- one record less
-cut_short-before : (entry : Placed) (h : List Placed) (task : Task) → IsCutShort (entry ∷ h) task → IsCutShort h task
+cut_short-before : (entry : Placed) (h : List Placed) (task : NumberedTransfer) → IsCutShort (entry ∷ h) task → IsCutShort h task
 cut_short-before entry h task cut = dite (ℕ_discrete (txn_of entry.rec) task.number)
     (λ same. record {
       rest = without_prev entry.rec ∷ cut.rest;
@@ -31,18 +31,18 @@ cut_short-before entry h task cut = dite (ℕ_discrete (txn_of entry.rec) task.n
       front = ap (λ entries. in_order (all_without_prev (recs_of entries)) cut.rest) (sym (of_transaction-other task.number entry h other)) ∙ cut.front;
     })
 
-abbrev pub IsRunPartly : BaseState → List Placed → Task → Type 0
+abbrev pub IsRunPartly : BaseState → List Placed → NumberedTransfer → Type 0
 IsRunPartly base h task = IsRunWhole base h task ⊎ IsCutShort h task
 
 -- without its end record a transfer is cut short
-pub cut_short-end : (base : BaseState) (entry : Placed) (h : List Placed) (task : Task)
+pub cut_short-end : (base : BaseState) (entry : Placed) (h : List Placed) (task : NumberedTransfer)
     → in_order (all_without_prev (entry.rec ∷ own_records_of task.number h)) [] ≡ outcome_records task.number task.job (outcome_alone task.job (balance_of base h))
     → IsCutShort h task
 cut_short-end base entry h task are =
     let found = before-end task.number task.job (outcome_alone task.job (balance_of base h)) (all_without_prev (own_records_of task.number h)) (without_prev entry.rec) are in
     record { rest = found.0; front = found.1 }
 
-run_partly-before : (base : BaseState) (entry : Placed) (h : List Placed) (task : Task) → IsRunPartly base (entry ∷ h) task → IsRunPartly base h task
+run_partly-before : (base : BaseState) (entry : Placed) (h : List Placed) (task : NumberedTransfer) → IsRunPartly base (entry ∷ h) task → IsRunPartly base h task
 run_partly-before base entry h task (inr cut) = inr (cut_short-before entry h task cut)
 run_partly-before base entry h task (inl run) = by_later run.later run.whole run.last
   where
@@ -67,7 +67,7 @@ run_partly-before base entry h task (inl run) = by_later run.later run.whole run
           records = run.records;
         })
 
-pub partly_serial-front : (base : BaseState) (tasks : List Task) (later h : List Placed) → IsPartlySerialAfter base tasks (later ++ h) → IsPartlySerialAfter base tasks h
+pub partly_serial-front : (base : BaseState) (tasks : List NumberedTransfer) (later h : List Placed) → IsPartlySerialAfter base tasks (later ++ h) → IsPartlySerialAfter base tasks h
 partly_serial-front base tasks [] h serial = serial
 partly_serial-front base tasks (entry ∷ later) h serial = partly_serial-front base tasks later h (record {
   each = all-map (IsRunPartly base (entry ∷ (later ++ h))) (IsRunPartly base (later ++ h)) (run_partly-before base entry (later ++ h)) tasks serial.each;
@@ -75,7 +75,7 @@ partly_serial-front base tasks (entry ∷ later) h serial = partly_serial-front 
 })
 
 -- a serial history is partly serial, and a partly serial one in which each transfer has an end record is serial
-pub serial-partly : (base : BaseState) (tasks : List Task) (h : List Placed) → IsSerialAfter base tasks h → IsPartlySerialAfter base tasks h
+pub serial-partly : (base : BaseState) (tasks : List NumberedTransfer) (h : List Placed) → IsSerialAfter base tasks h → IsPartlySerialAfter base tasks h
 serial-partly base tasks h serial = record {
   each = all-map (IsRunWhole base h) (IsRunPartly base h) (λ task run. inl run) tasks serial.each;
   others = serial.others;
@@ -93,22 +93,22 @@ pub has_end-without_prev : (records : List Rec) → has_end (all_without_prev re
 has_end-without_prev [] = refl
 has_end-without_prev (rec ∷ records) = λ i. ends-without_prev rec i || has_end-without_prev records i
 
-pub partly-serial : (base : BaseState) (tasks : List Task) (h : List Placed) → AllByRecursion (λ (task : Task). has_end (own_records_of task.number h) ≡ true) tasks
+pub partly-serial : (base : BaseState) (tasks : List NumberedTransfer) (h : List Placed) → AllByRecursion (λ (task : NumberedTransfer). has_end (own_records_of task.number h) ≡ true) tasks
     → IsPartlySerialAfter base tasks h → IsSerialAfter base tasks h
 partly-serial base tasks h ended serial = record { each = each tasks ended serial.each; others = serial.others }
   where
-    whole : (task : Task) → has_end (own_records_of task.number h) ≡ true → IsRunPartly base h task → IsRunWhole base h task
+    whole : (task : NumberedTransfer) → has_end (own_records_of task.number h) ≡ true → IsRunPartly base h task → IsRunWhole base h task
     whole task on (inl run) = run
     whole task on (inr cut) = absurd (true≢false (sym on ∙ sym (has_end-without_prev (own_records_of task.number h))
         ∙ has_end-front task.number task.job (all_without_prev (own_records_of task.number h)) cut.rest cut.front))
 
-    each : (tasks : List Task) → AllByRecursion (λ (task : Task). has_end (own_records_of task.number h) ≡ true) tasks → AllByRecursion (IsRunPartly base h) tasks
+    each : (tasks : List NumberedTransfer) → AllByRecursion (λ (task : NumberedTransfer). has_end (own_records_of task.number h) ≡ true) tasks → AllByRecursion (IsRunPartly base h) tasks
         → AllByRecursion (IsRunWhole base h) tasks
     each [] ended runs = tt
     each (task ∷ tasks) ended runs = (whole task ended.0 runs.0, each tasks ended.1 runs.1)
 
 -- an entry of another transaction leaves what the history has of a transfer
-pub run_partly-other : (base : BaseState) (entry : Placed) (h : List Placed) (task : Task) → txn_of entry.rec ≢ task.number → IsRunPartly base h task → IsRunPartly base (entry ∷ h) task
+pub run_partly-other : (base : BaseState) (entry : Placed) (h : List Placed) (task : NumberedTransfer) → txn_of entry.rec ≢ task.number → IsRunPartly base h task → IsRunPartly base (entry ∷ h) task
 run_partly-other base entry h task other (inl run) = inl (record {
   later = entry ∷ run.later;
   end = run.end;
@@ -125,7 +125,7 @@ run_partly-other base entry h task other (inr cut) = inr (record {
 })
 
 -- what follows has transactions of the given numbers alone
-pub numbers-from : (first : ℕ) (tasks : List Task) (h : List Placed) → AllByRecursion (λ (task : Task). first ≤ task.number) tasks → HasNoOthers tasks h
+pub numbers-from : (first : ℕ) (tasks : List NumberedTransfer) (h : List Placed) → AllByRecursion (λ (task : NumberedTransfer). first ≤ task.number) tasks → HasNoOthers tasks h
     → AllByRecursion (λ (entry : Placed). first ≤ txn_of entry.rec) h
 numbers-from first tasks [] from others = tt
 numbers-from first tasks (entry ∷ h) from others = (
@@ -133,17 +133,17 @@ numbers-from first tasks (entry ∷ h) from others = (
   numbers-from first tasks h from (λ txn none. of_transaction-older txn (entry ∷ []) h (others txn none)),
 )
   where
-    none : (tasks : List Task) → AllByRecursion (λ (task : Task). first ≤ task.number) tasks → (first ≤ txn_of entry.rec → ⊥)
-        → AllByRecursion (λ (task : Task). task.number ≢ txn_of entry.rec) tasks
+    none : (tasks : List NumberedTransfer) → AllByRecursion (λ (task : NumberedTransfer). first ≤ task.number) tasks → (first ≤ txn_of entry.rec → ⊥)
+        → AllByRecursion (λ (task : NumberedTransfer). task.number ≢ txn_of entry.rec) tasks
     none [] from low = tt
     none (task ∷ tasks) from low = ((λ same. low (subst (λ n. first ≤ n) same from.0)), none tasks from.1 low)
 
     clash : of_transaction (txn_of entry.rec) (entry ∷ h) ≡ [] → ⊥
     clash empty = let some = sym (of_transaction-same (txn_of entry.rec) entry h refl) ∙ empty in cc
 
-pub numbered-from : (first : ℕ) (jobs : List PlainTransfer) → AllByRecursion (λ (task : Task). first ≤ task.number) (numbered first jobs)
+pub numbered-from : (first : ℕ) (jobs : List PlainTransfer) → AllByRecursion (λ (task : NumberedTransfer). first ≤ task.number) (numbered first jobs)
 numbered-from first jobs = each first jobs (omega arith)
   where
-    each : (next : ℕ) (jobs : List PlainTransfer) → first ≤ next → AllByRecursion (λ (task : Task). first ≤ task.number) (numbered next jobs)
+    each : (next : ℕ) (jobs : List PlainTransfer) → first ≤ next → AllByRecursion (λ (task : NumberedTransfer). first ≤ task.number) (numbered next jobs)
     each next [] high = tt
     each next (job ∷ jobs) high = (high, each (next + 1) jobs (omega arith))

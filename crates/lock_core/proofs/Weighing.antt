@@ -8,40 +8,40 @@ use Rattle.log_record.specs.declared.rec.Placed.{Placed}
 use Rattle.lock_core.specs.History.{end_from, entry_at, history_from}
 use Rattle.lock_core.specs.Records.{txn_of, without_prev}
 use Rattle.lock_core.specs.Transactions.{of_transaction, recs_of, own_records_of, all_without_prev, in_order}
-use Rattle.lock_core.specs.Serial.{Task, HasNoOthers}
+use Rattle.lock_core.specs.Serial.{NumberedTransfer, HasNoOthers}
 use Rattle.lock_core.specs.AnyOrder.{weight_of}
 use Rattle.lock_core.proofs.OneMore.{neither, of_transaction-same}
 use Rattle.lock_core.proofs.Apart.{of_transaction-older}
 
 -- one of the transfers has this number
-abbrev pub has_number : List Task → ℕ → Bool
+abbrev pub has_number : List NumberedTransfer → ℕ → Bool
 has_number [] n = false
 has_number (task ∷ tasks) n = (n == task.number) || has_number tasks n
 
 -- no number stands twice
-abbrev pub AreDistinct : List Task → Type 0
+abbrev pub AreDistinct : List NumberedTransfer → Type 0
 AreDistinct [] = Unit {0}
 AreDistinct (task ∷ tasks) = (has_number tasks task.number ≡ false) × AreDistinct tasks
 
 -- the sum over the transfers
-abbrev pub each_task : (Task → ℕ) → List Task → ℕ
+abbrev pub each_task : (NumberedTransfer → ℕ) → List NumberedTransfer → ℕ
 each_task amount [] = 0
 each_task amount (task ∷ tasks) = amount task + each_task amount tasks
 
-pub each_task-add : (f g : Task → ℕ) (tasks : List Task) → each_task (λ task. f task + g task) tasks ≡ each_task f tasks + each_task g tasks
+pub each_task-add : (f g : NumberedTransfer → ℕ) (tasks : List NumberedTransfer) → each_task (λ task. f task + g task) tasks ≡ each_task f tasks + each_task g tasks
 each_task-add f g [] = refl
 each_task-add f g (task ∷ tasks) = let more = each_task-add f g tasks in omega arith
 
-pub each_task-same : (f g : Task → ℕ) (tasks : List Task) → AllByRecursion (λ task. f task ≡ g task) tasks → each_task f tasks ≡ each_task g tasks
+pub each_task-same : (f g : NumberedTransfer → ℕ) (tasks : List NumberedTransfer) → AllByRecursion (λ task. f task ≡ g task) tasks → each_task f tasks ≡ each_task g tasks
 each_task-same f g [] same = refl
 each_task-same f g (task ∷ tasks) same = λ i. same.0 i + each_task-same f g tasks same.1 i
 
-each_task-none : (tasks : List Task) → each_task (λ task. 0) tasks ≡ 0
+each_task-none : (tasks : List NumberedTransfer) → each_task (λ task. 0) tasks ≡ 0
 each_task-none [] = refl
 each_task-none (task ∷ tasks) = let more = each_task-none tasks in omega arith
 
 -- an amount that is counted for one number
-each_task-at : (amount n : ℕ) (tasks : List Task) → AreDistinct tasks
+each_task-at : (amount n : ℕ) (tasks : List NumberedTransfer) → AreDistinct tasks
     → each_task (λ task. cond (n == task.number) amount 0) tasks ≡ cond (has_number tasks n) amount 0
 each_task-at amount n [] distinct = refl
 each_task-at amount n (task ∷ tasks) distinct =
@@ -61,14 +61,14 @@ each_task-at amount n (task ∷ tasks) distinct =
     omega arith)
 
 -- a number that none of them has
-has_number-none : (tasks : List Task) (n : ℕ) → has_number tasks n ≡ false → AllByRecursion (λ (task : Task). task.number ≢ n) tasks
+has_number-none : (tasks : List NumberedTransfer) (n : ℕ) → has_number tasks n ≡ false → AllByRecursion (λ (task : NumberedTransfer). task.number ≢ n) tasks
 has_number-none [] n off = tt
 has_number-none (task ∷ tasks) n off =
     let parts = neither (n == task.number) (has_number tasks n) off in
     ((λ same. true≢false (sym (eq-eqb n task.number (sym same)) ∙ parts.0)), has_number-none tasks n parts.1)
 
 -- each entry is of one of the transfers
-has_number-entry : (tasks : List Task) (entry : Placed) (h : List Placed) → HasNoOthers tasks (entry ∷ h) → has_number tasks (txn_of entry.rec) ≡ true
+has_number-entry : (tasks : List NumberedTransfer) (entry : Placed) (h : List Placed) → HasNoOthers tasks (entry ∷ h) → has_number tasks (txn_of entry.rec) ≡ true
 has_number-entry tasks entry h others = by_case (has_number tasks (txn_of entry.rec)) refl
   where
     by_case : (b : Bool) → has_number tasks (txn_of entry.rec) ≡ b → b ≡ true
@@ -86,7 +86,7 @@ weight_of-entry weight n entry h = by_case (txn_of entry.rec == n)
     by_case false = omega arith
 
 -- a sum over the history, transaction by transaction
-pub weight_of-tasks : (weight : Rec → ℕ) (tasks : List Task) (h : List Placed) → AreDistinct tasks → HasNoOthers tasks h
+pub weight_of-tasks : (weight : Rec → ℕ) (tasks : List NumberedTransfer) (h : List Placed) → AreDistinct tasks → HasNoOthers tasks h
     → weight_of weight (recs_of h) ≡ each_task (λ task. weight_of weight (own_records_of task.number h)) tasks
 weight_of-tasks weight tasks [] distinct others = sym (each_task-none tasks)
 weight_of-tasks weight tasks (entry ∷ h) distinct others =

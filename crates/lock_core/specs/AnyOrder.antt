@@ -7,7 +7,7 @@ use Rattle.log_record.specs.declared.limits.TheConstants.{MOST_BALANCE}
 use Rattle.lock_core.specs.Transactions.{own_records_of, all_without_prev, in_order}
 use Rattle.lock_core.specs.Sums.{BaseState}
 use Rattle.lock_core.specs.Alone.{PlainTransfer, IsAllowedTransfer, Done, outcome_records}
-use Rattle.lock_core.specs.Serial.{Task}
+use Rattle.lock_core.specs.Serial.{NumberedTransfer}
 
 -- what legs give to the account
 abbrev pub given : ℕ → List (ℕ × ℕ × ℕ) → ℕ
@@ -31,11 +31,11 @@ pub record HasRoomFor (base : BaseState) (jobs : List PlainTransfer) : Type 0 wh
   pub room : (account : ℕ) → account < base.accounts → base.balance account + given account (legs_of jobs) ≤ MOST_BALANCE
 
 -- the history has the records of a transfer that is done, `prev` left out, and no others of it
-abbrev pub IsDoneIn : List Placed → Task → Type 0
+abbrev pub IsDoneIn : List Placed → NumberedTransfer → Type 0
 IsDoneIn h task = in_order (all_without_prev (own_records_of task.number h)) [] ≡ outcome_records task.number task.job Done
 
 -- the records of these transfers one after another, where all are done
-abbrev pub done_records : List Task → List Rec
+abbrev pub done_records : List NumberedTransfer → List Rec
 done_records [] = []
 done_records (task ∷ tasks) = outcome_records task.number task.job Done ++ done_records tasks
 

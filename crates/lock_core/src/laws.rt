@@ -19,7 +19,7 @@ ghost use Rattle.lock_core.specs.Lawful.{IsLawful, base_with, base_state_of, ope
 ghost use Rattle.lock_core.specs.Faults.{IsUnlawfulAt};
 ghost use Rattle.lock_core.specs.Plain.{plain_last_commit, IsPlainlyPaired};
 ghost use Rattle.lock_core.specs.Alone.{PlainTransfer, Outcome, IsAllowedTransfer, outcome_alone, outcome_records, planned_records};
-ghost use Rattle.lock_core.specs.Serial.{Task, numbered, IsSerialAfter, IsPartlySerialAfter, IsCutShort};
+ghost use Rattle.lock_core.specs.Serial.{NumberedTransfer, numbered, IsSerialAfter, IsPartlySerialAfter, IsCutShort};
 ghost use Rattle.lock_core.specs.Transfers.{transfer_of, IsAllowedJob};
 ghost use Rattle.lock_core.specs.Soundness.{HasPredecessors, IsSoundAfter};
 ghost use Rattle.lock_core.specs.AnyOrder.{taken, given, legs_of, HasRoomFor, IsDoneIn, done_records, weight_of};
@@ -197,7 +197,7 @@ pub fn no_more_accounts()
 
 /// A law: a history that is partly serial for some transfers is so for more, of which it has no record.
 pub fn partly_serial_for_more()
-    ensures { (base : BaseState) (some all : List Task) (h : List Placed) → AllByRecursion (Contains all) some
+    ensures { (base : BaseState) (some all : List NumberedTransfer) (h : List Placed) → AllByRecursion (Contains all) some
         → AllByRecursion (λ task. Contains some task ⊎ AllByRecursion (λ other. other.number ≢ task.number) some) all
         → IsPartlySerialAfter base some h → IsPartlySerialAfter base all h }
 {}
@@ -217,11 +217,11 @@ pub fn records_to_come()
 /// A law: a front of a partly serial history is partly serial. A serial history is one in which each transfer has its end
 /// record.
 pub fn partly_serial_front()
-    ensures front { (base : BaseState) (tasks : List Task) (later h : List Placed) → IsPartlySerialAfter base tasks (later ++ h)
+    ensures front { (base : BaseState) (tasks : List NumberedTransfer) (later h : List Placed) → IsPartlySerialAfter base tasks (later ++ h)
         → IsPartlySerialAfter base tasks h }
-    ensures partly { (base : BaseState) (tasks : List Task) (h : List Placed) → IsSerialAfter base tasks h
+    ensures partly { (base : BaseState) (tasks : List NumberedTransfer) (h : List Placed) → IsSerialAfter base tasks h
         → IsPartlySerialAfter base tasks h }
-    ensures whole { (base : BaseState) (tasks : List Task) (h : List Placed)
+    ensures whole { (base : BaseState) (tasks : List NumberedTransfer) (h : List Placed)
         → AllByRecursion (λ task. has_end (own_records_of task.number h) ≡ true) tasks → IsPartlySerialAfter base tasks h
         → IsSerialAfter base tasks h }
 {}

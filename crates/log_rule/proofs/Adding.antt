@@ -14,9 +14,9 @@ use Rattle.log_rule.specs.Members.{LoadsForGroup, AwaitsPlace, HasTotalOfWorkers
 use Rattle.log_rule.specs.Slots.{pieces_at, phase_at, KnowsGroup}
 use Rattle.log_rule.specs.Views.{nobody, entries_in, books_in, claims_in}
 use Rattle.log_rule.specs.Words.{Words}
-use Rattle.log_rule.proofs.Carrying.{carrier-push}
-use Rattle.log_rule.proofs.Gathered.{adds-nobody}
-use Rattle.log_rule.proofs.Viewing.{each_push, pairs_push}
+use Rattle.log_rule.proofs.Carriers.{carrier-push}
+use Rattle.log_rule.proofs.GatheredSeats.{adds-nobody}
+use Rattle.log_rule.proofs.ViewChanges.{each_push, pairs_push}
 use Rattle.std.proofs.lemmas.List.{map-append}
 
 -- a seat that was not made counts as nobody's, before and after one like it is made

@@ -29,16 +29,16 @@ use Rattle.log_rule.proofs.Exposing.{exposed-looks, look-step, mark-tells}
 use Rattle.log_rule.proofs.LeaderPlacing.{place-exchange}
 use Rattle.log_rule.proofs.PieceFilling.{fill-step}
 use Rattle.log_rule.proofs.Lifting.{allowed-if_step, allowed-if_told}
-use Rattle.log_rule.proofs.Looking.{tail-looks, durable-looks, stop-looks, stop-keeps, tail-tells, exposed-tells, durable-tells}
+use Rattle.log_rule.proofs.Loads.{tail-looks, durable-looks, stop-looks, stop-keeps, tail-tells, exposed-tells, durable-tells}
 use Rattle.log_rule.proofs.Flushing.{send-step}
 use Rattle.log_rule.proofs.Reading.{read-step, read-tells}
 use Rattle.log_rule.proofs.GroupMarking.{mark-step}
 use Rattle.log_rule.proofs.Raising.{raise-step, raise-tells}
 use Rattle.log_rule.proofs.Stopping.{stop-stays, stop-tells, stop-step, crew-looks}
 use Rattle.log_rule.proofs.Reserving.{reserve-exchange}
-use Rattle.log_rule.proofs.Wording.{Fits, shared_tail, shared_exposed, shared_durable, shared_stop, shared_crew, in_ring, in_marks, of_account}
-use Rattle.log_rule.proofs.Viewing.{at_below}
-use Rattle.log_rule.proofs.Owing.{FitsWord, job-step, account-looks, account-tells, account-step, give-step}
+use Rattle.log_rule.proofs.WordPlaces.{Fits, shared_tail, shared_exposed, shared_durable, shared_stop, shared_crew, in_ring, in_marks, of_account}
+use Rattle.log_rule.proofs.ViewChanges.{at_below}
+use Rattle.log_rule.proofs.AccountSteps.{FitsWord, job-step, account-looks, account-tells, account-step, give-step}
 
 module _ (key : Start) (slots seat : ℕ) (me : Me (Unit {0}) View) where
   pub load_tail-allowed : Allows (Ruled key) slots seat me TAIL (λ n. n)

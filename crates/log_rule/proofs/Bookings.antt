@@ -7,9 +7,9 @@ use native.Mathlib.Decide.{ℕ_discrete}
 use lib.ListN.{get_elem?}
 use Rattle.atomic_table.proofs.Lists.{at_set, at_snoc}
 use Rattle.log_rule.specs.declared.view.TakenJob.{TakenJob}
-use Rattle.log_rule.specs.declared.view.Held.{Held}
+use Rattle.log_rule.specs.declared.view.Taken.{Taken}
 use Rattle.log_rule.specs.declared.view.Books.{Books}
-use Rattle.log_rule.specs.Books.{times_held, times_taken, balance_taken, mark_taken, without}
+use Rattle.log_rule.specs.Books.{times_held, times_taken, balance_taken, last_commit_taken, without}
 use Rattle.log_rule.specs.Accounts.{Everywhere, summed, HasDistinctJobs}
 
 module _ {A : Type 0} where
@@ -71,7 +71,7 @@ pub none-if : (a b : ℕ) → a ≢ b → cond {A = ℕ} (a == b) 1 0 ≡ 0
 none-if a b differ = ap (λ c. cond {A = ℕ} c 1 0) (ne_eqb a b differ)
 
 -- each held account, which is then one that is held
-pub all-held : (P Q : Held → Type 0) (list : List Held) → AllByRecursion P list → ((held : Held) → 1 ≤ times_held held.account list → P held → Q held)
+pub all-held : (P Q : Taken → Type 0) (list : List Taken) → AllByRecursion P list → ((held : Taken) → 1 ≤ times_held held.account list → P held → Q held)
     → AllByRecursion Q list
 all-held P Q [] all f = tt
 all-held P Q (x ∷ xs) all f = (
@@ -88,14 +88,14 @@ all-taken P Q (x ∷ xs) all f = (
 )
 
 -- a held account, its values as taken, and what is known of it
-pub record Found (P : Held → Type 0) (list : List Held) (account : ℕ) : Type 0 where
-  pub held : Held
+pub record Found (P : Taken → Type 0) (list : List Taken) (account : ℕ) : Type 0 where
+  pub held : Taken
   pub is : held.account ≡ account
   pub known : P held
   pub balance : balance_taken list account ≡ held.balance
-  pub mark : mark_taken list account ≡ held.mark
+  pub mark : last_commit_taken list account ≡ held.mark
 
-pub found : (P : Held → Type 0) (account : ℕ) (list : List Held) → 1 ≤ times_held account list → AllByRecursion P list → Found P list account
+pub found : (P : Taken → Type 0) (account : ℕ) (list : List Taken) → 1 ≤ times_held account list → AllByRecursion P list → Found P list account
 found P account [] has all = absurd (omega arith)
 found P account (x ∷ xs) has all = dite (ℕ_discrete x.account account)
     (λ same. let here = eq-eqb x.account account same in record {
@@ -103,7 +103,7 @@ found P account (x ∷ xs) has all = dite (ℕ_discrete x.account account)
       is = same;
       known = all.0;
       balance = ap (λ b. cond b x.balance (balance_taken xs account)) here;
-      mark = ap (λ b. cond b x.mark (mark_taken xs account)) here;
+      mark = ap (λ b. cond b x.mark (last_commit_taken xs account)) here;
     })
     (λ differ. let other = ne_eqb x.account account differ in let none = none-if x.account account differ in
     let more = found P account xs (omega arith) all.1 in record {
@@ -111,21 +111,21 @@ found P account (x ∷ xs) has all = dite (ℕ_discrete x.account account)
       is = more.is;
       known = more.known;
       balance = ap (λ b. cond b x.balance (balance_taken xs account)) other ∙ more.balance;
-      mark = ap (λ b. cond b x.mark (mark_taken xs account)) other ∙ more.mark;
+      mark = ap (λ b. cond b x.mark (last_commit_taken xs account)) other ∙ more.mark;
     })
 
-pub balance_taken-none : (account : ℕ) (list : List Held) → times_held account list ≡ 0 → balance_taken list account ≡ 0
+pub balance_taken-none : (account : ℕ) (list : List Taken) → times_held account list ≡ 0 → balance_taken list account ≡ 0
 balance_taken-none account [] none = refl
 balance_taken-none account (x ∷ xs) none = dite (ℕ_discrete x.account account)
     (λ same. let one = one-if x.account account same in absurd (omega arith))
     (λ differ. ap (λ b. cond b x.balance (balance_taken xs account)) (ne_eqb x.account account differ) ∙ balance_taken-none account xs (omega arith))
 
 -- a mark as taken, of whatever account, is one of them or 0
-pub mark_taken-all : (P : ℕ → Type 0) (account : ℕ) (list : List Held) → P 0 → AllByRecursion (λ (held : Held). P held.mark) list → P (mark_taken list account)
-mark_taken-all P account [] none all = none
-mark_taken-all P account (x ∷ xs) none all = by_test (x.account == account) (mark_taken-all P account xs none all.1)
+pub last_commit_taken-all : (P : ℕ → Type 0) (account : ℕ) (list : List Taken) → P 0 → AllByRecursion (λ (held : Taken). P held.mark) list → P (last_commit_taken list account)
+last_commit_taken-all P account [] none all = none
+last_commit_taken-all P account (x ∷ xs) none all = by_test (x.account == account) (last_commit_taken-all P account xs none all.1)
   where
-    by_test : (b : Bool) → P (mark_taken xs account) → P (cond b x.mark (mark_taken xs account))
+    by_test : (b : Bool) → P (last_commit_taken xs account) → P (cond b x.mark (last_commit_taken xs account))
     by_test true more = all.0
     by_test false more = more
 
@@ -137,7 +137,7 @@ one-taker all i j x y n m distinct here there differ mine theirs same =
     let again : 1 ≤ times_taken n y.jobs = subst (λ z. 1 ≤ times_taken z y.jobs) (sym same) theirs in omega arith
 
 -- a list of held accounts without one of them
-pub times_held-without : (account : ℕ) (list : List Held) → 1 ≤ times_held account list → times_held account (without account list) + 1 ≡ times_held account list
+pub times_held-without : (account : ℕ) (list : List Taken) → 1 ≤ times_held account list → times_held account (without account list) + 1 ≡ times_held account list
 times_held-without account [] has = absurd (omega arith)
 times_held-without account (x ∷ xs) has = dite (ℕ_discrete x.account account)
     (λ same. let one = one-if x.account account same in
@@ -148,7 +148,7 @@ times_held-without account (x ∷ xs) has = dite (ℕ_discrete x.account account
     ap (λ b. times_held account (cond b xs (x ∷ without account xs))) (ne_eqb x.account account differ) in
     let more = times_held-without account xs (omega arith) in omega arith)
 
-pub times_held-without_other : (account other : ℕ) (list : List Held) → other ≢ account → times_held other (without account list) ≡ times_held other list
+pub times_held-without_other : (account other : ℕ) (list : List Taken) → other ≢ account → times_held other (without account list) ≡ times_held other list
 times_held-without_other account other [] differ = refl
 times_held-without_other account other (x ∷ xs) differ = dite (ℕ_discrete x.account account)
     (λ same. let none = none-if x.account other (λ e. differ (sym e ∙ same)) in
@@ -157,7 +157,7 @@ times_held-without_other account other (x ∷ xs) differ = dite (ℕ_discrete x.
     (λ apart. ap (λ b. times_held other (cond b xs (x ∷ without account xs))) (ne_eqb x.account account apart)
     ∙ ap (λ n. cond (x.account == other) 1 0 + n) (times_held-without_other account other xs differ))
 
-pub balance_taken-without_other : (account other : ℕ) (list : List Held) → other ≢ account → balance_taken (without account list) other ≡ balance_taken list other
+pub balance_taken-without_other : (account other : ℕ) (list : List Taken) → other ≢ account → balance_taken (without account list) other ≡ balance_taken list other
 balance_taken-without_other account other [] differ = refl
 balance_taken-without_other account other (x ∷ xs) differ = dite (ℕ_discrete x.account account)
     (λ same. ap (λ b. balance_taken (cond b xs (x ∷ without account xs)) other) (eq-eqb x.account account same)
@@ -165,22 +165,22 @@ balance_taken-without_other account other (x ∷ xs) differ = dite (ℕ_discrete
     (λ apart. ap (λ b. balance_taken (cond b xs (x ∷ without account xs)) other) (ne_eqb x.account account apart)
     ∙ ap (λ n. cond (x.account == other) x.balance n) (balance_taken-without_other account other xs differ))
 
-pub mark_taken-without_other : (account other : ℕ) (list : List Held) → other ≢ account → mark_taken (without account list) other ≡ mark_taken list other
-mark_taken-without_other account other [] differ = refl
-mark_taken-without_other account other (x ∷ xs) differ = dite (ℕ_discrete x.account account)
-    (λ same. ap (λ b. mark_taken (cond b xs (x ∷ without account xs)) other) (eq-eqb x.account account same)
-    ∙ sym (ap (λ b. cond b x.mark (mark_taken xs other)) (ne_eqb x.account other (λ e. differ (sym e ∙ same)))))
-    (λ apart. ap (λ b. mark_taken (cond b xs (x ∷ without account xs)) other) (ne_eqb x.account account apart)
-    ∙ ap (λ n. cond (x.account == other) x.mark n) (mark_taken-without_other account other xs differ))
+pub last_commit_taken-without_other : (account other : ℕ) (list : List Taken) → other ≢ account → last_commit_taken (without account list) other ≡ last_commit_taken list other
+last_commit_taken-without_other account other [] differ = refl
+last_commit_taken-without_other account other (x ∷ xs) differ = dite (ℕ_discrete x.account account)
+    (λ same. ap (λ b. last_commit_taken (cond b xs (x ∷ without account xs)) other) (eq-eqb x.account account same)
+    ∙ sym (ap (λ b. cond b x.mark (last_commit_taken xs other)) (ne_eqb x.account other (λ e. differ (sym e ∙ same)))))
+    (λ apart. ap (λ b. last_commit_taken (cond b xs (x ∷ without account xs)) other) (ne_eqb x.account account apart)
+    ∙ ap (λ n. cond (x.account == other) x.mark n) (last_commit_taken-without_other account other xs differ))
 
-pub length-without : (account : ℕ) (list : List Held) → 1 ≤ times_held account list → length (without account list) + 1 ≡ length list
+pub length-without : (account : ℕ) (list : List Taken) → 1 ≤ times_held account list → length (without account list) + 1 ≡ length list
 length-without account [] has = absurd (omega arith)
 length-without account (x ∷ xs) has = dite (ℕ_discrete x.account account)
     (λ same. let gone = ap (λ b. length (cond b xs (x ∷ without account xs))) (eq-eqb x.account account same) in omega arith)
     (λ apart. let none = none-if x.account account apart in let more = length-without account xs (omega arith) in
     let kept = ap (λ b. length (cond b xs (x ∷ without account xs))) (ne_eqb x.account account apart) in omega arith)
 
-pub all-without : (P : Held → Type 0) (account : ℕ) (list : List Held) → AllByRecursion P list → AllByRecursion P (without account list)
+pub all-without : (P : Taken → Type 0) (account : ℕ) (list : List Taken) → AllByRecursion P list → AllByRecursion P (without account list)
 all-without P account [] all = tt
 all-without P account (x ∷ xs) all = by_test (x.account == account) (all-without P account xs all.1)
   where

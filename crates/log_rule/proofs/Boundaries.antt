@@ -3,9 +3,9 @@ use Rattle.std.proofs.Common.{◌≡◌, ◌⊎◌, inl, inr, ⊎_elim, ℕ, ◌
 use Rattle.std.specs.List.{AllByRecursion}
 use Rattle.lsn_space.specs.Tiling.{IsTilingBoundary}
 use Rattle.log_rule.specs.declared.view.Entry.{Entry}
-use Rattle.log_rule.specs.Log.{Part, Range, Tiles, Laid, EndsWithPart, IsRangeBoundary, IsEntryBoundary, parts_of}
+use Rattle.log_rule.specs.Log.{Part, LogRange, Tiles, Laid, EndsWithPart, IsRangeBoundary, IsEntryBoundary, parts_of}
 
-abbrev pub range_size : Range → ℕ
+abbrev pub range_size : LogRange → ℕ
 range_size r = r.size
 
 abbrev pub part_size : Part → ℕ
@@ -34,12 +34,12 @@ module _ {A : Type 0} (size : A → ℕ) where
       ⊎_elim (λ here. inl here) (λ later. inr (boundary-mid (start + size l) at ls rs x x' same later)) b
 
 -- where a tiling ends, a boundary of what follows is one of the whole
-pub boundary-behind : (most start from at : ℕ) (xs ys : List Range) → Tiles most start xs from → IsRangeBoundary from ys at
+pub boundary-behind : (most start from at : ℕ) (xs ys : List LogRange) → Tiles most start xs from → IsRangeBoundary from ys at
     → IsRangeBoundary start (xs ++ ys) at
 boundary-behind most start from at [] ys t b = subst (λ z. IsRangeBoundary z ys at) (sym t) b
 boundary-behind most start from at (x ∷ xs) ys t b = inr (boundary-behind most (start + x.size) from at xs ys t.3 b)
 
-pub boundary-end : (most start to : ℕ) (ranges : List Range) → Tiles most start ranges to → IsRangeBoundary start ranges to
+pub boundary-end : (most start to : ℕ) (ranges : List LogRange) → Tiles most start ranges to → IsRangeBoundary start ranges to
 boundary-end most start to [] t = sym t
 boundary-end most start to (r ∷ rs) t = inr (boundary-end most (start + r.size) to rs t.3)
 
@@ -48,7 +48,7 @@ laid-end start to [] l = sym l
 laid-end start to (p ∷ ps) l = inr (laid-end (start + p.entry.size) to ps l.2)
 
 -- a boundary of ranges that end with parts is one of the parts
-pub boundary-aligned : (most start from to at : ℕ) (parts : List Part) (ranges : List Range) → Tiles most from ranges to
+pub boundary-aligned : (most start from to at : ℕ) (parts : List Part) (ranges : List LogRange) → Tiles most from ranges to
     → AllByRecursion (EndsWithPart start parts) ranges → IsTilingBoundary part_size start parts from → IsRangeBoundary from ranges at
     → IsTilingBoundary part_size start parts at
 boundary-aligned most start from to at parts [] t ends here b = subst (IsTilingBoundary part_size start parts) (sym b) here
@@ -64,7 +64,7 @@ boundary-entries seat start at [] flag b = b
 boundary-entries seat start at (e ∷ es) flag b = ⊎_elim (λ here. inl here) (λ later. inr (boundary-entries seat (start + e.size) at es flag later)) b
 
 -- a boundary not before a tiling's end is one of what follows, and one not behind it is one of the tiling
-pub boundary-later : (most start from at : ℕ) (xs ys : List Range) → Tiles most start xs from → IsRangeBoundary start (xs ++ ys) at → from ≤ at
+pub boundary-later : (most start from at : ℕ) (xs ys : List LogRange) → Tiles most start xs from → IsRangeBoundary start (xs ++ ys) at → from ≤ at
     → IsRangeBoundary from ys at
 boundary-later most start from at [] ys t b le = subst (λ n. IsRangeBoundary n ys at) t b
 boundary-later most start from at (x ∷ xs) ys t b le = ⊎_elim
@@ -72,21 +72,21 @@ boundary-later most start from at (x ∷ xs) ys t b le = ⊎_elim
     (omega (arith, here, le, t.1, boundary-least range_size (start + x.size) from xs (boundary-end most (start + x.size) from xs t.3))))
     (λ later. boundary-later most (start + x.size) from at xs ys t.3 later le) b
 
-pub boundary-sooner : (most from to at : ℕ) (xs ys : List Range) → Tiles most from xs to → IsRangeBoundary from (xs ++ ys) at → at ≤ to
+pub boundary-sooner : (most from to at : ℕ) (xs ys : List LogRange) → Tiles most from xs to → IsRangeBoundary from (xs ++ ys) at → at ≤ to
     → IsRangeBoundary from xs at
 boundary-sooner most from to at [] ys t b le = omega (arith, le, t, boundary-least range_size from at ys b)
 boundary-sooner most from to at (x ∷ xs) ys t b le = ⊎_elim (λ here. inl here)
     (λ later. inr (boundary-sooner most (from + x.size) to at xs ys t.3 later le)) b
 
 -- a tiling in two, at a boundary
-pub record Cut (most from at to : ℕ) (ranges : List Range) : Type 0 where
-  pub before : List Range
-  pub behind : List Range
+pub record Cut (most from at to : ℕ) (ranges : List LogRange) : Type 0 where
+  pub before : List LogRange
+  pub behind : List LogRange
   pub split : ranges ≡ before ++ behind
   pub first : Tiles most from before at
   pub second : Tiles most at behind to
 
-pub cut-at : (most from at to : ℕ) (ranges : List Range) → Tiles most from ranges to → IsRangeBoundary from ranges at → Cut most from at to ranges
+pub cut-at : (most from at to : ℕ) (ranges : List LogRange) → Tiles most from ranges to → IsRangeBoundary from ranges at → Cut most from at to ranges
 cut-at most from at to [] t b = record { before = []; behind = []; split = refl; first = sym b; second = b ∙ t }
 cut-at most from at to (r ∷ rs) t b = ⊎_elim (λ (here : at ≡ from). none here)
     (λ later. more (cut-at most (from + r.size) at to rs t.3 later)) b

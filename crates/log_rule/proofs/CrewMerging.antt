@@ -13,7 +13,7 @@ use Rattle.log_rule.specs.Roles.{has_ended, is_active, is_worker, is_spent}
 use Rattle.log_rule.specs.Views.{nobody}
 use Rattle.log_rule.specs.CrewViews.{takes_in}
 use Rattle.log_rule.proofs.Roles.{unbound}
-use Rattle.log_rule.proofs.Viewing.{each_set, pairs_move, count-set}
+use Rattle.log_rule.proofs.ViewChanges.{each_set, pairs_move, count-set}
 
 or-false : (a b : Bool) → a ≡ false → b ≡ false → (a || b) ≡ false
 or-false a b p q = ap (λ c. c || b) p ∙ q
@@ -57,8 +57,8 @@ module _ (crew : ℕ) (views : List View) (me other : ℕ) (v o : View) (roles :
   kept : get_elem? (without views other) me ≡ some v
   kept = at-without views me other v at apart
 
-  boss : {A : Type 0} → is_worker v.standing.role ≡ true → A
-  boss e = absurd (true≢false (sym e ∙ ap is_worker may.flusher))
+  no_worker : {A : Type 0} → is_worker v.standing.role ≡ true → A
+  no_worker e = absurd (true≢false (sym e ∙ ap is_worker may.flusher))
 
   pairs-without : Rattle.log_rule.specs.Sound.EachPair (λ i y j z. HasSoundRoles i y.standing j z.standing) (without views other)
   pairs-without = pairs_move (λ i y j z. HasSoundRoles i y.standing j z.standing) views other o nobody there roles.pairs
@@ -136,24 +136,24 @@ module _ (crew : ℕ) (views : List View) (me other : ℕ) (v o : View) (roles :
     pairs = pairs_move (λ i y j z. HasSoundRoles i y.standing j z.standing) (without views other) me v new kept pairs-without
         record {
           apart = λ _ _ _. refl;
-          made = λ _ w. boss w;
+          made = λ _ w. no_worker w;
           enrolled = λ _ q knows. known-made q knows;
           merged = λ _ q knows. merged-made q knows;
-          fresh = λ f. boss (ap is_worker f);
-          unmerged = λ w. boss w;
+          fresh = λ f. no_worker (ap is_worker f);
+          unmerged = λ w. no_worker w;
         }
         (λ j z differ here. let to = pairs-without me v kept j z here in let by = pairs-without j z here me v kept in (
           record {
-            apart = λ w. boss w;
+            apart = λ w. no_worker w;
             made = to.made;
             enrolled = to.enrolled;
             merged = to.merged;
-            fresh = λ f. boss (ap is_worker f);
-            unmerged = λ w. boss w;
+            fresh = λ f. no_worker (ap is_worker f);
+            unmerged = λ w. no_worker w;
           },
           record {
-            apart = λ _ w. boss w;
-            made = λ _ w. boss w;
+            apart = λ _ w. no_worker w;
+            made = λ _ w. no_worker w;
             enrolled = λ f _ _. not-flusher j z differ here f;
             merged = λ f _ _. not-flusher j z differ here f;
             fresh = λ f. fresh-lacks j z here f;

@@ -21,11 +21,11 @@ use Rattle.log_rule.specs.Roles.{is_active, is_worker, is_working, is_spent, may
 use Rattle.log_rule.specs.Views.{counted}
 use Rattle.log_rule.specs.CrewViews.{enrolled, retired}
 use Rattle.log_rule.specs.Words.{Words}
-use Rattle.log_rule.proofs.Keeping.{accounts-stay}
+use Rattle.log_rule.proofs.AccountsKept.{accounts-stay}
 use Rattle.log_rule.proofs.Lists.{all-among}
 use Rattle.log_rule.proofs.Members.{KeepsSeen, steps-on, loads-stay, heard-moves}
 use Rattle.log_rule.proofs.Roles.{quiet-moves, restands}
-use Rattle.log_rule.proofs.Viewing.{each_set, pairs_move, count-set}
+use Rattle.log_rule.proofs.ViewChanges.{each_set, pairs_move, count-set}
 
 -- the numbers of the workers among these
 abbrev worker_numbers : List View → List ℕ

@@ -16,7 +16,7 @@ use Rattle.lock_core.specs.Transactions.{recs_of, own_records_of, changes_in, ha
 use Rattle.lock_core.specs.Sums.{BaseState, as_opening, moved, total, AreInRange, balance_of, last_commit_of}
 use Rattle.lock_core.specs.Tests.{IsCurrent, IsGenesis}
 use Rattle.lock_core.specs.Alone.{with_note, IsAllowedLeg}
-use Rattle.lock_core.specs.Serial.{Task, IsRunWhole}
+use Rattle.lock_core.specs.Serial.{NumberedTransfer, IsRunWhole}
 use Rattle.lock_core.specs.Lawful.{tests, Passes}
 use Rattle.lock_core.proofs.GoingOn.{passes-behind}
 use Rattle.lock_core.proofs.Meeting.{MeetsTests}
@@ -24,19 +24,19 @@ use Rattle.lock_core.proofs.OneMore.{of_transaction-same, has_commit-unended, to
 use Rattle.lock_core.proofs.Running.{AgreesOn, planned_from-agrees, planned_records-without_prev, planned_records-outcome, all_without_prev-in_order, no_commit}
 use Rattle.lock_core.proofs.SerialFronts.{IsRunPartly}
 use Rattle.lock_core.proofs.SettlingLemmas.{moved-untouched}
-use Rattle.log_rule.specs.declared.view.Held.{Held}
+use Rattle.log_rule.specs.declared.view.Taken.{Taken}
 use Rattle.log_rule.specs.declared.view.Books.{Books}
-use Rattle.log_rule.specs.Books.{task_of, times_held, balance_taken, mark_taken, plan_of, IsNext, HoldsLeg, HoldsAccounts, IsNote, MayEnter, placing}
+use Rattle.log_rule.specs.Books.{task_of, times_held, balance_taken, last_commit_taken, plan_of, IsNext, HoldsLeg, HoldsAccounts, IsNote, MayEnter, placing}
 use Rattle.lock_core.specs.Transfers.{note_of}
 use Rattle.log_rule.specs.Accounts.{IsAsTaken, HasOneHolder, HasDistinctJobs, moved_if_committed, Follows, AccountsFollowList, KeepsAccounts, MayBeTaken}
-use Rattle.log_rule.proofs.Bookings.{everywhere-set, summed-set, found, balance_taken-none, mark_taken-all}
+use Rattle.log_rule.proofs.Bookings.{everywhere-set, summed-set, found, balance_taken-none, last_commit_taken-all}
 use Rattle.log_rule.proofs.Growing.{IsSameAt, grows}
 use Rattle.log_rule.proofs.Lists.{all-weaker, all-both}
 use Rattle.log_rule.proofs.Taking.{LastIsOne, distinct-before}
 use Rattle.lsn_space.specs.declared.lsn.TheConstants.{LAST}
-use Rattle.slot_word.specs.AccountWord.{mark_in}
+use Rattle.slot_word.specs.AccountWord.{last_commit_in}
 use Rattle.log_rule.proofs.PlanFronts.{IsPlanned, IsSmallLeg, next-planned}
-use Rattle.log_rule.proofs.Planning.{Walk, walk-at, walk-plan, walk-marked, untouched, IsHeldLeg, IsMarked, IsFront, Step}
+use Rattle.log_rule.proofs.Planning.{Walk, walk-at, walk-plan, walk-last_commits, untouched, IsHeldLeg, NamesLastCommit, IsFront, Step}
 
 module _ (base : BaseState) (words : ℕ → ℕ) (h : List Placed) (all : List Books) (me : ℕ) (mine : Books) (distinct : HasDistinctJobs all)
     (holder : HasOneHolder base.accounts words all) (s : AccountsFollowList base words h all) (at : get_elem? all me ≡ some mine)
@@ -45,7 +45,7 @@ module _ (base : BaseState) (words : ℕ → ℕ) (h : List Placed) (all : List 
   abbrev Mine : ℕ → Type 0
   Mine account = 1 ≤ times_held account mine.held
 
-  abbrev task : Task
+  abbrev task : NumberedTransfer
   task = task_of mine.last
 
   abbrev before : List Rec
@@ -94,8 +94,8 @@ module _ (base : BaseState) (words : ℕ → ℕ) (h : List Placed) (all : List 
         subst (λ a. f.held.balance + moved_if_committed gain a mine.placed + total loss a h ≡ base.balance a + total gain a h + moved_if_committed loss a mine.placed) f.is old.balance in
         let up = nothing gain account in let down = nothing loss account in let balance = f.balance in omega arith
 
-    mark-taken : (account : ℕ) → Mine account → mark_taken mine.held account ≡ last_commit_of base h account
-    mark-taken account has =
+    last_commit-taken : (account : ℕ) → Mine account → last_commit_taken mine.held account ≡ last_commit_of base h account
+    last_commit-taken account has =
         let f = found (Follows base h mine.placed) account mine.held has (s.held me mine at) in
         let old : Follows base h mine.placed f.held = f.known in
         f.mark ∙ (sym (ap (λ b. cond (b && touches f.held.account (changes_in before)) (end_from 0 mine.placed) f.held.mark) uncommitted)
@@ -168,18 +168,18 @@ module _ (base : BaseState) (words : ℕ → ℕ) (h : List Placed) (all : List 
   module _ (few : length mine.last.job.legs ≤ 8) (some_amounts : AllByRecursion (λ (leg : ℕ × ℕ × ℕ). (leg.0 ≢ leg.1) × (1 ≤ leg.2)) mine.last.job.legs)
       (holds : HoldsAccounts mine) (unended : has_end before ≡ false) (rec : Rec) (rest : List Rec) (next : in_order before (rec ∷ rest) ≡ plan_of mine) where
     abbrev T : List Rec → Rec → List Rec → Type 0
-    T = Step task Mine (mark_taken mine.held) (balance_taken mine.held)
+    T = Step task Mine (last_commit_taken mine.held) (balance_taken mine.held)
 
     walk : Walk T [] (in_order before (rec ∷ rest))
-    walk = subst (Walk T []) (sym next) (walk-plan task Mine (mark_taken mine.held) (balance_taken mine.held) few
+    walk = subst (Walk T []) (sym next) (walk-plan task Mine (last_commit_taken mine.held) (balance_taken mine.held) few
         (all-both (λ (leg : ℕ × ℕ × ℕ). (leg.0 ≢ leg.1) × (1 ≤ leg.2)) (HoldsLeg mine.held) (IsHeldLeg Mine) mine.last.job.legs
         (λ leg a b. (a.0, a.1, b.0, b.1)) some_amounts holds) (in-range unended))
 
     step : T before rec rest
     step = (walk-at T before (rec ∷ rest) walk).0
 
-    marked : AllByRecursion (IsMarked Mine (mark_taken mine.held)) (changes_in before)
-    marked = walk-marked task Mine (mark_taken mine.held) (balance_taken mine.held) before (rec ∷ rest) walk
+    marked : AllByRecursion (NamesLastCommit Mine (last_commit_taken mine.held)) (changes_in before)
+    marked = walk-last_commits task Mine (last_commit_taken mine.held) (balance_taken mine.held) before (rec ∷ rest) walk
 
     -- an end record: all of the job, run alone on the balances before it
     run-whole : (entry : Placed) → entry.rec ≡ rec → txn_of rec ≡ mine.last.number → ends rec ≡ true → rest ≡ [] → IsRunWhole base (entry ∷ h) task
@@ -194,7 +194,7 @@ module _ (base : BaseState) (words : ℕ → ℕ) (h : List Placed) (all : List 
       records = ap (λ l. in_order (all_without_prev l) []) (λ i. is i ∷ tied i)
           ∙ (sym (all_without_prev-in_order (rec ∷ before) [])
           ∙ (ap all_without_prev (ap (λ l. in_order before (rec ∷ l)) (sym none) ∙ next)
-          ∙ (planned_records-without_prev mine.last.number task.job (mark_taken mine.held) (balance_taken mine.held)
+          ∙ (planned_records-without_prev mine.last.number task.job (last_commit_taken mine.held) (balance_taken mine.held)
           ∙ (ap (with_note mine.last.number task.job.note) (planned_from-agrees mine.last.number no_commit (balance_taken mine.held) (balance_of base h) 0 mine.last.job.legs
           (all-weaker (HoldsLeg mine.held) (AgreesOn (balance_taken mine.held) (balance_of base h)) mine.last.job.legs (λ leg has. (agrees leg.0 has.0, agrees leg.1 has.1)) holds))
           ∙ planned_records-outcome mine.last.number task.job (balance_of base h)))));
@@ -209,10 +209,10 @@ module _ (base : BaseState) (words : ℕ → ℕ) (h : List Placed) (all : List 
     abbrev commit : Placed
     commit = record { end = end; rec = Commit txn legs }
 
-    is-commit : Step task Mine (mark_taken mine.held) (balance_taken mine.held) before (Commit txn legs) rest
+    is-commit : Step task Mine (last_commit_taken mine.held) (balance_taken mine.held) before (Commit txn legs) rest
     is-commit = step few some_amounts holds unended (Commit txn legs) rest next
 
-    all-marked : AllByRecursion (IsMarked Mine (mark_taken mine.held)) (changes_in before)
+    all-marked : AllByRecursion (NamesLastCommit Mine (last_commit_taken mine.held)) (changes_in before)
     all-marked = marked few some_amounts holds unended (Commit txn legs) rest next
 
     sums : (side : ℤ → ℕ) (account : ℕ) → total side account (commit ∷ h) ≡ total side account h + moved side account (changes_in before)
@@ -226,7 +226,7 @@ module _ (base : BaseState) (words : ℕ → ℕ) (h : List Placed) (all : List 
 
     same-commit : (account : ℕ) → (Mine account → ⊥) → IsSameAt base h commit account
     same-commit account none =
-        let off = untouched Mine (mark_taken mine.held) (changes_in before) account none all-marked in
+        let off = untouched Mine (last_commit_taken mine.held) (changes_in before) account none all-marked in
         let added = sums gain account in let taken = sums loss account in
         let up = moved-untouched gain account (changes_in before) off in let down = moved-untouched loss account (changes_in before) off in
         record { added = omega arith; taken = omega arith; mark = last-is account ∙ ap (λ b. cond b end (last_commit_of base h account)) off }
@@ -257,8 +257,8 @@ module _ (base : BaseState) (words : ℕ → ℕ) (h : List Placed) (all : List 
           pair = tt;
           prev = tt;
           stale = subst (λ records. AllByRecursion (IsCurrent base h) (changes_in records)) (sym list)
-              (all-weaker (IsMarked Mine (mark_taken mine.held)) (IsCurrent base h) (changes_in before)
-              (λ change is. is.0 ∙ mark-taken unended change.account is.1) all-marked);
+              (all-weaker (NamesLastCommit Mine (last_commit_taken mine.held)) (IsCurrent base h) (changes_in before)
+              (λ change is. is.0 ∙ last_commit-taken unended change.account is.1) all-marked);
           balance = λ _. range-commit;
         }) range-commit (λ account none. same-commit account (λ has. absurd (omega (arith, none)))) follows-commit
         (inl (run-whole few some_amounts holds unended (Commit txn legs) rest next commit refl is-commit.own refl is-commit.last))
@@ -279,7 +279,7 @@ module _ (base : BaseState) (words : ℕ → ℕ) (h : List Placed) (all : List 
         ended = ap has_end list ∙ unended;
         legs = let few_before = subst (λ records. length (changes_in records) ≤ 15) (sym list) is.legs in omega (arith, few_before);
         pair = subst (λ records. Rattle.lock_core.specs.Tests.IsPaired (changes_in records) (record { account = account; delta = delta; prev = prev })) (sym list) is.paired;
-        prev = is.marked.0 ∙ mark-taken unended account is.marked.1;
+        prev = is.marked.0 ∙ last_commit-taken unended account is.marked.1;
         stale = tt;
         balance = λ on. absurd (true≢false (sym on));
       } (λ g. g) (cut-more entry is.own is.cut)
@@ -316,12 +316,12 @@ module _ (base : BaseState) (words : ℕ → ℕ) (h : List Placed) (all : List 
 -- what a seat's last job is known to be
 module _ (base : BaseState) (words : ℕ → ℕ) (all : List Books) (me : ℕ) (mine : Books) (holder : HasOneHolder base.accounts words all)
     (at : get_elem? all me ≡ some mine) where
-  marks-fit : (account : ℕ) → mark_taken mine.held account ≤ LAST
-  marks-fit account = mark_taken-all (λ m. m ≤ LAST) account mine.held (omega arith)
-      (all-weaker (IsAsTaken base.accounts words) (λ (held : Held). held.mark ≤ LAST) mine.held
+  marks-fit : (account : ℕ) → last_commit_taken mine.held account ≤ LAST
+  marks-fit account = last_commit_taken-all (λ m. m ≤ LAST) account mine.held (omega arith)
+      (all-weaker (IsAsTaken base.accounts words) (λ (held : Taken). held.mark ≤ LAST) mine.held
       (λ held t. subst (λ m. m ≤ LAST) t.mark (mark-fits (words held.account))) (holder.taken me mine at))
     where
-      mark-fits : (word : ℕ) → mark_in word ≤ LAST
+      mark-fits : (word : ℕ) → last_commit_in word ≤ LAST
       mark-fits word = grind (arith)
 
   module _ (some_job : 1 ≤ mine.last.number) where
@@ -336,7 +336,7 @@ module _ (base : BaseState) (words : ℕ → ℕ) (all : List Books) (me : ℕ) 
         (λ leg a. (a.two, a.some)) legs-allowed
 
     planned : (rec : Rec) (next : IsNext rec mine) → IsPlanned (task_of mine.last) (recs_of mine.placed) rec next.rest
-    planned rec next = next-planned (task_of mine.last) (mark_taken mine.held) allowed.number marks-fit (balance_taken mine.held)
+    planned rec next = next-planned (task_of mine.last) (last_commit_taken mine.held) allowed.number marks-fit (balance_taken mine.held)
         allowed.job.legs.some allowed.job.legs.few
         (all-weaker (IsAllowedLeg base.accounts) IsSmallLeg mine.last.job.legs (λ leg a. let few = holder.few in let payer = a.payer in let payee = a.payee in
         record { payer = omega arith; payee = omega arith; least = a.some; most = a.most }) legs-allowed)

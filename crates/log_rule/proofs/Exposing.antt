@@ -34,16 +34,16 @@ use Rattle.log_rule.specs.Roles.{is_active}
 use Rattle.log_rule.specs.Sound.{HasSeenBoundaries, HasContiguousReservations, StoresStop, HasReadStop, IsSound}
 use Rattle.log_rule.specs.Views.{after_look, seen_exposed, saw_exposed}
 use Rattle.log_rule.specs.Words.{Words}
-use Rattle.log_rule.proofs.Keeping.{accounts-stay}
+use Rattle.log_rule.proofs.AccountsKept.{accounts-stay}
 use Rattle.log_rule.proofs.Lifting.{Tells}
-use Rattle.log_rule.proofs.Looking.{looks, exposed-boundary}
+use Rattle.log_rule.proofs.Loads.{looks, exposed-boundary}
 use Rattle.log_rule.proofs.MarkLooks.{marked-ready, look-tells, not_ready-at_exposed}
 use Rattle.log_rule.proofs.Members.{KeepsSeen, steps-on, exposed-on, keeps-view}
 use Rattle.log_rule.proofs.Reading.{put-same}
 use Rattle.log_rule.proofs.Roles.{HasSame, crew-same, quiet-moves, recalls-sound}
-use Rattle.log_rule.proofs.Showing.{hands_of-set, task_of-hands_of}
+use Rattle.log_rule.proofs.MachineShown.{hands_of-set, task_of-hands_of}
 use Rattle.log_rule.proofs.TrueMarks.{first-ends}
-use Rattle.log_rule.proofs.Viewing.{each_set}
+use Rattle.log_rule.proofs.ViewChanges.{each_set}
 
 -- the calls of exposing have nothing of the log, and what they have at the slots stays
 module _ (groups : ℕ → Group) (seat : ℕ) where

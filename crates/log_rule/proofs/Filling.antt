@@ -21,7 +21,7 @@ use Rattle.log_rule.specs.declared.view.Seen.{Seen}
 use Rattle.log_rule.specs.declared.view.View.{View}
 use Rattle.log_rule.specs.Events.{reservation_of, task_in, hands_of, slots_of, Leads, IsStep, fills}
 use Rattle.log_rule.specs.Layout.{Ring}
-use Rattle.log_rule.specs.Log.{Part, Range, Claim, Log, Tiles, ranges_of, own, owes, claim_of, part_of, parts_of, unreleased_in, inside, filled_inside, filled_in, is_released, SpellsRecord, records_in, StandsInRing, IsFullIfReleased, IsReleasedBelow, CountsRemaining, AgreesFrom, EndsWithPart, Laid}
+use Rattle.log_rule.specs.Log.{Part, LogRange, Claim, Log, Tiles, ranges_of, own, owes, claim_of, part_of, parts_of, unreleased_in, inside, filled_inside, filled_in, is_released, SpellsRecord, records_in, StandsInRing, IsFullIfReleased, IsReleasedBelow, CountsRemaining, AgreesFrom, EndsWithPart, Laid}
 use Rattle.log_rule.specs.Marks.{Carries, HasTrueEnds}
 use Rattle.log_rule.specs.May.{MayFillRun}
 use Rattle.log_rule.specs.Members.{LoadsForGroup, AwaitsPlace, HasTotalOfWorkers, HasSeenLast}
@@ -34,16 +34,16 @@ use Rattle.log_rule.specs.Slots.{pieces_at, phase_at, KnowsGroup}
 use Rattle.log_rule.specs.Views.{entries_in, books_in, claims_in, with_unit, counted, filled}
 use Rattle.log_rule.specs.Words.{Words, put}
 use Rattle.log_rule.proofs.Boundaries.{part_size, boundary-mid}
-use Rattle.log_rule.proofs.Carrying.{carrier-set, ends-move}
-use Rattle.log_rule.proofs.Keeping.{accounts-stay, records-mid}
+use Rattle.log_rule.proofs.Carriers.{carrier-set, ends-move}
+use Rattle.log_rule.proofs.AccountsKept.{accounts-stay, records-mid}
 use Rattle.log_rule.proofs.Lists.{all-mid, all-at, all-both, all-weaker, Last, picked-last}
-use Rattle.log_rule.proofs.Looking.{all-tile}
+use Rattle.log_rule.proofs.Loads.{all-tile}
 use Rattle.log_rule.proofs.Members.{KeepsView, steps-on, keeps-view}
-use Rattle.log_rule.proofs.Owning.{LastPart, last_part, own-last, own-others}
-use Rattle.log_rule.proofs.Ranging.{RangesApart, last-in_two, tiles-le, laid-le, laid-mid, laid-same, laid-replaced, unreleased_in-mid, filled-here, filled-none, filled_in-mid, filled_in-one}
+use Rattle.log_rule.proofs.OwnedParts.{LastPart, last_part, own-last, own-others}
+use Rattle.log_rule.proofs.RangeLists.{RangesApart, last-in_two, tiles-le, laid-le, laid-mid, laid-same, laid-replaced, unreleased_in-mid, filled-here, filled-none, filled_in-mid, filled_in-one}
 use Rattle.log_rule.proofs.Roles.{crew-same, quiet-moves}
-use Rattle.log_rule.proofs.Showing.{hands_of-set_same, task_of-hands_of, find-range, changed-range, filled_at-others}
-use Rattle.log_rule.proofs.Viewing.{each_moves, each_set, seats_move, seat_at}
+use Rattle.log_rule.proofs.MachineShown.{hands_of-set_same, task_of-hands_of, find-range, changed-range, filled_at-others}
+use Rattle.log_rule.proofs.ViewChanges.{each_moves, each_set, seats_move, seat_at}
 
 -- two LSNs apart by less than the ring have two words
 pub differ_in_ring : (x y size : ℕ) → x ≢ y → x < y + size → y < x + size → x % size ≢ y % size
@@ -76,7 +76,7 @@ spells-more seat entry unit old unfilled unit-is = by_rest old.rest old.units
         }
 
 -- a range ahead stands in the whole list behind those before it, and those that are exposed
-pub ranges-split : (log : Log) (before behind : List Range) (r : Range) → log.ahead ≡ before ++ r ∷ behind
+pub ranges-split : (log : Log) (before behind : List LogRange) (r : LogRange) → log.ahead ≡ before ++ r ∷ behind
     → ranges_of log ≡ (log.flushed ++ (log.exposed ++ before)) ++ r ∷ behind
 ranges-split log before behind r is =
     ap (λ l. log.flushed ++ (log.exposed ++ l)) is ∙ last-in_two log.flushed log.exposed before (r ∷ behind)
@@ -85,11 +85,11 @@ ranges-split log before behind r is =
 abbrev pub run_of : Entry → Claim
 run_of entry = record { base = entry.start; size = entry.size; remaining = entry.size }
 
-abbrev pub HeldRange : ℕ → List Range → Entry → Type 0
+abbrev pub HeldRange : ℕ → List LogRange → Entry → Type 0
 HeldRange me ahead entry = Last (owes me) claim_of ahead [] (run_of entry)
 
 -- those before it, and those that are exposed
-abbrev pub range-front : (me : ℕ) (entry : Entry) (log : Log) → HeldRange me log.ahead entry → List Range
+abbrev pub range-front : (me : ℕ) (entry : Entry) (log : Log) → HeldRange me log.ahead entry → List LogRange
 range-front me entry log held = log.flushed ++ (log.exposed ++ held.before)
 
 module _ (key : Start) (words : Words) (views : List View) (me : ℕ) (v : View) (entry : Entry) (log : Log) (s : IsSound key words views log)
@@ -113,7 +113,7 @@ module _ (key : Start) (words : Words) (views : List View) (me : ℕ) (v : View)
 
   -- and the machine finds the reservation there
   pub found-held : find (is_at entry.start) (map (reservation_of log.parts) (ranges_of log)) ≡ Some (reservation_of log.parts held-range.here)
-  found-held = ap (λ (p : ℕ × List Range). find (is_at p.0) (map (reservation_of log.parts) p.1)) (λ i. (sym held-base i, all-ranges i))
+  found-held = ap (λ (p : ℕ × List LogRange). find (is_at p.0) (map (reservation_of log.parts) p.1)) (λ i. (sym held-base i, all-ranges i))
       ∙ find-range log.parts _ _ _ (range-front me entry log held-range) held-range.behind held-range.here tiles-held
 
 -- the one call has reserved the entry, and the other has it with one more unit filled, and all else that the one has
@@ -201,7 +201,7 @@ module _ (key : Start) (words : Words) (views : List View) (me : ℕ) (v : View)
       (all-old (StandsInRing key.ring words.durable words.ring) s.filled.stands) i lt hi ∙ sym (get_or-append entry.units (unit ∷ []) 0 i lt)))
 
   stands-others : (q : Part) → SpellsRecord q × StandsInRing key.ring words.durable words.ring q → q.entry.start + q.entry.size ≤ words.tail
-      → Rattle.log_rule.proofs.Ranging.Apart q old_part → StandsInRing key.ring words.durable ring' q
+      → Rattle.log_rule.proofs.RangeLists.Apart q old_part → StandsInRing key.ring words.durable ring' q
   stands-others q h hi apart i below low = let fits = units-le q h.0 in
       put-other words.ring next unit ((q.entry.start + i) % key.ring)
       (differ_in_ring (q.entry.start + i) (entry.start + length entry.units) key.ring
@@ -326,7 +326,7 @@ module _ (key : Start) (words : Words) (views : List View) (me : ℕ) (v : View)
   as-filled = ap (filled_in entry.start entry.size) last.split ∙ filled_in-one _ _ last.before last.behind old_part laid
 
   -- the range in which the entry lies
-  module _ {test : Range → Bool} {claim : Claim} (held : Last test claim_of log.ahead [] claim) (low : claim.base ≤ entry.start)
+  module _ {test : LogRange → Bool} {claim : Claim} (held : Last test claim_of log.ahead [] claim) (low : claim.base ≤ entry.start)
       (high : entry.start < claim.base + claim.size) where
     base-is : held.here.base ≡ claim.base
     base-is = ap (λ (c : Claim). c.base) held.is
@@ -344,7 +344,7 @@ module _ (key : Start) (words : Words) (views : List View) (me : ℕ) (v : View)
         let now = filled-here held.here.base held.here.size (with_unit unit entry) (omega (arith, base-is, low)) (omega (arith, base-is, size-is, high)) in
         omega (arith, counts held.here.base held.here.size, here, now, length-append entry.units (unit ∷ []))
 
-    elsewhere : (q : Range) → RangesApart q held.here → filled_in q.base q.size after.parts ≡ filled_in q.base q.size log.parts
+    elsewhere : (q : LogRange) → RangesApart q held.here → filled_in q.base q.size after.parts ≡ filled_in q.base q.size log.parts
     elsewhere q apart =
         let out : (entry.start < q.base) ⊎ (q.base + q.size ≤ entry.start) =
         ⊎_elim (λ before. inr (omega (arith, before, base-is, low))) (λ behind. inl (omega (arith, behind, base-is, size-is, high))) apart in

@@ -12,27 +12,27 @@ use Rattle.log_rule.specs.declared.view.Role.TheVariants.{Flusher}
 use Rattle.log_rule.specs.declared.view.View.{View}
 use Rattle.log_rule.specs.Events.{reservation_of, slots_of, IsStep, Leads, flushes}
 use Rattle.log_rule.specs.Layout.{Durable}
-use Rattle.log_rule.specs.Log.{Part, Range, Log, ranges_of, StandsInRing, AgreesFrom, EndsWithPart, IsReleased, IsRangeBoundary}
+use Rattle.log_rule.specs.Log.{Part, LogRange, Log, ranges_of, StandsInRing, AgreesFrom, EndsWithPart, IsReleased, IsRangeBoundary}
 use Rattle.log_rule.specs.Marks.{HasTrueMark, HasTrueEnds}
 use Rattle.log_rule.specs.May.{MaySend}
 use Rattle.log_rule.specs.Members.{HasSeenInGroup, LoadsForGroup, AwaitsPlace, HasTotalOfWorkers, HasSeenLast}
 use Rattle.log_rule.specs.Sound.{HasSeenBoundaries, HasContiguousReservations, SendsInsertedUnits, SendsIfFlusher, StoresStop, HasReadStop, LookedIfQuiet, HasWorkingOwner, HasConstants, RestsUnlessActive, OwnsIfWorker, HoldsIfActive, IsSound}
-use Rattle.log_rule.proofs.Keeping.{accounts-stay}
+use Rattle.log_rule.proofs.AccountsKept.{accounts-stay}
 use Rattle.log_rule.specs.Roles.{is_spent}
 use Rattle.log_rule.specs.Views.{seen_durable, has_sent}
 use Rattle.log_rule.specs.Words.{Words}
-use Rattle.log_rule.proofs.Agreeing.{agrees-append}
+use Rattle.log_rule.proofs.AgreedUnits.{agrees-append}
 use Rattle.log_rule.proofs.Boundaries.{Cut, boundary-later, boundary-sooner, cut-at}
-use Rattle.log_rule.proofs.Carrying.{carrier-set, ends-move}
+use Rattle.log_rule.proofs.Carriers.{carrier-set, ends-move}
 use Rattle.log_rule.proofs.Lists.{all-both, all-weaker}
 use Rattle.log_rule.proofs.Members.{KeepsView, durable-on, loads-stay, group-grows, keeps-view}
-use Rattle.log_rule.proofs.Ranging.{tiles-append}
+use Rattle.log_rule.proofs.RangeLists.{tiles-append}
 use Rattle.log_rule.proofs.Roles.{crew-same, quiet-moves, sole-flusher}
-use Rattle.log_rule.proofs.Showing.{hands_of-set_same}
-use Rattle.log_rule.proofs.Viewing.{each_moves, each_set, seats_set, seat_at}
+use Rattle.log_rule.proofs.MachineShown.{hands_of-set_same}
+use Rattle.log_rule.proofs.ViewChanges.{each_moves, each_set, seats_set, seat_at}
 
 -- the machine's boundaries are those of the ranges
-boundary-shown : (start at : ℕ) (parts : List Part) (ranges : List Range) → IsRangeBoundary start ranges at
+boundary-shown : (start at : ℕ) (parts : List Part) (ranges : List LogRange) → IsRangeBoundary start ranges at
     → IsTilingBoundary size_of start (map (reservation_of parts) ranges) at
 boundary-shown start at parts [] b = b
 boundary-shown start at parts (r ∷ rs) b = ⊎_elim (λ here. inl here) (λ later. inr (boundary-shown (start + r.size) at parts rs later)) b

@@ -16,7 +16,7 @@ use Rattle.log_rule.specs.declared.view.Entry.{Entry}
 use Rattle.log_rule.specs.declared.view.Role.{Role}
 use Rattle.log_rule.specs.declared.view.Role.TheVariants.{Flusher, Fresh, Active, Ended, Note, Spent}
 use Rattle.log_rule.specs.declared.view.View.{View}
-use Rattle.slot_word.specs.AccountWord.{held_in, balance_in, mark_in}
+use Rattle.slot_word.specs.AccountWord.{held_in, balance_in, last_commit_in}
 use Rattle.log_record.specs.declared.rec.Placed.{Placed}
 use Rattle.log_record.specs.Spelling.{IsBalance}
 use Rattle.lock_core.specs.History.{history_from}
@@ -28,7 +28,7 @@ use Rattle.log_rule.specs.Accounts.{summed, holders, takers, HasDistinctJobs, We
 use Rattle.log_rule.specs.Books.{task_of, times_held, times_taken}
 use Rattle.log_rule.specs.Closing.{HasHeardOfWorkers, IsGathered, IsLedger, IsSettled, ReadsRows, records_of, history_of, in_use}
 use Rattle.log_rule.specs.Layout.{Account, Slot, index_of}
-use Rattle.log_rule.proofs.Gathered.{all-jobs_run}
+use Rattle.log_rule.proofs.GatheredSeats.{all-jobs_run}
 use Rattle.log_rule.specs.Log.{Part, Log, own, part_of, parts_of, IsSpelled, ranges_of, Laid, IsFull, IsFullIfReleased, AgreesFrom, IsRangeBoundary, IsEntryBoundary, SpellsRecord, records_in}
 use Rattle.log_rule.specs.Sends.{IsDrained}
 use Rattle.log_rule.specs.May.{MayClose}
@@ -36,15 +36,15 @@ use Rattle.log_rule.specs.Sound.{HasWorkingOwner, SendsInsertedUnits, IsSound, R
 use Rattle.log_rule.specs.Roles.{is_active, is_worker, is_spent, may_own}
 use Rattle.log_rule.specs.Views.{nobody, entries_in}
 use Rattle.log_rule.specs.Words.{Words, words_in}
-use Rattle.log_rule.proofs.Agreeing.{IsFront, agrees-append, whole-record, front, front-whole, joined, joined-entries, joined-length}
+use Rattle.log_rule.proofs.AgreedUnits.{IsFront, agrees-append, whole-record, front, front-whole, joined, joined-entries, joined-length}
 use Rattle.log_rule.proofs.Boundaries.{part_size, boundary-entries}
-use Rattle.log_rule.proofs.Keeping.{books-at}
+use Rattle.log_rule.proofs.AccountsKept.{books-at}
 use Rattle.log_rule.proofs.MemberBooks.{held-books_in, jobs-books_in}
 use Rattle.log_rule.proofs.Lists.{all-both, all-weaker}
-use Rattle.log_rule.proofs.Looking.{part-boundary}
+use Rattle.log_rule.proofs.Loads.{part-boundary}
 use Rattle.log_rule.proofs.Resting.{at_rest}
 use Rattle.log_rule.proofs.Vacancy.{word-at_rest, none-in_use}
-use Rattle.log_rule.proofs.Viewing.{seat_at}
+use Rattle.log_rule.proofs.ViewChanges.{seat_at}
 
 -- what holds of each view and of nobody's holds of each seat
 each_seat : (P : ℕ → View → Type 0) (views : List View) → ((j : ℕ) (z : View) → get_elem? views j ≡ some z → P j z) → ((j : ℕ) → P j nobody)
@@ -288,7 +288,7 @@ module _ (key : Start) (words : Words) (views : List View) (me : ℕ) (v : View)
           let row-is = reads.each account (subst (λ n. account < n) (sym same) below) in
           record {
             balance = subst (IsBalanceOf (base_of key) (history_in key log.parts) account) (ap balance_in word-is ∙ sym (ap (λ (r : ℕ × ℕ). r.0) row-is)) old'.balance;
-            mark = old'.mark ∙ (ap mark_in word-is ∙ sym (ap (λ (r : ℕ × ℕ). r.1) row-is));
+            mark = old'.mark ∙ (ap last_commit_in word-is ∙ sym (ap (λ (r : ℕ × ℕ). r.1) row-is));
           }
 
 -- what the words of a closed table held

@@ -11,7 +11,7 @@ use Rattle.lock_core.specs.Records.{gain, loss}
 use Rattle.lock_core.specs.History.{end_from}
 use Rattle.lock_core.specs.Transactions.{recs_of, changes_in, has_commit}
 use Rattle.lock_core.specs.Sums.{BaseState, moved, total, last_commit_of}
-use Rattle.log_rule.specs.declared.view.Held.{Held}
+use Rattle.log_rule.specs.declared.view.Taken.{Taken}
 use Rattle.log_rule.specs.declared.view.Given.{Given}
 use Rattle.log_rule.specs.declared.view.Books.{Books}
 use Rattle.log_rule.specs.Books.{times_held, times_taken, balance_taken, without, giving}
@@ -48,7 +48,7 @@ module _ (base : BaseState) (words : ℕ → ℕ) (h : List Placed) (all : List 
   one-holder : holders account all ≡ 1
   one-holder = holder.counts account known ∙ ap (λ b. cond {A = ℕ} b 1 0) was-held
 
-  others-taken : (books : Books) (list : List Held) → times_held account list ≡ 0 → AllByRecursion (IsAsTaken base.accounts words) list
+  others-taken : (books : Books) (list : List Taken) → times_held account list ≡ 0 → AllByRecursion (IsAsTaken base.accounts words) list
       → AllByRecursion (IsAsTaken base.accounts words') list
   others-taken books list none old = all-held _ (IsAsTaken base.accounts words') list old
       (λ z has t. as_taken-else base.accounts words account word z (λ same. let again : 1 ≤ times_held account list = subst (λ a. 1 ≤ times_held a list) same has in omega arith) t)
@@ -94,7 +94,7 @@ module _ (base : BaseState) (words : ℕ → ℕ) (h : List Placed) (all : List 
         let is = follows-balance in let gives = may.values.balance_is in record {
           balance = omega arith;
           mark = subst (λ a. last_commit_of base h a ≡ commit_in mine.placed a f.held.mark) f.is old.mark
-              ∙ (ap (commit_in mine.placed account) (sym f.mark) ∙ sym may.values.mark_is);
+              ∙ (ap (commit_in mine.placed account) (sym f.mark) ∙ sym may.values.last_commit_is);
         }
 
     -- with no Commit of the job in the log, the balance as it was taken is that of the whole list

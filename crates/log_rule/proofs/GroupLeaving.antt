@@ -20,7 +20,7 @@ use Rattle.log_rule.specs.declared.view.Seen.{Seen}
 use Rattle.log_rule.specs.declared.view.View.{View}
 use Rattle.log_rule.specs.Events.{task_in, member_shown, group_shown}
 use Rattle.log_rule.specs.Groups.{Outcome, Granted, Refused, GroupPhase, Closed, Told, Emptied, Piece, Member, Group, put_group}
-use Rattle.log_rule.specs.Log.{Range, Log, ranges_of, picked}
+use Rattle.log_rule.specs.Log.{LogRange, Log, ranges_of, picked}
 use Rattle.log_rule.specs.Marks.{HasTrueEnds}
 use Rattle.log_rule.specs.Members.{HadSeenUpTo, HadSeenUnder, HasPhaseOutcome, LoadsForGroup, AwaitsPlace, IsTotalOf, HasTotalAtPhase}
 use Rattle.log_rule.specs.Roles.{is_spent}
@@ -34,8 +34,8 @@ use Rattle.log_rule.proofs.Lists.{Last, picked-append, picked-last, all-at}
 use Rattle.log_rule.proofs.Members.{KeepsMembers, steps-on}
 use Rattle.log_rule.proofs.SlotLooks.{small}
 use Rattle.log_rule.proofs.SlotWords.{told-total}
-use Rattle.log_rule.proofs.Slotting.{here, elsewhere}
-use Rattle.log_rule.proofs.Viewing.{seat_at}
+use Rattle.log_rule.proofs.SlotChanges.{here, elsewhere}
+use Rattle.log_rule.proofs.ViewChanges.{seat_at}
 
 -- ---- lists from which one is taken
 
@@ -241,7 +241,7 @@ module _ (most word base me : ℕ) (piece : Piece) (outcome : Outcome) (g : Grou
     pub ends : (start exposed : ℕ) (log : Log) → HasTrueEnds start exposed log call
     pub keep : (j : ℕ) (p : Piece) (step : MemberStep) → own_pieces j (m.before ++ m.behind) ≡ p ∷ []
         → Keeps (Told m.total outcome m.remaining) phase p step
-    pub seen : (start ring tail durable : ℕ) (ranges : List Range)
+    pub seen : (start ring tail durable : ℕ) (ranges : List LogRange)
         → HasPhaseOutcome start ring tail durable ranges g.members (Told m.total outcome m.remaining)
         → HasPhaseOutcome start ring tail durable ranges (m.before ++ m.behind) phase
     pub totals : (workers : ℕ) → HasTotalAtPhase workers g.members (Told m.total outcome m.remaining)

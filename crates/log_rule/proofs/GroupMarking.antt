@@ -21,7 +21,7 @@ use Rattle.log_rule.specs.declared.view.View.{View}
 use Rattle.log_rule.specs.Events.{reservation_of, task_in, slots_of, Leads, IsStep, marks}
 use Rattle.log_rule.specs.GroupViews.{follow_up}
 use Rattle.log_rule.specs.Layout.{Mark}
-use Rattle.log_rule.specs.Log.{Part, Owed, Released, Range, Claim, Log, ranges_of, owed, owes, is_owed_by, claim_of, parts_of, unreleased_in, filled_in, is_released, IsFull, IsFullIfReleased, IsReleased, IsAtWork, CountsRemaining, Tiles, Laid, EndsWithPart, IsRangeBoundary}
+use Rattle.log_rule.specs.Log.{Part, Owed, Released, LogRange, Claim, Log, ranges_of, owed, owes, is_owed_by, claim_of, parts_of, unreleased_in, filled_in, is_released, IsFull, IsFullIfReleased, IsReleased, IsAtWork, CountsRemaining, Tiles, Laid, EndsWithPart, IsRangeBoundary}
 use Rattle.log_rule.specs.Marks.{FirstEnds, IsCurrentMark, HasReleaseMarks, HasTrueMark, HasTrueEnds}
 use Rattle.log_rule.specs.MarkViews.{marked}
 use Rattle.log_rule.specs.May.{MayMark, MayMarkRun, MayMarkGroup}
@@ -32,21 +32,21 @@ use Rattle.log_rule.specs.Sound.{HasSeenBoundaries, HasContiguousReservations, S
 use Rattle.log_rule.specs.Views.{run_in, entries_in, books_in, claims_in, counted}
 use Rattle.log_rule.specs.Words.{Words, put}
 use Rattle.log_rule.proofs.Boundaries.{range_size, part_size, boundary-start, boundary-append, boundary-least, boundary-end, boundary-aligned, boundary-mid}
-use Rattle.log_rule.proofs.Carrying.{carrier-here, ends-mid, ends-move}
+use Rattle.log_rule.proofs.Carriers.{carrier-here, ends-mid, ends-move}
 use Rattle.log_rule.proofs.Filling.{put-here, put-other}
-use Rattle.log_rule.proofs.Keeping.{accounts-stay}
+use Rattle.log_rule.proofs.AccountsKept.{accounts-stay}
 use Rattle.log_rule.proofs.Lists.{Last, all-mid, all-at, all-both, all-weaker, picked-append, picked-same, picked-last}
-use Rattle.log_rule.proofs.Looking.{all-tile}
+use Rattle.log_rule.proofs.Loads.{all-tile}
 use Rattle.log_rule.proofs.Marking.{run_mark-step}
 use Rattle.log_rule.proofs.Members.{KeepsView, steps-on, group-grows, keeps-view}
-use Rattle.log_rule.proofs.Owning.{duty-owed, owed-unreleased}
-use Rattle.log_rule.proofs.Ranging.{last-in_two, tiles-le, tiles-mid, tiles-same, all-released, filled-here, filled-none, filled_in-apart}
+use Rattle.log_rule.proofs.OwnedParts.{duty-owed, owed-unreleased}
+use Rattle.log_rule.proofs.RangeLists.{last-in_two, tiles-le, tiles-mid, tiles-same, all-released, filled-here, filled-none, filled_in-apart}
 use Rattle.log_rule.proofs.Roles.{crew-same, quiet-moves}
 use Rattle.log_rule.proofs.Sharing.{shared-mid, slots-stay}
-use Rattle.log_rule.proofs.Showing.{hands_of-set, task_of-hands_of, find-range, changed-range, released_at-others}
+use Rattle.log_rule.proofs.MachineShown.{hands_of-set, task_of-hands_of, find-range, changed-range, released_at-others}
 use Rattle.log_rule.proofs.SlotLeading.{active-if}
 use Rattle.log_rule.proofs.TrueMarks.{true-store, current-store}
-use Rattle.log_rule.proofs.Viewing.{each_moves, each_set, seats_move, seat_at}
+use Rattle.log_rule.proofs.ViewChanges.{each_moves, each_set, seats_move, seat_at}
 
 -- ---- a range of which nothing remains is filled
 
@@ -99,13 +99,13 @@ module _ (key : Start) (words : Words) (views : List View) (me : ℕ) (v : View)
   held : Last (owes me) claim_of log.ahead [] claimed
   held = picked-last (owes me) claim_of log.ahead [] claimed (mine.owes ∙ ap claims_in emptying)
 
-  abbrev range : Range
+  abbrev range : LogRange
   range = held.here
 
-  abbrev front : List Range
+  abbrev front : List LogRange
   front = log.flushed ++ (log.exposed ++ held.before)
 
-  abbrev now : Range
+  abbrev now : LogRange
   now = record { base = range.base; size = range.size; remaining = 0; duty = Released }
 
   abbrev after : Log
@@ -298,7 +298,7 @@ module _ (key : Start) (words : Words) (views : List View) (me : ℕ) (v : View)
 
   -- the machine finds the reservation there
   found : find (is_at base) (map (reservation_of log.parts) (ranges_of log)) ≡ Some (reservation_of log.parts range)
-  found = ap (λ (p : ℕ × List Range). find (is_at p.0) (map (reservation_of log.parts) p.1)) (λ i. (sym base-is i, were i))
+  found = ap (λ (p : ℕ × List LogRange). find (is_at p.0) (map (reservation_of log.parts) p.1)) (λ i. (sym base-is i, were i))
       ∙ find-range log.parts _ _ _ front held.behind range all-tiles
 
   -- the range begins and ends where parts do, all of which are released

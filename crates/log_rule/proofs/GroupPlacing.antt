@@ -24,7 +24,7 @@ use Rattle.log_rule.specs.Slots.{own_pieces, pieces_at, KnowsPhase, KnowsGroup, 
 use Rattle.log_rule.specs.Views.{nobody, entries_in, books_in}
 use Rattle.log_rule.proofs.GroupEntering.{Entrant, history_with, EntersNot, EntersAs, AreApart}
 use Rattle.log_rule.proofs.Groups.{group-at, group-other, untold-closed}
-use Rattle.log_rule.proofs.Ranging.{inside-here}
+use Rattle.log_rule.proofs.RangeLists.{inside-here}
 use Rattle.log_rule.proofs.TailMoving.{IsEmptyPart}
 
 -- ---- the parts

@@ -14,7 +14,7 @@ use Rattle.log_rule.specs.declared.view.Call.TheVariants.{Idle, Filling, Joined,
 use Rattle.log_rule.specs.Events.{group_shown, groups_from}
 use Rattle.log_rule.specs.Groups.{Outcome, GroupPhase, Vacant, Gathering, Closed, Placed, Ready, Told, Emptied, Piece, Member, Group, put_group}
 use Rattle.log_rule.specs.GroupViews.{unheard_entry, unheard_books, member_entry, member_books}
-use Rattle.log_rule.specs.Log.{Range, Shared, claim_of, IsSharedByMembers, IsAtWork}
+use Rattle.log_rule.specs.Log.{LogRange, Shared, claim_of, IsSharedByMembers, IsAtWork}
 use Rattle.log_rule.specs.Slots.{own_pieces, pieces_at, is_led_by, known_phase, led_phase, phase_led, phase_at, KnowsPhase, KnowsGroup, is_shared_at, shares, shared, range_of, sum_of, HasRemaining, IsAtPhase}
 use Rattle.log_rule.specs.Views.{entries_in, books_in}
 use Rattle.log_rule.proofs.Lists.{all-both}
@@ -181,7 +181,7 @@ members-some most word base members (Ready leader total outcome) is some_range =
 members-some most word base members (Told total outcome remaining) is some_range = some-left most total remaining members is.remains
 members-some most word base members (Emptied last) is some_range = absurd (some_range refl)
 
-each-shared : (slot : ℕ) (ranges : List Range) (Q : Type 0) → (shared slot ranges ≢ [] → Q) → AllByRecursion (λ (r : Range). r.duty ≡ Shared slot → Q) ranges
+each-shared : (slot : ℕ) (ranges : List LogRange) (Q : Type 0) → (shared slot ranges ≢ [] → Q) → AllByRecursion (λ (r : LogRange). r.duty ≡ Shared slot → Q) ranges
 each-shared slot [] Q some_shared = tt
 each-shared slot (r ∷ rs) Q some_shared = (
   λ duty. some_shared (here duty),
@@ -196,15 +196,15 @@ each-shared slot (r ∷ rs) Q some_shared = (
     behind true none = absurd (cc)
     behind false none = none
 
-pub work-stays : (groups : ℕ → Group) (slot : ℕ) (g : Group) (ahead : List Range) → (shared slot ahead ≢ [] → g.members ≢ [])
+pub work-stays : (groups : ℕ → Group) (slot : ℕ) (g : Group) (ahead : List LogRange) → (shared slot ahead ≢ [] → g.members ≢ [])
     → AllByRecursion (IsAtWork groups) ahead → AllByRecursion (IsAtWork (put_group groups slot g)) ahead
 work-stays groups slot g ahead some_members work =
-    all-both (IsAtWork groups) (λ (r : Range). r.duty ≡ Shared slot → g.members ≢ []) (IsAtWork (put_group groups slot g)) ahead
+    all-both (IsAtWork groups) (λ (r : LogRange). r.duty ≡ Shared slot → g.members ≢ []) (IsAtWork (put_group groups slot g)) ahead
     (λ r at some_here. ⊎_elim (λ released. inl released)
     (λ owed. inr (⊎_elim (λ by_seat. inl by_seat) (λ by_members. inr (moved r by_members some_here)) owed)) at)
     work (each-shared slot ahead (g.members ≢ []) some_members)
   where
-    moved : (r : Range) → IsSharedByMembers groups r → (r.duty ≡ Shared slot → g.members ≢ []) → IsSharedByMembers (put_group groups slot g) r
+    moved : (r : LogRange) → IsSharedByMembers groups r → (r.duty ≡ Shared slot → g.members ≢ []) → IsSharedByMembers (put_group groups slot g) r
     moved r by some_here = record {
       slot = by.slot;
       duty = by.duty;

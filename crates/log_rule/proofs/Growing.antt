@@ -15,7 +15,7 @@ use Rattle.lock_core.specs.Serial.{IsRunWhole, IsCutShort}
 use Rattle.lock_core.proofs.OneMore.{of_transaction-same, of_transaction-other}
 use Rattle.lock_core.proofs.SerialFronts.{IsRunPartly, run_partly-other}
 use Rattle.log_rule.specs.declared.view.TakenJob.{TakenJob}
-use Rattle.log_rule.specs.declared.view.Held.{Held}
+use Rattle.log_rule.specs.declared.view.Taken.{Taken}
 use Rattle.log_rule.specs.declared.view.Given.{Given}
 use Rattle.log_rule.specs.declared.view.Books.{Books}
 use Rattle.log_rule.specs.Books.{task_of, times_held, times_taken}
@@ -29,7 +29,7 @@ pub record IsSameAt (base : BaseState) (h : List Placed) (entry : Placed) (accou
   pub taken : total loss account (entry ∷ h) ≡ total loss account h
   pub mark : last_commit_of base (entry ∷ h) account ≡ last_commit_of base h account
 
-follows-same : (base : BaseState) (h placed : List Placed) (entry : Placed) (held : Held) → IsSameAt base h entry held.account → Follows base h placed held
+follows-same : (base : BaseState) (h placed : List Placed) (entry : Placed) (held : Taken) → IsSameAt base h entry held.account → Follows base h placed held
     → Follows base (entry ∷ h) placed held
 follows-same base h placed entry held same old =
     let added = same.added in let taken = same.taken in let balance = old.balance in record { balance = omega arith; mark = same.mark ∙ old.mark }

@@ -32,7 +32,7 @@ use Rattle.log_rule.specs.Events.{task_in, group_shown, reservation_of, slots_of
 use Rattle.log_rule.specs.Groups.{Granted, Closed, Placed, Piece, Member, Group, put_group}
 use Rattle.log_rule.specs.GroupViews.{member_books}
 use Rattle.log_rule.specs.Layout.{Tail}
-use Rattle.log_rule.specs.Log.{Part, Shared, Range, Log, ranges_of, own, owed, is_by, whole, owes, claim_of, parts_of, Laid, SpellsRecord, records_in, IsAtWork}
+use Rattle.log_rule.specs.Log.{Part, Shared, LogRange, Log, ranges_of, own, owed, is_by, whole, owes, claim_of, parts_of, Laid, SpellsRecord, records_in, IsAtWork}
 use Rattle.log_rule.specs.Marks.{Carries}
 use Rattle.log_rule.specs.May.{MayPlaceGroup}
 use Rattle.log_rule.specs.Members.{HadSeenUpTo, HadSeenUnder, HasSeenInGroup, LoadedSince, LoadsForGroup, IsForNextRecord, AwaitsPlace, HasTotalAtPhase, HasTotalOfWorkers}
@@ -47,17 +47,17 @@ use Rattle.log_rule.proofs.Entering.{enters-spellable}
 use Rattle.log_rule.proofs.GroupEntering.{Entrant, history_with, books_with, MayEnterAs, EntersNot, EntersAs, enter-all, entered-shows}
 use Rattle.log_rule.proofs.GroupPlacing.{placed_parts, entries_at, own-placed, parts_of-append, laid-placed, empty-placed, unreleased-placed, all-placed, IsAmong, each-own, IsOneAtMost, one-at, IsMemberAt, member-at, seat-known, IsPlacedAt, placed-step, PlacesPiece, PlacesNone, OncePlaced, once-placed, entrant, entrants, all-entrants, enters-not, enters-as, apart, history-placed, records-append}
 use Rattle.log_rule.proofs.Groups.{group-here, group-at, group-other, members-some, work-stays, shown-put}
-use Rattle.log_rule.proofs.Keeping.{history-end}
+use Rattle.log_rule.proofs.AccountsKept.{history-end}
 use Rattle.log_rule.proofs.Lists.{picked-append, all-append, all-weaker}
 use Rattle.log_rule.proofs.Members.{group-grows, loads-move}
 use Rattle.log_rule.proofs.Sharing.{shared-push}
-use Rattle.log_rule.proofs.Showing.{hands_of-set, task_of-hands_of}
+use Rattle.log_rule.proofs.MachineShown.{hands_of-set, task_of-hands_of}
 use Rattle.log_rule.proofs.SlotLeading.{active, led-whole, at-phase}
 use Rattle.log_rule.proofs.SlotShowing.{group-shown}
 use Rattle.log_rule.proofs.SlotStoring.{tiles-sum}
-use Rattle.log_rule.proofs.Slotting.{here, elsewhere}
+use Rattle.log_rule.proofs.SlotChanges.{here, elsewhere}
 use Rattle.log_rule.proofs.TailMoving.{AreNewParts, still, tail-moves, reservations-more, exchange-by}
-use Rattle.log_rule.proofs.Viewing.{each_moves, at_get, seat_at, seats_move}
+use Rattle.log_rule.proofs.ViewChanges.{each_moves, at_get, seat_at, seats_move}
 
 -- the view of the seat awaits its group's place, for the record of this piece, and shows its own books
 pub record AwaitsGroup (groups : ℕ → Group) (views : List View) (seat : ℕ) (piece : Piece) : Type 0 where
@@ -103,7 +103,7 @@ module _ (key : Start) (words : Words) (views : List View) (me : ℕ) (v : View)
   abbrev more : List Part
   more = placed_parts from ms
 
-  abbrev range : Range
+  abbrev range : LogRange
   range = record { base = from; size = total; remaining = total; duty = Shared slot }
 
   abbrev call : Call

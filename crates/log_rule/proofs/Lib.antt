@@ -1,10 +1,12 @@
+pub mod AccountSteps
+mod AccountsKept
 mod Adding
-mod Agreeing
+mod AgreedUnits
 pub mod Allowing
 pub mod Bookings
 mod Boundaries
-mod Carrying
-pub mod Contending
+mod Carriers
+pub mod Contention
 mod CrewMerging
 pub mod Crewing
 pub mod Deltas
@@ -12,7 +14,7 @@ mod Entering
 pub mod Exposing
 mod Filling
 pub mod Flushing
-mod Gathered
+mod GatheredSeats
 pub mod Gathering
 mod Giving
 mod GroupEntering
@@ -22,26 +24,25 @@ mod GroupPlacing
 mod GroupTotals
 mod Groups
 mod Growing
-mod Keeping
 pub mod LeaderPlacing
 mod Lifting
 mod Lists
-pub mod Looking
+pub mod Loads
+mod MachineShown
 mod MarkLooks
 mod Marking
 mod MemberBooks
 mod Members
 pub mod Merging
-pub mod Nexting
 pub mod Noting
-pub mod Owing
-mod Owning
+mod OwnedParts
 pub mod PieceFilling
 mod PlanFronts
 pub mod Planning
 pub mod Raising
-mod Ranging
+mod RangeLists
 pub mod Reading
+pub mod RecordsToPlace
 mod RefusedReleasing
 mod Renaming
 pub mod Reserving
@@ -50,8 +51,8 @@ mod Roles
 mod Rows
 pub mod SentRecords
 mod Sharing
-mod Showing
 pub mod SlotAllowing
+mod SlotChanges
 pub mod SlotClosing
 pub mod SlotHearing
 pub mod SlotJoining
@@ -64,7 +65,6 @@ mod SlotShowing
 pub mod SlotStoring
 pub mod SlotTelling
 mod SlotWords
-mod Slotting
 pub mod Splitting
 pub mod Starting
 pub mod Stopping
@@ -74,5 +74,5 @@ mod ToldMembers
 mod ToldWaiting
 mod TrueMarks
 pub mod Vacancy
-mod Viewing
-mod Wording
+mod ViewChanges
+mod WordPlaces

@@ -10,7 +10,7 @@ use Rattle.log_rule.specs.Log.{Log}
 use Rattle.log_rule.specs.Sound.{IsSound, Ruled}
 use Rattle.log_rule.specs.Words.{Words, words_in, word_at, with_word}
 use Rattle.log_rule.specs.Events.{IsStep, Leads, Event}
-use Rattle.log_rule.proofs.Wording.{Fits, words_of-set, read-word}
+use Rattle.log_rule.proofs.WordPlaces.{Fits, words_of-set, read-word}
 
 -- what the rule tells of the word, whenever the seat has this view
 abbrev pub Tells : Start → ℕ → Word → View → (ℕ → Type 0) → Type 0

@@ -9,26 +9,26 @@ use Rattle.ring_core.specs.State.{Reservation, is_at}
 use Rattle.log_rule.specs.declared.start.Start.{Start}
 use Rattle.log_rule.specs.declared.view.View.{View}
 use Rattle.log_rule.specs.Events.{reservation_of}
-use Rattle.log_rule.specs.Log.{Duty, Shared, Owed, Released, Range, Log, ranges_of, is_released, IsReleased, IsRangeBoundary, Tiles}
+use Rattle.log_rule.specs.Log.{Duty, Shared, Owed, Released, LogRange, Log, ranges_of, is_released, IsReleased, IsRangeBoundary, Tiles}
 use Rattle.log_rule.specs.Marks.{IsReady, IsCurrentMark, HasTrueMark, IsFirstReleased, IsPassed}
 use Rattle.log_rule.specs.Sound.{IsSound}
 use Rattle.log_rule.specs.Words.{Words}
 use Rattle.log_rule.proofs.Lists.{all-append, all-at, all-behind, all-weaker}
-use Rattle.log_rule.proofs.Looking.{all-tile}
-use Rattle.log_rule.proofs.Ranging.{tiles-le, tiles-mid, tiles-within}
-use Rattle.log_rule.proofs.Showing.{find-range, find-no_range}
+use Rattle.log_rule.proofs.Loads.{all-tile}
+use Rattle.log_rule.proofs.RangeLists.{tiles-le, tiles-mid, tiles-within}
+use Rattle.log_rule.proofs.MachineShown.{find-range, find-no_range}
 use Rattle.log_rule.proofs.TrueMarks.{IsFirstReady, first-marked, marked-first}
 
 -- one of the ranges begins there, and this stands around it
-pub record StartsAt (e : ℕ) (ranges : List Range) : Type 0 where
-  pub before : List Range
-  pub here : Range
-  pub behind : List Range
+pub record StartsAt (e : ℕ) (ranges : List LogRange) : Type 0 where
+  pub before : List LogRange
+  pub here : LogRange
+  pub behind : List LogRange
   pub split : ranges ≡ before ++ here ∷ behind
   pub base : here.base ≡ e
 
 -- a boundary is the base of a range, or the end of all
-starts-at : (most from to e : ℕ) (ranges : List Range) → Tiles most from ranges to → IsRangeBoundary from ranges e → e < to → StartsAt e ranges
+starts-at : (most from to e : ℕ) (ranges : List LogRange) → Tiles most from ranges to → IsRangeBoundary from ranges e → e < to → StartsAt e ranges
 starts-at most from to e [] t boundary low = absurd (omega (arith, t, boundary, low))
 starts-at most from to e (r ∷ rs) t boundary low = ⊎_elim
     (λ (here : e ≡ from). record { before = []; here = r; behind = rs; split = refl; base = t.0 ∙ sym here })
@@ -83,14 +83,14 @@ module _ (key : Start) (words : Words) (views : List View) (log : Log) (s : IsSo
   marked-ready = marked-first (size / 4) size words.exposed words.tail words.mark log.ahead tiles current-now
 
   -- what lies below exposed is released
-  released-below : AllByRecursion (λ (r : Range). r.base < words.exposed → IsReleased r) (ranges_of log)
-  released-below = subst (AllByRecursion (λ (r : Range). r.base < words.exposed → IsReleased r)) (append_assoc log.flushed log.exposed log.ahead)
-      (all-append (λ (r : Range). r.base < words.exposed → IsReleased r) (log.flushed ++ log.exposed) log.ahead
-      (all-weaker IsReleased (λ (r : Range). r.base < words.exposed → IsReleased r) (log.flushed ++ log.exposed) (λ r is _. is) s.below.ranges)
-      (tiles-within (λ _. Unit {0}) (λ (r : Range). r.base < words.exposed → IsReleased r) _ _ _ log.ahead tiles (anything log.ahead)
+  released-below : AllByRecursion (λ (r : LogRange). r.base < words.exposed → IsReleased r) (ranges_of log)
+  released-below = subst (AllByRecursion (λ (r : LogRange). r.base < words.exposed → IsReleased r)) (append_assoc log.flushed log.exposed log.ahead)
+      (all-append (λ (r : LogRange). r.base < words.exposed → IsReleased r) (log.flushed ++ log.exposed) log.ahead
+      (all-weaker IsReleased (λ (r : LogRange). r.base < words.exposed → IsReleased r) (log.flushed ++ log.exposed) (λ r is _. is) s.below.ranges)
+      (tiles-within (λ _. Unit {0}) (λ (r : LogRange). r.base < words.exposed → IsReleased r) _ _ _ log.ahead tiles (anything log.ahead)
       (λ r _ _ lo _ low. absurd (omega (arith, lo, low)))))
     where
-      anything : (ranges : List Range) → AllByRecursion (λ _. Unit {0}) ranges
+      anything : (ranges : List LogRange) → AllByRecursion (λ _. Unit {0}) ranges
       anything [] = tt
       anything (r ∷ rs) = (tt, anything rs)
 
@@ -102,8 +102,8 @@ module _ (key : Start) (words : Words) (views : List View) (log : Log) (s : IsSo
       found : StartsAt e (ranges_of log) → (e < words.mark (e % size)) × (is_marked e shown ≡ true)
       found r =
           let all = subst (λ l. Tiles (size / 4) key.start l words.tail) r.split (all-tile _ _ _ _ _ log s.contiguous) in
-          let is = all-at (λ (q : Range). q.base < words.exposed → IsReleased q) r.before r.behind r.here
-          (subst (AllByRecursion (λ (q : Range). q.base < words.exposed → IsReleased q)) r.split released-below) (omega (arith, r.base, low)) in
+          let is = all-at (λ (q : LogRange). q.base < words.exposed → IsReleased q) r.before r.behind r.here
+          (subst (AllByRecursion (λ (q : LogRange). q.base < words.exposed → IsReleased q)) r.split released-below) (omega (arith, r.base, low)) in
           let high = all-at (HasTrueMark size words.mark) r.before r.behind r.here
           (subst (AllByRecursion (HasTrueMark size words.mark)) r.split s.marks.true_marks) is in
           let same : words.mark (r.here.base % size) ≡ words.mark (e % size) = ap (λ n. words.mark (n % size)) r.base in
@@ -120,7 +120,7 @@ module _ (key : Start) (words : Words) (views : List View) (log : Log) (s : IsSo
           → is_marked words.exposed shown ≡ nat_lt words.exposed (words.mark (words.exposed % size))
       unmarked is low = is ∙ sym (not-lt words.exposed (words.mark (words.exposed % size)) low)
 
-      by_ahead : (ranges : List Range) → log.ahead ≡ ranges → is_marked words.exposed shown ≡ nat_lt words.exposed (words.mark (words.exposed % size))
+      by_ahead : (ranges : List LogRange) → log.ahead ≡ ranges → is_marked words.exposed shown ≡ nat_lt words.exposed (words.mark (words.exposed % size))
       by_ahead [] is = unmarked
           (ap (λ o. option_map_or (λ (r : Reservation). r.released) o false)
           (subst (λ n. find (is_at n) shown ≡ None) (sym (subst (λ l. Tiles (size / 4) words.exposed l words.tail) is tiles))

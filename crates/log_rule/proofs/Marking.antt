@@ -21,7 +21,7 @@ use Rattle.log_rule.specs.declared.view.Role.TheVariants.{Flusher, Fresh, Active
 use Rattle.log_rule.specs.declared.view.View.{View}
 use Rattle.log_rule.specs.Events.{reservation_of, hands_of, slots_of, Leads, IsStep, marks}
 use Rattle.log_rule.specs.Layout.{Mark}
-use Rattle.log_rule.specs.Log.{Part, Owed, Released, Range, Claim, Log, ranges_of, own, owed, owes, is_owed_by, claim_of, part_of, parts_of, unreleased_in, inside, filled_in, is_released, IsFull, SpellsRecord, records_in, StandsInRing, IsFullIfReleased, IsReleasedBelow, IsReleased, IsAtWork, CountsRemaining, Tiles, Laid, AgreesFrom, EndsWithPart, IsRangeBoundary}
+use Rattle.log_rule.specs.Log.{Part, Owed, Released, LogRange, Claim, Log, ranges_of, own, owed, owes, is_owed_by, claim_of, part_of, parts_of, unreleased_in, inside, filled_in, is_released, IsFull, SpellsRecord, records_in, StandsInRing, IsFullIfReleased, IsReleasedBelow, IsReleased, IsAtWork, CountsRemaining, Tiles, Laid, AgreesFrom, EndsWithPart, IsRangeBoundary}
 use Rattle.log_rule.specs.Marks.{HasReleaseMarks, HasTrueMark, HasTrueEnds}
 use Rattle.log_rule.specs.GroupViews.{follow_up}
 use Rattle.log_rule.specs.MarkViews.{marked}
@@ -35,18 +35,18 @@ use Rattle.log_rule.specs.Slots.{pieces_at, is_shared_at, shared, phase_at}
 use Rattle.log_rule.specs.Views.{run_in, entries_in, books_in, counted}
 use Rattle.log_rule.specs.Words.{Words, put}
 use Rattle.log_rule.proofs.Boundaries.{range_size, part_size, boundary-mid}
-use Rattle.log_rule.proofs.Carrying.{carrier-here, ends-mid, ends-move}
+use Rattle.log_rule.proofs.Carriers.{carrier-here, ends-mid, ends-move}
 use Rattle.log_rule.proofs.Filling.{HeldRange, range-front, held-range, all-ranges, tiles-held, works-is, found-held, put-here, put-other}
-use Rattle.log_rule.proofs.Keeping.{accounts-stay, records-mid}
+use Rattle.log_rule.proofs.AccountsKept.{accounts-stay, records-mid}
 use Rattle.log_rule.proofs.Lists.{all-mid, all-at, all-weaker, picked-append, picked-same}
 use Rattle.log_rule.proofs.Members.{KeepsView, steps-on, group-grows, keeps-view}
-use Rattle.log_rule.proofs.Owning.{LastPart, last_part, own-last, own-others, parts_of-push, duty-owed, owed-unreleased}
-use Rattle.log_rule.proofs.Ranging.{last-in_two, tiles-le, tiles-mid, tiles-same, tiles-replaced, laid-same, unreleased_in-mid, inside-here, inside-none, filled_in-mid, filled_in-one}
+use Rattle.log_rule.proofs.OwnedParts.{LastPart, last_part, own-last, own-others, parts_of-push, duty-owed, owed-unreleased}
+use Rattle.log_rule.proofs.RangeLists.{last-in_two, tiles-le, tiles-mid, tiles-same, tiles-replaced, laid-same, unreleased_in-mid, inside-here, inside-none, filled_in-mid, filled_in-one}
 use Rattle.log_rule.proofs.Roles.{crew-same, quiet-moves}
 use Rattle.log_rule.proofs.Sharing.{shared-mid, slots-stay}
-use Rattle.log_rule.proofs.Showing.{hands_of-set, changed-range, released_at-others}
+use Rattle.log_rule.proofs.MachineShown.{hands_of-set, changed-range, released_at-others}
 use Rattle.log_rule.proofs.TrueMarks.{true-store, current-store}
-use Rattle.log_rule.proofs.Viewing.{each_moves, each_set, seats_move, seat_at}
+use Rattle.log_rule.proofs.ViewChanges.{each_moves, each_set, seats_move, seat_at}
 
 only-owners : (role : Role) → may_own role ≡ false → is_active role ≡ false
 only-owners Flusher off = refl
@@ -74,10 +74,10 @@ module _ (key : Start) (words : Words) (views : List View) (me : ℕ) (v : View)
   abbrev held : HeldRange me log.ahead entry
   held = held-range key words views me v entry log s at filling
 
-  abbrev range : Range
+  abbrev range : LogRange
   range = held.here
 
-  abbrev front : List Range
+  abbrev front : List LogRange
   front = range-front me entry log held
 
   abbrev old_part : Part
@@ -86,7 +86,7 @@ module _ (key : Start) (words : Words) (views : List View) (me : ℕ) (v : View)
   abbrev part : Part
   part = part_of me true entry
 
-  abbrev now : Range
+  abbrev now : LogRange
   now = record { base = range.base; size = range.size; remaining = 0; duty = Released }
 
   abbrev after : Log
@@ -165,7 +165,7 @@ module _ (key : Start) (words : Words) (views : List View) (me : ℕ) (v : View)
   still x b = subst (λ l. IsRangeBoundary key.start l x) are
       (boundary-mid range_size key.start x front held.behind range now refl (subst (λ l. IsRangeBoundary key.start l x) were b))
 
-  ends-with : (r : Range) → EndsWithPart key.start log.parts r → EndsWithPart key.start after.parts r
+  ends-with : (r : LogRange) → EndsWithPart key.start log.parts r → EndsWithPart key.start after.parts r
   ends-with r b = boundary-mid part_size key.start (r.base + r.size) last.before last.behind old_part part refl
       (subst (λ l. IsTilingBoundary part_size key.start l (r.base + r.size)) last.split b)
 

@@ -18,7 +18,7 @@ use Rattle.log_rule.specs.declared.view.Seen.{Seen}
 use Rattle.log_rule.specs.declared.view.Standing.{Standing}
 use Rattle.log_rule.specs.declared.view.View.{View}
 use Rattle.log_rule.specs.Groups.{Outcome, Granted, Refused, GroupPhase, Vacant, Gathering, Closed, Placed, Ready, Told, Emptied, Piece, Member, Group, put_group}
-use Rattle.log_rule.specs.Log.{Range, Log, ranges_of, IsRangeBoundary}
+use Rattle.log_rule.specs.Log.{LogRange, Log, ranges_of, IsRangeBoundary}
 use Rattle.log_rule.specs.Members.{HadSeenUpTo, HasOutcome, HasPhaseOutcome, HasSeenInGroup, LoadedSince, LoadsAtStep, LoadsForGroup, SawLast, HasSeenLast, AwaitsAtStep, AwaitsPlace, IsTotalOf, IsTotalOfEach, HasTotalAtPhase, HasTotalOfWorkers, IsRefusalOf, HeardOfWorkers}
 use Rattle.log_rule.specs.Roles.{is_spent}
 use Rattle.log_rule.specs.Slots.{led_phase, phase_led, phase_at}
@@ -27,7 +27,7 @@ use Rattle.log_rule.specs.Views.{seen_tail, seen_durable, seen_exposed}
 use Rattle.log_rule.specs.Words.{Words}
 use Rattle.log_rule.proofs.Groups.{group-here, put-keeps, known-led, known-whole}
 use Rattle.log_rule.proofs.Lists.{all-weaker, or-right, among-first, among-more}
-use Rattle.log_rule.proofs.Viewing.{pairs_move}
+use Rattle.log_rule.proofs.ViewChanges.{pairs_move}
 
 -- ---- what a seat saw last
 
@@ -73,7 +73,7 @@ exposed-on groups n seen = record {
   refusals = refl;
 }
 
-module _ (start ring tail durable : ℕ) (ranges : List Range) (groups : ℕ → Group) (seen : Seen)
+module _ (start ring tail durable : ℕ) (ranges : List LogRange) (groups : ℕ → Group) (seen : Seen)
     (in_group : (slot : ℕ) → HasSeenInGroup start ring tail durable ranges (groups slot)) where
   -- it saw the tail: no member of a group had seen more of it
   pub tail-on : KeepsSeen groups seen (seen_tail tail seen)
@@ -160,7 +160,7 @@ loads-put groups slot g seat seen call stay leads = loads-move groups (put_group
 -- ---- what members had seen
 
 -- the words and the boundaries grow
-outcome-grows : (start ring tail tail' durable durable' : ℕ) (ranges ranges' : List Range) (members : List Member) (total : ℕ) (outcome : Outcome)
+outcome-grows : (start ring tail tail' durable durable' : ℕ) (ranges ranges' : List LogRange) (members : List Member) (total : ℕ) (outcome : Outcome)
     → tail ≤ tail' → durable ≤ durable' → ((x : ℕ) → IsRangeBoundary start ranges x → IsRangeBoundary start ranges' x)
     → HasOutcome start ring tail durable ranges members total outcome → HasOutcome start ring tail' durable' ranges' members total outcome
 outcome-grows start ring tail tail' durable durable' ranges ranges' members total (Granted base) more later still o =
@@ -176,7 +176,7 @@ outcome-grows start ring tail tail' durable durable' ranges ranges' members tota
   no_room = o.no_room;
 }
 
-module _ (start ring tail tail' durable durable' : ℕ) (ranges ranges' : List Range) (more : tail ≤ tail') (later : durable ≤ durable')
+module _ (start ring tail tail' durable durable' : ℕ) (ranges ranges' : List LogRange) (more : tail ≤ tail') (later : durable ≤ durable')
     (still : (x : ℕ) → IsRangeBoundary start ranges x → IsRangeBoundary start ranges' x) where
   phase-grows : (members : List Member) (phase : GroupPhase) → HasPhaseOutcome start ring tail durable ranges members phase
       → HasPhaseOutcome start ring tail' durable' ranges' members phase

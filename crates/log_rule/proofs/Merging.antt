@@ -8,7 +8,7 @@ use Rattle.lock_core.specs.History.{history_from}
 use Rattle.log_rule.specs.declared.view.Books.{Books}
 use Rattle.log_rule.specs.Accounts.{KeepsAccounts}
 use Rattle.log_rule.specs.Books.{no_books, merging}
-use Rattle.log_rule.proofs.Gathered.{joins}
+use Rattle.log_rule.proofs.GatheredSeats.{joins}
 use Rattle.log_rule.specs.declared.start.Start.{Start}
 use Rattle.log_rule.specs.declared.view.Call.TheVariants.{Idle}
 use Rattle.log_rule.specs.declared.view.View.{View}
@@ -22,15 +22,15 @@ use Rattle.log_rule.specs.Slots.{pieces_at, phase_at}
 use Rattle.log_rule.specs.Views.{nobody, entries_in, claims_in}
 use Rattle.log_rule.specs.CrewViews.{takes_in}
 use Rattle.log_rule.specs.Words.{Words, words_in}
-use Rattle.log_rule.proofs.Carrying.{carrier-set, ends-move}
+use Rattle.log_rule.proofs.Carriers.{carrier-set, ends-move}
 use Rattle.log_rule.proofs.CrewMerging.{ended-rests, ended-unspent, not-flusher, without, at-without, each-merged, crew-merges}
-use Rattle.log_rule.proofs.Keeping.{books-at, books-set}
+use Rattle.log_rule.proofs.AccountsKept.{books-at, books-set}
 use Rattle.log_rule.proofs.Lists.{all-append, all-weaker}
 use Rattle.log_rule.proofs.Members.{among-max, heard-moves}
 use Rattle.log_rule.proofs.Renaming.{rename, own-renamed, own-renamed-from, own-renamed-else, all-renamed, laid-renamed, unreleased_in-renamed, boundary-renamed, records-renamed}
 use Rattle.log_rule.proofs.Roles.{quiet-moves}
 use Rattle.log_rule.proofs.Stopping.{either-read}
-use Rattle.log_rule.proofs.Viewing.{seats_move, seat_at, pairs_move}
+use Rattle.log_rule.proofs.ViewChanges.{seats_move, seat_at, pairs_move}
 
 set-swap : (views : List View) (a b : ℕ) (x y : View) → a ≢ b → set (set views a x) b y ≡ set (set views b y) a x
 set-swap [] a b x y differ = refl

@@ -13,7 +13,7 @@ use Rattle.log_rule.specs.CrewViews.{noted}
 use Rattle.log_rule.specs.Words.{Words, words_in}
 use Rattle.log_rule.proofs.Adding.{adds}
 use Rattle.log_rule.proofs.Roles.{unbound}
-use Rattle.log_rule.proofs.Viewing.{each_push, pairs_push}
+use Rattle.log_rule.proofs.ViewChanges.{each_push, pairs_push}
 
 set-same : (views : List View) (me : ℕ) (v : View) → get_elem? views me ≡ some v → set views me v ≡ views
 set-same [] me v at = refl

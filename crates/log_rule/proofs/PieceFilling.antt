@@ -25,9 +25,9 @@ use Rattle.log_rule.specs.Views.{call_with_unit, counted, filled}
 use Rattle.log_rule.specs.Words.{Words, put}
 use Rattle.log_rule.proofs.Filling.{FillsEntry, after, sound, reservations, run-step}
 use Rattle.log_rule.proofs.Groups.{shown-at}
-use Rattle.log_rule.proofs.Showing.{hands_of-set, task_of-hands_of}
+use Rattle.log_rule.proofs.MachineShown.{hands_of-set, task_of-hands_of}
 use Rattle.log_rule.proofs.ToldMembers.{lies-within, group-range}
-use Rattle.log_rule.proofs.Viewing.{seat_at}
+use Rattle.log_rule.proofs.ViewChanges.{seat_at}
 
 -- a member has the piece's entry with one more unit filled, and all else as before
 piece-fills : (groups : ℕ → Group) (seat slot : ℕ) (piece : Piece) (base : ℕ) (units : List ℕ) (unit : ℕ) (old : Call)

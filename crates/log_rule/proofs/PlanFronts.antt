@@ -9,11 +9,11 @@ use Rattle.log_record.specs.declared.limits.TheConstants.{MOST_ACCOUNTS, MOST_BA
 use Rattle.lsn_space.specs.declared.lsn.TheConstants.{LAST}
 use Rattle.lock_core.specs.Transactions.{has_end, in_order}
 use Rattle.lock_core.specs.Alone.{lacks, overfills, after_leg, with_note, leg_updates, planned_from, planned_records}
-use Rattle.lock_core.specs.Serial.{Task}
+use Rattle.lock_core.specs.Serial.{NumberedTransfer}
 use Rattle.log_rule.proofs.Deltas.{more-delta, less-delta}
 use Rattle.log_rule.proofs.Planning.{Walk, walk-at, IsNoteStep}
 
-abbrev pub FirstIfNote : Task → List Rec → Rec → Type 0
+abbrev pub FirstIfNote : NumberedTransfer → List Rec → Rec → Type 0
 FirstIfNote task before (Note txn text) = IsNoteStep task before txn text
 FirstIfNote task before (Genesis account balance) = Unit {0}
 FirstIfNote task before (Update txn account delta prev) = Unit {0}
@@ -21,7 +21,7 @@ FirstIfNote task before (Commit txn legs) = Unit {0}
 FirstIfNote task before (Short txn leg) = Unit {0}
 FirstIfNote task before (Over txn leg) = Unit {0}
 
-pub record IsPlanned (task : Task) (before : List Rec) (rec : Rec) (rest : List Rec) : Type 0 where
+pub record IsPlanned (task : NumberedTransfer) (before : List Rec) (rec : Rec) (rest : List Rec) : Type 0 where
   pub unended : has_end before ≡ false
   pub spellable : IsSpellable rec
   pub note : FirstIfNote task before rec
@@ -33,7 +33,7 @@ pub record IsSmallLeg (leg : ℕ × ℕ × ℕ) : Type 0 where
   pub least : 1 ≤ leg.2
   pub most : leg.2 ≤ MOST_BALANCE
 
-module _ (task : Task) (mark : ℕ → ℕ) (txn-fits : IsTxn task.number) (marks : (account : ℕ) → mark account ≤ LAST) where
+module _ (task : NumberedTransfer) (last_commit : ℕ → ℕ) (txn-fits : IsTxn task.number) (marks : (account : ℕ) → last_commit account ≤ LAST) where
   abbrev txn : ℕ
   txn = task.number
 
@@ -41,21 +41,21 @@ module _ (task : Task) (mark : ℕ → ℕ) (txn-fits : IsTxn task.number) (mark
   T = IsPlanned task
 
   front-from : (legs : List (ℕ × ℕ × ℕ)) (balance : ℕ → ℕ) (k : ℕ) (before : List Rec) → has_end before ≡ false → 1 ≤ k + length legs
-      → k + length legs ≤ 8 → AllByRecursion IsSmallLeg legs → Walk T before (planned_from txn mark balance k legs)
+      → k + length legs ≤ 8 → AllByRecursion IsSmallLeg legs → Walk T before (planned_from txn last_commit balance k legs)
   front-from [] balance k before unended least few small =
       (record { unended = unended; spellable = (txn-fits, (omega arith, omega arith)); note = tt }, tt)
   front-from (leg ∷ legs) balance k before unended least few small = by_case (lacks leg balance) (overfills leg balance)
       (front-from legs (after_leg leg balance) (k + 1) (more ∷ less ∷ before) unended (omega (arith, few)) (omega (arith, few)) small.1)
     where
       less : Rec
-      less = Update txn leg.0 (neg_ℤ (pos leg.2)) (mark leg.0)
+      less = Update txn leg.0 (neg_ℤ (pos leg.2)) (last_commit leg.0)
 
       more : Rec
-      more = Update txn leg.1 (pos leg.2) (mark leg.1)
+      more = Update txn leg.1 (pos leg.2) (last_commit leg.1)
 
-      by_case : (short over : Bool) → Walk T (more ∷ less ∷ before) (planned_from txn mark (after_leg leg balance) (k + 1) legs)
+      by_case : (short over : Bool) → Walk T (more ∷ less ∷ before) (planned_from txn last_commit (after_leg leg balance) (k + 1) legs)
           → Walk T before (cond short (Short txn (k + 1) ∷ []) (cond over (Over txn (k + 1) ∷ [])
-          (less ∷ more ∷ planned_from txn mark (after_leg leg balance) (k + 1) legs)))
+          (less ∷ more ∷ planned_from txn last_commit (after_leg leg balance) (k + 1) legs)))
       by_case true over rest = (record { unended = unended; spellable = (txn-fits, (omega arith, omega (arith, few))); note = tt }, tt)
       by_case false true rest = (record { unended = unended; spellable = (txn-fits, (omega arith, omega (arith, few))); note = tt }, tt)
       by_case false false rest = (
@@ -64,10 +64,10 @@ module _ (task : Task) (mark : ℕ → ℕ) (txn-fits : IsTxn task.number) (mark
       )
 
   front-plan : (balance : ℕ → ℕ) → 1 ≤ length task.job.legs → length task.job.legs ≤ 8 → AllByRecursion IsSmallLeg task.job.legs
-      → (task.job.note ≡ []) ⊎ IsNoteText task.job.note → Walk T [] (planned_records txn task.job mark balance)
+      → (task.job.note ≡ []) ⊎ IsNoteText task.job.note → Walk T [] (planned_records txn task.job last_commit balance)
   front-plan balance least few small text = by_note task.job.note refl
     where
-      by_note : (note : List ℕ) → note ≡ task.job.note → Walk T [] (with_note txn note (planned_from txn mark balance 0 task.job.legs))
+      by_note : (note : List ℕ) → note ≡ task.job.note → Walk T [] (with_note txn note (planned_from txn last_commit balance 0 task.job.legs))
       by_note [] is = front-from task.job.legs balance 0 [] refl (omega (arith, least)) (omega (arith, few)) small
       by_note (byte ∷ bytes) is = (
         record {
@@ -88,6 +88,6 @@ module _ (task : Task) (mark : ℕ → ℕ) (txn-fits : IsTxn task.number) (mark
   -- the record that comes next
   pub next-planned : (balance : ℕ → ℕ) → 1 ≤ length task.job.legs → length task.job.legs ≤ 8 → AllByRecursion IsSmallLeg task.job.legs
       → (task.job.note ≡ []) ⊎ IsNoteText task.job.note → (before : List Rec) (rec : Rec) (rest : List Rec)
-      → in_order before (rec ∷ rest) ≡ planned_records txn task.job mark balance → IsPlanned task before rec rest
+      → in_order before (rec ∷ rest) ≡ planned_records txn task.job last_commit balance → IsPlanned task before rec rest
   next-planned balance least few small text before rec rest next =
       (walk-at T before (rec ∷ rest) (subst (Walk T []) (sym next) (front-plan balance least few small text))).0

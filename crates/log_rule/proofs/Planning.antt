@@ -12,7 +12,7 @@ use Rattle.lock_core.specs.Transactions.{changes_in, has_end, touches, all_witho
 use Rattle.lock_core.specs.Sums.{moved}
 use Rattle.lock_core.specs.Tests.{IsPaired, IsOpposite}
 use Rattle.lock_core.specs.Alone.{lacks, overfills, after_leg, with_note, leg_updates, planned_from, planned_records}
-use Rattle.lock_core.specs.Serial.{Task}
+use Rattle.lock_core.specs.Serial.{NumberedTransfer}
 use Rattle.log_rule.proofs.Deltas.{lowers-less, gain-less, loss-less, less-twice}
 
 -- each record of a list has this, with the records before it, newest first, and those behind it
@@ -25,20 +25,20 @@ walk-at T [] rest walk = walk
 walk-at T (rec ∷ before) rest walk = (walk-at T before (rec ∷ rest) walk).1
 
 -- the records are a front of the transfer's Note and Updates
-pub record IsFront (task : Task) (records : List Rec) : Type 0 where
+pub record IsFront (task : NumberedTransfer) (records : List Rec) : Type 0 where
   pub rest : List Rec
   pub front : in_order (all_without_prev records) rest ≡ with_note task.number task.job.note (leg_updates task.number task.job.legs)
 
 -- a change with the last Commit as taken, of an account that is held
-abbrev pub IsMarked : (ℕ → Type 0) → (ℕ → ℕ) → Change → Type 0
-IsMarked P mark change = (change.prev ≡ mark change.account) × P change.account
+abbrev pub NamesLastCommit : (ℕ → Type 0) → (ℕ → ℕ) → Change → Type 0
+NamesLastCommit P last_commit change = (change.prev ≡ last_commit change.account) × P change.account
 
-pub record IsUpdateStep (task : Task) (P : ℕ → Type 0) (mark : ℕ → ℕ) (before : List Rec) (txn account : ℕ) (delta : ℤ) (prev : ℕ) : Type 0 where
+pub record IsUpdateStep (task : NumberedTransfer) (P : ℕ → Type 0) (last_commit : ℕ → ℕ) (before : List Rec) (txn account : ℕ) (delta : ℤ) (prev : ℕ) : Type 0 where
   pub own : txn ≡ task.number
   pub unended : has_end before ≡ false
   pub legs : length (changes_in before) ≤ 15
   pub paired : IsPaired (changes_in before) (record { account = account; delta = delta; prev = prev })
-  pub marked : IsMarked P mark (record { account = account; delta = delta; prev = prev })
+  pub marked : NamesLastCommit P last_commit (record { account = account; delta = delta; prev = prev })
   pub cut : IsFront task (Update txn account delta prev ∷ before)
 
 -- a balance in its range, which is that of before with what the changes move
@@ -47,42 +47,42 @@ pub record HasBalance (balance : ℕ → ℕ) (changes : List Change) (account :
   pub range : IsBalance now
   pub sum : now + moved loss account changes ≡ balance account + moved gain account changes
 
-pub record IsCommitStep (task : Task) (balance : ℕ → ℕ) (before : List Rec) (txn legs : ℕ) (rest : List Rec) : Type 0 where
+pub record IsCommitStep (task : NumberedTransfer) (balance : ℕ → ℕ) (before : List Rec) (txn legs : ℕ) (rest : List Rec) : Type 0 where
   pub own : txn ≡ task.number
   pub unended : has_end before ≡ false
   pub count : length (changes_in before) ≡ 2 * legs
   pub last : rest ≡ []
   pub balances : (account : ℕ) → HasBalance balance (changes_in before) account
 
-pub record IsRefusalStep (task : Task) (before : List Rec) (txn leg : ℕ) (rest : List Rec) : Type 0 where
+pub record IsRefusalStep (task : NumberedTransfer) (before : List Rec) (txn leg : ℕ) (rest : List Rec) : Type 0 where
   pub own : txn ≡ task.number
   pub unended : has_end before ≡ false
   pub count : length (changes_in before) ≡ 2 * (leg - 1)
   pub last : rest ≡ []
 
-pub record IsNoteStep (task : Task) (before : List Rec) (txn : ℕ) (text : List ℕ) : Type 0 where
+pub record IsNoteStep (task : NumberedTransfer) (before : List Rec) (txn : ℕ) (text : List ℕ) : Type 0 where
   pub own : txn ≡ task.number
   pub unended : has_end before ≡ false
   pub cut : IsFront task (Note txn text ∷ before)
 
 -- what is known of a record that comes behind these and before those
-abbrev pub Step : Task → (ℕ → Type 0) → (ℕ → ℕ) → (ℕ → ℕ) → List Rec → Rec → List Rec → Type 0
-Step task P mark balance before (Genesis account amount) rest = ⊥
-Step task P mark balance before (Update txn account delta prev) rest = IsUpdateStep task P mark before txn account delta prev
-Step task P mark balance before (Commit txn legs) rest = IsCommitStep task balance before txn legs rest
-Step task P mark balance before (Short txn leg) rest = IsRefusalStep task before txn leg rest
-Step task P mark balance before (Over txn leg) rest = IsRefusalStep task before txn leg rest
-Step task P mark balance before (Note txn text) rest = IsNoteStep task before txn text
+abbrev pub Step : NumberedTransfer → (ℕ → Type 0) → (ℕ → ℕ) → (ℕ → ℕ) → List Rec → Rec → List Rec → Type 0
+Step task P last_commit balance before (Genesis account amount) rest = ⊥
+Step task P last_commit balance before (Update txn account delta prev) rest = IsUpdateStep task P last_commit before txn account delta prev
+Step task P last_commit balance before (Commit txn legs) rest = IsCommitStep task balance before txn legs rest
+Step task P last_commit balance before (Short txn leg) rest = IsRefusalStep task before txn leg rest
+Step task P last_commit balance before (Over txn leg) rest = IsRefusalStep task before txn leg rest
+Step task P last_commit balance before (Note txn text) rest = IsNoteStep task before txn text
 
 -- all changes so far have their last Commit as taken
-pub walk-marked : (task : Task) (P : ℕ → Type 0) (mark balance : ℕ → ℕ) (before rest : List Rec)
-    → Walk (Step task P mark balance) [] (in_order before rest) → AllByRecursion (IsMarked P mark) (changes_in before)
-walk-marked task P mark balance [] rest walk = tt
-walk-marked task P mark balance (rec ∷ before) rest walk =
-    more rec (walk-at (Step task P mark balance) before (rec ∷ rest) walk).0 (walk-marked task P mark balance before (rec ∷ rest) walk)
+pub walk-last_commits : (task : NumberedTransfer) (P : ℕ → Type 0) (last_commit balance : ℕ → ℕ) (before rest : List Rec)
+    → Walk (Step task P last_commit balance) [] (in_order before rest) → AllByRecursion (NamesLastCommit P last_commit) (changes_in before)
+walk-last_commits task P last_commit balance [] rest walk = tt
+walk-last_commits task P last_commit balance (rec ∷ before) rest walk =
+    more rec (walk-at (Step task P last_commit balance) before (rec ∷ rest) walk).0 (walk-last_commits task P last_commit balance before (rec ∷ rest) walk)
   where
-    more : (rec : Rec) → Step task P mark balance before rec rest → AllByRecursion (IsMarked P mark) (changes_in before)
-        → AllByRecursion (IsMarked P mark) (changes_in (rec ∷ before))
+    more : (rec : Rec) → Step task P last_commit balance before rec rest → AllByRecursion (NamesLastCommit P last_commit) (changes_in before)
+        → AllByRecursion (NamesLastCommit P last_commit) (changes_in (rec ∷ before))
     more (Genesis account amount) step all = all
     more (Update txn account delta prev) step all = (step.marked, all)
     more (Commit txn legs) step all = all
@@ -91,11 +91,11 @@ walk-marked task P mark balance (rec ∷ before) rest walk =
     more (Note txn text) step all = all
 
 -- an account that is not held is not changed
-pub untouched : (P : ℕ → Type 0) (mark : ℕ → ℕ) (changes : List Change) (account : ℕ) → (P account → ⊥) → AllByRecursion (IsMarked P mark) changes
+pub untouched : (P : ℕ → Type 0) (last_commit : ℕ → ℕ) (changes : List Change) (account : ℕ) → (P account → ⊥) → AllByRecursion (NamesLastCommit P last_commit) changes
     → touches account changes ≡ false
-untouched P mark [] account none all = refl
-untouched P mark (change ∷ changes) account none all =
-    λ i. ne_eqb change.account account (λ same. none (subst P same all.0.1)) i || untouched P mark changes account none all.1 i
+untouched P last_commit [] account none all = refl
+untouched P last_commit (change ∷ changes) account none all =
+    λ i. ne_eqb change.account account (λ same. none (subst P same all.0.1)) i || untouched P last_commit changes account none all.1 i
 
 -- the balances after a leg are those before it with what its Updates move
 leg-moves : (payer payee : Bool) (balance amount taken added start less : ℕ) → less ≡ amount → (payer ≡ true → amount ≤ balance)
@@ -135,12 +135,12 @@ IsHeldLeg P leg = (leg.0 ≢ leg.1) × (1 ≤ leg.2) × P leg.0 × P leg.1
 abbrev IsClosed : List Change → Type 0
 IsClosed changes = (change : Change) → lowers change.delta ≡ true → IsPaired changes change
 
-module _ (task : Task) (P : ℕ → Type 0) (mark start : ℕ → ℕ) where
+module _ (task : NumberedTransfer) (P : ℕ → Type 0) (last_commit start : ℕ → ℕ) where
   abbrev txn : ℕ
   txn = task.number
 
   abbrev T : List Rec → Rec → List Rec → Type 0
-  T = Step task P mark start
+  T = Step task P last_commit start
 
   abbrev Sums : (ℕ → ℕ) → List Change → Type 0
   Sums balance changes = (account : ℕ) → balance account + moved loss account changes ≡ start account + moved gain account changes
@@ -149,21 +149,21 @@ module _ (task : Task) (P : ℕ → Type 0) (mark start : ℕ → ℕ) where
   Ranges balance = (account : ℕ) → balance account ≤ MOST_BALANCE
 
   abbrev less : ℕ × ℕ × ℕ → Rec
-  less leg = Update txn leg.0 (neg_ℤ (pos leg.2)) (mark leg.0)
+  less leg = Update txn leg.0 (neg_ℤ (pos leg.2)) (last_commit leg.0)
 
   abbrev more : ℕ × ℕ × ℕ → Rec
-  more leg = Update txn leg.1 (pos leg.2) (mark leg.1)
+  more leg = Update txn leg.1 (pos leg.2) (last_commit leg.1)
 
   -- the rest of the walk, behind a leg
   abbrev Goes : ℕ × ℕ × ℕ → List (ℕ × ℕ × ℕ) → (ℕ → ℕ) → ℕ → List Rec → Type 0
   Goes leg legs balance k before = Ranges (after_leg leg balance) → Sums (after_leg leg balance) (changes_in (more leg ∷ less leg ∷ before))
-      → Walk T (more leg ∷ less leg ∷ before) (planned_from txn mark (after_leg leg balance) (k + 1) legs)
+      → Walk T (more leg ∷ less leg ∷ before) (planned_from txn last_commit (after_leg leg balance) (k + 1) legs)
 
   pub walk-from : (legs : List (ℕ × ℕ × ℕ)) (balance : ℕ → ℕ) (k : ℕ) (before : List Rec) → has_end before ≡ false
       → length (changes_in before) ≡ 2 * k → IsClosed (changes_in before) → k + length legs ≤ 8 → AllByRecursion (IsHeldLeg P) legs
       → Ranges balance → Sums balance (changes_in before)
       → in_order (all_without_prev before) (leg_updates txn legs) ≡ with_note txn task.job.note (leg_updates txn task.job.legs)
-      → Walk T before (planned_from txn mark balance k legs)
+      → Walk T before (planned_from txn last_commit balance k legs)
   walk-from [] balance k before unended count closed few held range sums front =
       (record { own = refl; unended = unended; count = count; last = refl; balances = λ account. record { now = balance account; range = range account; sum = sums account } }, tt)
   walk-from (leg ∷ legs) balance k before unended count closed few held range sums front = by_short (lacks leg balance) refl
@@ -171,7 +171,7 @@ module _ (task : Task) (P : ℕ → Type 0) (mark start : ℕ → ℕ) where
       (omega (arith, few)) held.1 ranges moves front)
     where
       two : Goes leg legs balance k before → leg.2 ≤ balance leg.0 → balance leg.1 + leg.2 ≤ MOST_BALANCE
-          → Walk T before (less leg ∷ more leg ∷ planned_from txn mark (after_leg leg balance) (k + 1) legs)
+          → Walk T before (less leg ∷ more leg ∷ planned_from txn last_commit (after_leg leg balance) (k + 1) legs)
       two go enough fits = (
         record {
           own = refl;
@@ -186,34 +186,34 @@ module _ (task : Task) (P : ℕ → Type 0) (mark start : ℕ → ℕ) where
             own = refl;
             unended = unended;
             legs = omega (arith, few, count);
-            paired = subst (λ (b : Bool). MatchBool b (IsOpposite (record { account = leg.0; delta = neg_ℤ (pos leg.2); prev = mark leg.0 })
-                (record { account = leg.1; delta = pos leg.2; prev = mark leg.1 })) (lowers (pos leg.2) ≡ true)) (sym (lowers-less leg.2 held.0.1))
+            paired = subst (λ (b : Bool). MatchBool b (IsOpposite (record { account = leg.0; delta = neg_ℤ (pos leg.2); prev = last_commit leg.0 })
+                (record { account = leg.1; delta = pos leg.2; prev = last_commit leg.1 })) (lowers (pos leg.2) ≡ true)) (sym (lowers-less leg.2 held.0.1))
                 (less-twice leg.2, λ same. held.0.0 (sym same));
             marked = (refl, held.0.3);
             cut = record { rest = leg_updates txn legs; front = front };
           },
           go (λ account. leg-range (leg.0 == account) (leg.1 == account) (balance account) leg.2 (range account)
               (λ is. subst (λ a. balance a + leg.2 ≤ MOST_BALANCE) (eqb-true leg.1 account is) fits))
-              (λ account. leg-sums leg balance start (changes_in before) (mark leg.0) (mark leg.1) account held.0.0 enough (sums account)),
+              (λ account. leg-sums leg balance start (changes_in before) (last_commit leg.0) (last_commit leg.1) account held.0.0 enough (sums account)),
         ),
       )
 
       by_over : Goes leg legs balance k before → (b : Bool) → overfills leg balance ≡ b → leg.2 ≤ balance leg.0
-          → Walk T before (cond b (Over txn (k + 1) ∷ []) (less leg ∷ more leg ∷ planned_from txn mark (after_leg leg balance) (k + 1) legs))
+          → Walk T before (cond b (Over txn (k + 1) ∷ []) (less leg ∷ more leg ∷ planned_from txn last_commit (after_leg leg balance) (k + 1) legs))
       by_over go true is enough = (record { own = refl; unended = unended; count = omega (arith, count); last = refl }, tt)
       by_over go false is enough = two go enough (ltb-false MOST_BALANCE (balance leg.1 + leg.2) is)
 
       by_short : (b : Bool) → lacks leg balance ≡ b → Goes leg legs balance k before
           → Walk T before (cond b (Short txn (k + 1) ∷ []) (cond (overfills leg balance) (Over txn (k + 1) ∷ [])
-          (less leg ∷ more leg ∷ planned_from txn mark (after_leg leg balance) (k + 1) legs)))
+          (less leg ∷ more leg ∷ planned_from txn last_commit (after_leg leg balance) (k + 1) legs)))
       by_short true is go = (record { own = refl; unended = unended; count = omega (arith, count); last = refl }, tt)
       by_short false is go = by_over go (overfills leg balance) refl (ltb-false (balance leg.0) leg.2 is)
 
   pub walk-plan : length task.job.legs ≤ 8 → AllByRecursion (IsHeldLeg P) task.job.legs → Ranges start
-      → Walk T [] (planned_records txn task.job mark start)
+      → Walk T [] (planned_records txn task.job last_commit start)
   walk-plan few held range = by_note task.job.note refl
     where
-      by_note : (note : List ℕ) → note ≡ task.job.note → Walk T [] (with_note txn note (planned_from txn mark start 0 task.job.legs))
+      by_note : (note : List ℕ) → note ≡ task.job.note → Walk T [] (with_note txn note (planned_from txn last_commit start 0 task.job.legs))
       by_note [] is = walk-from task.job.legs start 0 [] refl refl (λ change down. down) (omega (arith, few)) held range (λ account. refl)
           (ap (λ n. with_note txn n (leg_updates txn task.job.legs)) is)
       by_note (byte ∷ bytes) is =

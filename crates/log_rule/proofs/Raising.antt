@@ -22,7 +22,7 @@ use Rattle.log_rule.specs.declared.view.View.{View}
 use Rattle.log_rule.specs.Events.{reservation_of, task_in, hands_of, slots_of, Leads, IsStep, raises}
 use Rattle.log_rule.specs.GroupViews.{slot_after}
 use Rattle.log_rule.specs.Layout.{Exposed}
-use Rattle.log_rule.specs.Log.{Part, Range, Log, ranges_of, owed, is_owed_by, claim_of, parts_of, unreleased_in, IsReleased, IsAtWork, IsReleasedBelow, CountsRemaining, EndsWithPart, IsRangeBoundary, Tiles}
+use Rattle.log_rule.specs.Log.{Part, LogRange, Log, ranges_of, owed, is_owed_by, claim_of, parts_of, unreleased_in, IsReleased, IsAtWork, IsReleasedBelow, CountsRemaining, EndsWithPart, IsRangeBoundary, Tiles}
 use Rattle.log_rule.specs.Marks.{IsReady, IsCurrentMark, HasTrueMark, IsFirstReleased, FirstEnds, HasTrueEnds}
 use Rattle.log_rule.specs.MarkViews.{call_with_exposed, after_raise}
 use Rattle.log_rule.specs.May.{MayRaise}
@@ -31,30 +31,30 @@ use Rattle.log_rule.specs.Sound.{HasSeenBoundaries, HasContiguousReservations, S
 use Rattle.log_rule.specs.Slots.{pieces_at, is_shared_at, phase_at}
 use Rattle.log_rule.specs.Views.{entries_in, books_in, claims_in, seen_exposed}
 use Rattle.log_rule.specs.Words.{Words}
-use Rattle.log_rule.proofs.Carrying.{carrier-here}
+use Rattle.log_rule.proofs.Carriers.{carrier-here}
 use Rattle.log_rule.proofs.Exposing.{raise-misses}
-use Rattle.log_rule.proofs.Keeping.{accounts-stay}
+use Rattle.log_rule.proofs.AccountsKept.{accounts-stay}
 use Rattle.log_rule.proofs.Lifting.{Tells}
 use Rattle.log_rule.proofs.Lists.{all-append, all-both, all-weaker}
-use Rattle.log_rule.proofs.Looking.{exposed-boundary}
+use Rattle.log_rule.proofs.Loads.{exposed-boundary}
 use Rattle.log_rule.proofs.Members.{KeepsView, exposed-on, group-grows, keeps-view}
 use Rattle.log_rule.proofs.MarkLooks.{StartsAt, found-at, ready-marked, marked-ready}
-use Rattle.log_rule.proofs.Ranging.{tiles-le, tiles-push, all-released}
+use Rattle.log_rule.proofs.RangeLists.{tiles-le, tiles-push, all-released}
 use Rattle.log_rule.proofs.Roles.{busy-not_quiet, crew-same, quiet-moves}
 use Rattle.log_rule.proofs.Sharing.{shared-rest, slots-stay}
-use Rattle.log_rule.proofs.Showing.{hands_of-set, task_of-hands_of}
+use Rattle.log_rule.proofs.MachineShown.{hands_of-set, task_of-hands_of}
 use Rattle.log_rule.proofs.TrueMarks.{IsFirstReady, current-raise}
-use Rattle.log_rule.proofs.Viewing.{each_moves, each_set, seats_move, seat_at}
+use Rattle.log_rule.proofs.ViewChanges.{each_moves, each_set, seats_move, seat_at}
 
 -- the first range, which is released, and those behind it
-record FirstRange (ranges : List Range) (to : ℕ) : Type 0 where
-  here : Range
-  behind : List Range
+record FirstRange (ranges : List LogRange) (to : ℕ) : Type 0 where
+  here : LogRange
+  behind : List LogRange
   split : ranges ≡ here ∷ behind
   released : IsReleased here
   ends : to ≡ here.base + here.size
 
-first-range : (ranges : List Range) (to : ℕ) → FirstEnds ranges to → FirstRange ranges to
+first-range : (ranges : List LogRange) (to : ℕ) → FirstEnds ranges to → FirstRange ranges to
 first-range [] to first = absurd first
 first-range (r ∷ rs) to first = record { here = r; behind = rs; split = refl; released = first.0; ends = first.1 }
 
@@ -69,10 +69,10 @@ module _ (key : Start) (words : Words) (views : List View) (me : ℕ) (v : View)
   abbrev first : FirstRange log.ahead to
   first = first-range log.ahead to ((subst (HasTrueEnds key.start words.exposed log) may.raising (s.ends me v at)).1 (sym same))
 
-  abbrev range : Range
+  abbrev range : LogRange
   range = first.here
 
-  abbrev rest : List Range
+  abbrev rest : List LogRange
   rest = first.behind
 
   abbrev after : Log
@@ -87,7 +87,7 @@ module _ (key : Start) (words : Words) (views : List View) (me : ℕ) (v : View)
   higher : words.exposed < to
   higher = omega (arith, end, tiles.1)
 
-  behind-of : (P : Range → Type 0) → AllByRecursion P log.ahead → AllByRecursion P rest
+  behind-of : (P : LogRange → Type 0) → AllByRecursion P log.ahead → AllByRecursion P rest
   behind-of P all = (subst (AllByRecursion P) first.split all).1
 
   same-ranges : ranges_of log ≡ ranges_of after

@@ -15,12 +15,12 @@ use Rattle.log_rule.specs.Sound.{StoresStop, HasReadStop, SendsInsertedUnits, Is
 use Rattle.log_rule.specs.Roles.{is_spent}
 use Rattle.log_rule.specs.Views.{counted, has_read, sent_to}
 use Rattle.log_rule.specs.Words.{Words, put}
-use Rattle.log_rule.proofs.Agreeing.{agrees-push, entries-from}
+use Rattle.log_rule.proofs.AgreedUnits.{agrees-push, entries-from}
 use Rattle.log_rule.proofs.Lifting.{Tells}
 use Rattle.log_rule.proofs.Lists.{all-both}
-use Rattle.log_rule.proofs.Looking.{looks, durable-boundary, part-boundary}
+use Rattle.log_rule.proofs.Loads.{looks, durable-boundary, part-boundary}
 use Rattle.log_rule.proofs.Members.{steps-on}
-use Rattle.log_rule.proofs.Viewing.{each_set}
+use Rattle.log_rule.proofs.ViewChanges.{each_set}
 
 -- what stands at a place, put there again, changes nothing
 pub put-same : (f : ℕ → ℕ) (at n k : ℕ) → f at ≡ n → put f at n k ≡ f k

@@ -26,10 +26,10 @@ use Rattle.log_rule.specs.Words.{Words, put}
 use Rattle.log_rule.proofs.Filling.{put-here, put-other}
 use Rattle.log_rule.proofs.GroupLeaving.{ToldMember, Left, turns, group-is, left-kept}
 use Rattle.log_rule.proofs.Groups.{Keeps, Others}
-use Rattle.log_rule.proofs.Showing.{task_of-hands_of}
+use Rattle.log_rule.proofs.MachineShown.{task_of-hands_of}
 use Rattle.log_rule.proofs.SlotLeading.{active}
 use Rattle.log_rule.proofs.SlotShowing.{group-shown, shows-moved}
-use Rattle.log_rule.proofs.Slotting.{Mine, elsewhere, slot-sound}
+use Rattle.log_rule.proofs.SlotChanges.{Mine, elsewhere, slot-sound}
 
 module _ (key : Start) (words : Words) (views : List View) (me : ℕ) (v : View) (slot : ℕ) (piece : Piece) (tail durable : ℕ) (log : Log)
     (s : IsSound key words views log) (at : get_elem? views me ≡ some v) (leaves : v.call ≡ Joined slot piece (Leaves tail durable))

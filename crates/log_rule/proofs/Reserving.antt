@@ -14,7 +14,7 @@ use Rattle.log_rule.specs.declared.view.View.{View}
 use Rattle.slot_core.specs.State.{SlotState}
 use Rattle.log_rule.specs.Events.{reservation_of, task_in, slots_of, Leads, IsStep, none, reserves}
 use Rattle.log_rule.specs.Layout.{Tail}
-use Rattle.log_rule.specs.Log.{Part, Owed, Range, Log, ranges_of, part_of, parts_of, SpellsRecord, records_in, IsAtWork}
+use Rattle.log_rule.specs.Log.{Part, Owed, LogRange, Log, ranges_of, part_of, parts_of, SpellsRecord, records_in, IsAtWork}
 use Rattle.log_rule.specs.Marks.{Carries}
 use Rattle.log_rule.specs.May.{MayReserve}
 use Rattle.log_rule.specs.Sound.{EachView, EachSeat, HasWorkingOwner, IsSound, base_of, history_in, books_of}
@@ -34,16 +34,16 @@ use Rattle.log_rule.specs.declared.view.Books.{Books}
 use Rattle.log_rule.specs.Accounts.{KeepsAccounts}
 use Rattle.log_rule.specs.Books.{next_of, placing}
 use Rattle.log_rule.proofs.Entering.{enters, enters-spellable}
-use Rattle.log_rule.proofs.Keeping.{books-at, records-push, history-push, history-end}
+use Rattle.log_rule.proofs.AccountsKept.{books-at, records-push, history-push, history-end}
 use Rattle.std.proofs.lemmas.List.{map-set}
 use Rattle.log_rule.proofs.Lists.{all-append}
 use Rattle.log_rule.proofs.Members.{group-grows}
-use Rattle.log_rule.proofs.Owning.{own-push, own-push_others, owed-push, owed-push_others}
-use Rattle.log_rule.proofs.Ranging.{inside-here}
+use Rattle.log_rule.proofs.OwnedParts.{own-push, own-push_others, owed-push, owed-push_others}
+use Rattle.log_rule.proofs.RangeLists.{inside-here}
 use Rattle.log_rule.proofs.Sharing.{shared-push, slots-stay}
-use Rattle.log_rule.proofs.Showing.{hands_of-set, task_of-hands_of}
+use Rattle.log_rule.proofs.MachineShown.{hands_of-set, task_of-hands_of}
 use Rattle.log_rule.proofs.TailMoving.{AreNewParts, still, tail-moves, reservations-more, exchange-by}
-use Rattle.log_rule.proofs.Viewing.{each_set, seats_move, seat_at}
+use Rattle.log_rule.proofs.ViewChanges.{each_set, seats_move, seat_at}
 
 pub spelling-some : (r : Rec) → 1 ≤ length (spelling r)
 spelling-some (rec.Genesis account balance) = omega arith
@@ -70,7 +70,7 @@ module _ (key : Start) (words : Words) (views : List View) (me : ℕ) (v : View)
   abbrev part : Part
   part = part_of me false entry
 
-  abbrev range : Range
+  abbrev range : LogRange
   range = record { base = from; size = size; remaining = size; duty = Owed me }
 
   abbrev new : View

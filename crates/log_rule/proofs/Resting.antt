@@ -5,17 +5,17 @@ use Rattle.log_rule.specs.declared.start.Start.{Start}
 use Rattle.log_rule.specs.declared.view.Call.TheVariants.{Idle}
 use Rattle.log_rule.specs.declared.view.View.{View}
 use Rattle.log_rule.specs.Groups.{Group}
-use Rattle.log_rule.specs.Log.{Range, Log, owed, is_owed_by, claim_of, IsReleased, IsOwedBySeat, IsSharedByMembers, IsAtWork, Tiles}
+use Rattle.log_rule.specs.Log.{LogRange, Log, owed, is_owed_by, claim_of, IsReleased, IsOwedBySeat, IsSharedByMembers, IsAtWork, Tiles}
 use Rattle.log_rule.specs.Marks.{IsFirstReleased, Carries, HasCarrier}
 use Rattle.log_rule.specs.Slots.{pieces_at}
 use Rattle.log_rule.specs.Sound.{IsSound}
 use Rattle.log_rule.specs.Views.{nobody, claims_in}
 use Rattle.log_rule.specs.Words.{Words}
 use Rattle.log_rule.proofs.Sharing.{no-members}
-use Rattle.log_rule.proofs.Viewing.{at_get}
+use Rattle.log_rule.proofs.ViewChanges.{at_get}
 
 -- where the first range is not released, nobody owes one, and no slot has a member, none is there
-none-ahead : (groups : ℕ → Group) (ranges : List Range) → AllByRecursion (IsAtWork groups) ranges → ((j : ℕ) → owed j ranges ≡ [])
+none-ahead : (groups : ℕ → Group) (ranges : List LogRange) → AllByRecursion (IsAtWork groups) ranges → ((j : ℕ) → owed j ranges ≡ [])
     → ((slot : ℕ) → (groups slot).members ≡ []) → (IsFirstReleased ranges → ⊥) → ranges ≡ []
 none-ahead groups [] work none empty first = refl
 none-ahead groups (r ∷ rs) work none empty first =

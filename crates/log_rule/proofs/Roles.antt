@@ -21,10 +21,10 @@ use Rattle.log_rule.specs.Slots.{pieces_at, phase_at, KnowsGroup}
 use Rattle.log_rule.specs.Views.{entries_in, books_in, claims_in}
 use Rattle.log_rule.specs.Words.{Words}
 use Rattle.log_rule.specs.Accounts.{KeepsAccounts}
-use Rattle.log_rule.proofs.Carrying.{carrier-set}
+use Rattle.log_rule.proofs.Carriers.{carrier-set}
 use Rattle.log_rule.proofs.Members.{KeepsView}
-use Rattle.log_rule.proofs.Showing.{hands_of-set_same}
-use Rattle.log_rule.proofs.Viewing.{each_set, seats_set, seat_at, pairs_move, count-set}
+use Rattle.log_rule.proofs.MachineShown.{hands_of-set_same}
+use Rattle.log_rule.proofs.ViewChanges.{each_set, seats_set, seat_at, pairs_move, count-set}
 
 -- a seat's standing stays
 pub crew-same : (crew : ℕ) (views : List View) (me : ℕ) (v new : View) → HasSoundCrew crew views → get_elem? views me ≡ some v

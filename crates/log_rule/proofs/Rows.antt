@@ -2,7 +2,7 @@
 use Rattle.std.proofs.Common.{◌≡◌, ℕ, ◌+◌, ◌*◌, ◌<◌, false, List, length, get_or, set, sym, refl, ap, ◌∙◌, arith, length-set, get_or-set_same, get_or-set_other}
 use mathlib.Core.Logic.{dite}
 use native.Mathlib.Decide.{ℕ_discrete}
-use Rattle.slot_word.specs.AccountWord.{packed, balance_in, mark_in}
+use Rattle.slot_word.specs.AccountWord.{packed, balance_in, last_commit_in}
 use Rattle.lock_core.specs.Settling.{row}
 use Rattle.log_rule.specs.declared.layout.TheConstants.{STRIDE, RING}
 use Rattle.log_rule.specs.declared.start.Start.{Start}
@@ -30,12 +30,12 @@ pub reads-none : (ring slots : ℕ) (words : List ℕ) (rows : List (ℕ × ℕ)
 reads-none ring slots words rows = record { count = refl; each = λ account below. absurd (omega arith) }
 
 pub reads-more : (ring slots n : ℕ) (words : List ℕ) (values : ℕ × ℕ) (old new : List (ℕ × ℕ)) → n < length old
-    → values ≡ (balance_in (get_or words (index_of ring slots (Account n)) 0), mark_in (get_or words (index_of ring slots (Account n)) 0))
+    → values ≡ (balance_in (get_or words (index_of ring slots (Account n)) 0), last_commit_in (get_or words (index_of ring slots (Account n)) 0))
     → ReadsRows ring slots n words old new → ReadsRows ring slots (n + 1) words old (set new n values)
 reads-more ring slots n words values old new below is reads = record {
   count = length-set new n values ∙ reads.count;
   each = λ account lt. dite (ℕ_discrete account n)
       (λ same. ap (λ a. get_or (set new n values) a (0, 0)) same ∙ (get_or-set_same new n values (0, 0) (let count = reads.count in omega arith)
-      ∙ (is ∙ ap (λ a. (balance_in (get_or words (index_of ring slots (Account a)) 0), mark_in (get_or words (index_of ring slots (Account a)) 0))) (sym same))))
+      ∙ (is ∙ ap (λ a. (balance_in (get_or words (index_of ring slots (Account a)) 0), last_commit_in (get_or words (index_of ring slots (Account a)) 0))) (sym same))))
       (λ differ. get_or-set_other new n account values (0, 0) differ ∙ reads.each account (omega arith));
 }

@@ -31,13 +31,13 @@ use Rattle.log_rule.specs.Moments.{HoldsAtOnce, books_of_all, jobs_of_all, RunsL
 use Rattle.log_rule.specs.Roles.{is_spent}
 use Rattle.log_rule.specs.Views.{read_to}
 use Rattle.log_rule.specs.Sound.{SendsInsertedUnits, IsSound, base_of, history_in, books_of}
-use Rattle.log_rule.proofs.Agreeing.{agrees-append, joined, whole-record, first-units, rest-agrees}
+use Rattle.log_rule.proofs.AgreedUnits.{agrees-append, joined, whole-record, first-units, rest-agrees}
 use Rattle.log_rule.proofs.Bookings.{times_taken-append}
 use Rattle.log_rule.proofs.Boundaries.{part_size, boundary-least}
-use Rattle.log_rule.proofs.Gathered.{all-jobs_run}
+use Rattle.log_rule.proofs.GatheredSeats.{all-jobs_run}
 use Rattle.log_rule.proofs.GroupPlacing.{records-append}
 use Rattle.log_rule.proofs.Lists.{all-append, all-both, all-weaker}
-use Rattle.log_rule.proofs.Looking.{part-boundary, durable-boundary}
+use Rattle.log_rule.proofs.Loads.{part-boundary, durable-boundary}
 use Rattle.log_rule.proofs.MemberBooks.{jobs-books_in}
 
 -- the parts that hold these units, whole records, and those behind them

@@ -1,26 +1,26 @@
 -- The ranges that members share, and the slots, where a seat's own range changes.
 use Rattle.std.proofs.Common.{◌≡◌, ℕ, cond, false, true≢false, List, [], ◌∷◌, ◌++◌, sym, refl, ap, ◌∙◌, append-nil, eq-eqb}
 use Rattle.log_rule.specs.Groups.{Group, Member}
-use Rattle.log_rule.specs.Log.{Range, Claim, claim_of}
+use Rattle.log_rule.specs.Log.{LogRange, Claim, claim_of}
 use Rattle.log_rule.specs.Slots.{own_pieces, is_shared_at, shares, shared, IsSoundSlot}
 use Rattle.log_rule.proofs.Lists.{picked-append, picked-same}
 
 -- a range that no slot's members share is put behind the others
-pub shared-push : (slot : ℕ) (ranges : List Range) (r : Range) → is_shared_at slot r.duty ≡ false → shared slot (ranges ++ r ∷ []) ≡ shared slot ranges
+pub shared-push : (slot : ℕ) (ranges : List LogRange) (r : LogRange) → is_shared_at slot r.duty ≡ false → shared slot (ranges ++ r ∷ []) ≡ shared slot ranges
 shared-push slot ranges r off = picked-append (shares slot) claim_of ranges (r ∷ [])
     ∙ (ap (λ b. shared slot ranges ++ cond {A = List Claim} b (claim_of r ∷ []) []) off ∙ append-nil (shared slot ranges))
 
 -- or exchanged for another such one
-pub shared-mid : (slot : ℕ) (ls rs : List Range) (r r' : Range) → is_shared_at slot r.duty ≡ false → is_shared_at slot r'.duty ≡ false
+pub shared-mid : (slot : ℕ) (ls rs : List LogRange) (r r' : LogRange) → is_shared_at slot r.duty ≡ false → is_shared_at slot r'.duty ≡ false
     → shared slot (ls ++ r' ∷ rs) ≡ shared slot (ls ++ r ∷ rs)
 shared-mid slot ls rs r r' off off' = picked-same (shares slot) claim_of ls rs r r' (off' ∙ sym off) (λ on. absurd (true≢false (sym on ∙ off)))
 
 -- or taken from before the others
-pub shared-rest : (slot : ℕ) (ranges rest : List Range) (r : Range) → ranges ≡ r ∷ rest → is_shared_at slot r.duty ≡ false → shared slot rest ≡ shared slot ranges
+pub shared-rest : (slot : ℕ) (ranges rest : List LogRange) (r : LogRange) → ranges ≡ r ∷ rest → is_shared_at slot r.duty ≡ false → shared slot rest ≡ shared slot ranges
 shared-rest slot ranges rest r split off = sym (ap (shared slot) split ∙ ap (λ b. cond b (claim_of r ∷ shared slot rest) (shared slot rest)) off)
 
 -- the ranges ahead change, but none that members share
-pub slots-stay : (most : ℕ) (words bases : ℕ → ℕ) (ahead after : List Range) (groups : ℕ → Group) → ((slot : ℕ) → shared slot after ≡ shared slot ahead)
+pub slots-stay : (most : ℕ) (words bases : ℕ → ℕ) (ahead after : List LogRange) (groups : ℕ → Group) → ((slot : ℕ) → shared slot after ≡ shared slot ahead)
     → ((slot : ℕ) → IsSoundSlot most (words slot) (bases slot) slot ahead (groups slot)) → (slot : ℕ) → IsSoundSlot most (words slot) (bases slot) slot after (groups slot)
 slots-stay most words bases ahead after groups same slots slot = record { range = same slot ∙ (slots slot).range; words = (slots slot).words }
 

@@ -23,7 +23,7 @@ use Rattle.log_rule.proofs.SlotReopening.{reopen-step}
 use Rattle.log_rule.proofs.SlotStoring.{granted-step, refused-step}
 use Rattle.log_rule.proofs.SlotTelling.{publish-step}
 use Rattle.log_rule.proofs.ToldWaiting.{look-tells}
-use Rattle.log_rule.proofs.Wording.{Fits, of_slot, of_base}
+use Rattle.log_rule.proofs.WordPlaces.{Fits, of_slot, of_base}
 
 module _ (key : Start) (slots seat : ℕ) (me : Me (Unit {0}) View) where
   module _ (place ring number slot picked : ℕ) (at : place ≡ RING + ring + ring + STRIDE * slot) (same : key.ring ≡ ring)

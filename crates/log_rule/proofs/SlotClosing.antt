@@ -32,7 +32,7 @@ use Rattle.log_rule.proofs.Members.{KeepsMembers, steps-on, members-stay}
 use Rattle.log_rule.proofs.SlotLeading.{Leading, active, led, at-phase, leader-steps}
 use Rattle.log_rule.proofs.SlotLooks.{small}
 use Rattle.log_rule.proofs.SlotWords.{phase-is_slot}
-use Rattle.log_rule.proofs.Slotting.{here, elsewhere}
+use Rattle.log_rule.proofs.SlotChanges.{here, elsewhere}
 
 -- a group that gathers, led by this seat
 pub record Gathers (seat : ℕ) (p : GroupPhase) : Type 0 where

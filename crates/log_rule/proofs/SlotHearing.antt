@@ -34,14 +34,14 @@ use Rattle.log_rule.specs.Words.{Words}
 use Rattle.log_rule.proofs.Groups.{Others, group-here, group-at, group-other, shown-at}
 use Rattle.log_rule.proofs.Lifting.{Tells}
 use Rattle.log_rule.proofs.Lists.{among-first, among-more}
-use Rattle.log_rule.proofs.Looking.{all-tile}
+use Rattle.log_rule.proofs.Loads.{all-tile}
 use Rattle.log_rule.proofs.Members.{KeepsMembers}
 use Rattle.log_rule.proofs.Reading.{put-same}
-use Rattle.log_rule.proofs.Showing.{hands_of-set, task_of-hands_of}
+use Rattle.log_rule.proofs.MachineShown.{hands_of-set, task_of-hands_of}
 use Rattle.log_rule.proofs.SlotLeading.{active}
-use Rattle.log_rule.proofs.Slotting.{Mine, member-moves, slot-sound}
+use Rattle.log_rule.proofs.SlotChanges.{Mine, member-moves, slot-sound}
 use Rattle.log_rule.proofs.ToldMembers.{piece-has, lies-between, own-piece, told-at, lies-within, group-range}
-use Rattle.log_rule.proofs.Viewing.{seat_at}
+use Rattle.log_rule.proofs.ViewChanges.{seat_at}
 
 -- What a member comes to that hears this of its group. What the log has of it is what it was by the group's phase before.
 pub record Hearing (seat : ℕ) (piece : Piece) (total : ℕ) (outcome : Outcome) (remaining : ℕ) (step : MemberStep) (old new : Books)

@@ -27,7 +27,7 @@ use Rattle.log_rule.specs.Events.{Event, task_in, member_shown, group_shown, slo
 use Rattle.log_rule.specs.Groups.{Outcome, Granted, Refused, GroupPhase, Vacant, Gathering, Closed, Placed, Ready, Told, Emptied, Piece, Member, Group, put_group}
 use Rattle.log_rule.specs.GroupViews.{stage_of, member_entry, member_books}
 use Rattle.log_rule.specs.Layout.{Slot}
-use Rattle.log_rule.specs.Log.{Range, Log, ranges_of}
+use Rattle.log_rule.specs.Log.{LogRange, Log, ranges_of}
 use Rattle.log_rule.specs.Marks.{Carries}
 use Rattle.log_rule.specs.May.{MayJoinSlot}
 use Rattle.log_rule.specs.Members.{HadSeenUpTo, HasPhaseOutcome, LoadsAtStep, IsForNextRecord, AwaitsAtStep, HasTotalAtPhase}
@@ -40,15 +40,15 @@ use Rattle.log_rule.specs.Words.{Words, put}
 use Rattle.log_rule.proofs.Entering.{enters-spellable}
 use Rattle.log_rule.proofs.Filling.{put-here, put-other}
 use Rattle.log_rule.proofs.Groups.{SameUnheard, IsUntold, Others, keeps, knows-untold, untold-vacant, untold-gathering, group-here}
-use Rattle.log_rule.proofs.Keeping.{books-at}
+use Rattle.log_rule.proofs.AccountsKept.{books-at}
 use Rattle.log_rule.proofs.Lists.{all-append, picked-append}
 use Rattle.log_rule.proofs.Members.{KeepsMembers, steps-on}
 use Rattle.log_rule.proofs.Reserving.{spelling-some}
-use Rattle.log_rule.proofs.Showing.{task_of-hands_of}
+use Rattle.log_rule.proofs.MachineShown.{task_of-hands_of}
 use Rattle.log_rule.proofs.SlotLooks.{small, slot-looks_as}
 use Rattle.log_rule.proofs.SlotShowing.{group-shown, shows-moved, length-groups_from}
-use Rattle.log_rule.proofs.Slotting.{Mine, here, elsewhere, slot-sound}
-use Rattle.log_rule.proofs.Viewing.{seat_at}
+use Rattle.log_rule.proofs.SlotChanges.{Mine, here, elsewhere, slot-sound}
+use Rattle.log_rule.proofs.ViewChanges.{seat_at}
 
 -- one more piece tiles behind the others
 tiles-more : (from to n : ℕ) (members : List Member) (member : Member) → PiecesTile from members to → member.piece.offset ≡ to → member.piece.size ≡ n → 1 ≤ n
@@ -76,7 +76,7 @@ pub record Joins (most base total n seat : ℕ) (members : List Member) (member 
   pub others : (j : ℕ) → j ≢ seat → led_phase j (phase_joined seat n p) ≡ led_phase j p
   pub entry : (piece : Piece) → member_entry (phase_joined seat n p) piece (step_joining total) ≡ []
   pub books : (piece : Piece) (books : Books) → member_books (phase_joined seat n p) piece (step_joining total) books ≡ books
-  pub outcome : (start ring tail durable : ℕ) (ranges : List Range)
+  pub outcome : (start ring tail durable : ℕ) (ranges : List LogRange)
       → HasPhaseOutcome start ring tail durable ranges (members ++ member ∷ []) (phase_joined seat n p)
   pub totals : (workers : ℕ) → HasTotalAtPhase workers (members ++ member ∷ []) (phase_joined seat n p)
   pub unclosed : (leader units : ℕ) → p ≡ Closed leader units → ⊥

@@ -24,8 +24,8 @@ use Rattle.log_rule.proofs.Groups.{Keeps, Others, SameUnheard, IsUntold, keeps, 
 pub use Rattle.log_rule.proofs.Groups.{known-led, IsWhole, known-whole}
 use Rattle.log_rule.proofs.Members.{KeepsMembers}
 use Rattle.log_rule.proofs.SlotShowing.{task-is, shows-lead}
-use Rattle.log_rule.proofs.Slotting.{here, member-moves, member-books_same, slot-sound}
-use Rattle.log_rule.proofs.Viewing.{seat_at}
+use Rattle.log_rule.proofs.SlotChanges.{here, member-moves, member-books_same, slot-sound}
+use Rattle.log_rule.proofs.ViewChanges.{seat_at}
 
 -- who has something under way is active
 pub active-if : (role : Role) → (is_active role ≡ false → ⊥) → role ≡ Active

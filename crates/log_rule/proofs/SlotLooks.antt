@@ -22,14 +22,14 @@ use Rattle.log_rule.specs.Slots.{own_pieces, pieces_at, IsToldAs}
 use Rattle.log_rule.specs.SlotViews.{seen_slot, tells_refusal, step_seeing, call_seeing, contended_seeing, saw_slot}
 use Rattle.log_rule.specs.Sound.{StoresStop, HasReadStop, HasWorkingOwner, IsSound}
 use Rattle.log_rule.specs.Words.{Words}
-use Rattle.log_rule.proofs.Keeping.{accounts-stay}
+use Rattle.log_rule.proofs.AccountsKept.{accounts-stay}
 use Rattle.log_rule.proofs.Lifting.{Tells as RuleTells}
 use Rattle.log_rule.proofs.Members.{KeepsSeen, steps-on, loads-stay, keeps-view}
 use Rattle.log_rule.proofs.Reading.{put-same}
 use Rattle.log_rule.proofs.Roles.{HasSame, crew-same, quiet-moves, recalls-sound}
-use Rattle.log_rule.proofs.Showing.{hands_of-set_same}
+use Rattle.log_rule.proofs.MachineShown.{hands_of-set_same}
 use Rattle.log_rule.proofs.SlotWords.{phase-is_slot, seen-told}
-use Rattle.log_rule.proofs.Viewing.{each_set, seat_at}
+use Rattle.log_rule.proofs.ViewChanges.{each_set, seat_at}
 
 -- a seat that carries, or has an LSN in hand, is no member
 carries-seeing : (place slot word : ℕ) (call : Call) → Carries place call → Carries place (call_seeing slot word call)

@@ -36,7 +36,7 @@ use Rattle.log_rule.proofs.SlotLeading.{active}
 use Rattle.log_rule.proofs.SlotLooks.{small}
 use Rattle.log_rule.proofs.SlotReleasing.{range-shared, range-owed, in_log, piece-released}
 use Rattle.log_rule.proofs.SlotWords.{phase-is_slot}
-use Rattle.log_rule.proofs.Slotting.{here, elsewhere}
+use Rattle.log_rule.proofs.SlotChanges.{here, elsewhere}
 
 -- the one word is the other with n units less that remain
 abbrev pub IsLess : ℕ → ℕ → ℕ → Type 0

@@ -23,7 +23,7 @@ use Rattle.log_rule.specs.Accounts.{KeepsAccounts}
 use Rattle.log_rule.specs.Events.{reservation_of, task_in, group_shown, hands_of, slots_of, Leads, releases}
 use Rattle.log_rule.specs.Groups.{Granted, GroupPhase, Told, Emptied, Piece, Group, put_group}
 use Rattle.log_rule.specs.GroupViews.{placed_piece}
-use Rattle.log_rule.specs.Log.{Part, Duty, Shared, Owed, Released, Range, Claim, Log, ranges_of, own, owed, owes, is_owed_by, claim_of, part_of, parts_of, unreleased_in, inside, filled_in, is_released, SpellsRecord, records_in, StandsInRing, IsFullIfReleased, IsReleasedBelow, IsReleased, IsAtWork, CountsRemaining, Tiles, Laid, AgreesFrom, EndsWithPart, IsRangeBoundary}
+use Rattle.log_rule.specs.Log.{Part, Duty, Shared, Owed, Released, LogRange, Claim, Log, ranges_of, own, owed, owes, is_owed_by, claim_of, part_of, parts_of, unreleased_in, inside, filled_in, is_released, SpellsRecord, records_in, StandsInRing, IsFullIfReleased, IsReleasedBelow, IsReleased, IsAtWork, CountsRemaining, Tiles, Laid, AgreesFrom, EndsWithPart, IsRangeBoundary}
 use Rattle.log_rule.specs.Marks.{IsFirstReleased, FirstEnds, Carries, HasReleaseMarks, HasTrueMark, HasTrueEnds}
 use Rattle.log_rule.specs.Members.{HasSeenInGroup, LoadsForGroup, AwaitsPlace, HasTotalOfWorkers, HasSeenLast}
 use Rattle.log_rule.specs.Roles.{is_active, may_own}
@@ -33,21 +33,21 @@ use Rattle.log_rule.specs.Sound.{HasSeenBoundaries, HasContiguousReservations, S
 use Rattle.log_rule.specs.Views.{entries_in, books_in, claims_in}
 use Rattle.log_rule.specs.Words.{Words, put}
 use Rattle.log_rule.proofs.Boundaries.{range_size, part_size, boundary-mid}
-use Rattle.log_rule.proofs.Carrying.{carrier-set, ends-mid, ends-move}
+use Rattle.log_rule.proofs.Carriers.{carrier-set, ends-mid, ends-move}
 use Rattle.log_rule.proofs.Filling.{put-here, put-other}
 use Rattle.log_rule.proofs.GroupLeaving.{ToldMember, Left, left-kept, picked-now, none-before, none-behind, turns, group-is}
 use Rattle.log_rule.proofs.Groups.{Others, HasAsBefore, as-before, group-here, group-at, group-other, put-keeps, members-some, work-stays, told-same, shown-put, shown-at}
-use Rattle.log_rule.proofs.Keeping.{records-mid}
+use Rattle.log_rule.proofs.AccountsKept.{records-mid}
 use Rattle.log_rule.proofs.Lists.{all-mid, all-at, all-weaker, Last, picked-last, picked-same}
 use Rattle.log_rule.proofs.Members.{KeepsMembers, group-grows, heard-same, loads-put}
-use Rattle.log_rule.proofs.Owning.{LastPart, last_part, own-last, own-others, parts_of-push}
-use Rattle.log_rule.proofs.Ranging.{last-in_two, tiles-le, tiles-mid, tiles-same, tiles-replaced, laid-same, unreleased_in-mid, inside-here, inside-none, filled_in-mid}
+use Rattle.log_rule.proofs.OwnedParts.{LastPart, last_part, own-last, own-others, parts_of-push}
+use Rattle.log_rule.proofs.RangeLists.{last-in_two, tiles-le, tiles-mid, tiles-same, tiles-replaced, laid-same, unreleased_in-mid, inside-here, inside-none, filled_in-mid}
 use Rattle.log_rule.proofs.Roles.{crew-same, quiet-moves}
-use Rattle.log_rule.proofs.Showing.{hands_of-set, task_of-hands_of, same-shown}
+use Rattle.log_rule.proofs.MachineShown.{hands_of-set, task_of-hands_of, same-shown}
 use Rattle.log_rule.proofs.SlotLeading.{active}
-use Rattle.log_rule.proofs.Slotting.{elsewhere}
+use Rattle.log_rule.proofs.SlotChanges.{elsewhere}
 use Rattle.log_rule.proofs.TrueMarks.{ready-mid}
-use Rattle.log_rule.proofs.Viewing.{each_moves, each_set, seats_move, seat_at}
+use Rattle.log_rule.proofs.ViewChanges.{each_moves, each_set, seats_move, seat_at}
 
 -- ---- lists and duties
 
@@ -63,7 +63,7 @@ map-mid tell [] rs x x' same = ap (λ y. y ∷ map tell rs) same
 map-mid tell (l ∷ ls) rs x x' same = ap (λ list. tell l ∷ list) (map-mid tell ls rs x x' same)
 
 -- a range that is not released stands for another
-first-mid : (ls rs : List Range) (r r' : Range) → (IsReleased r' → ⊥) → IsFirstReleased (ls ++ r' ∷ rs) → IsFirstReleased (ls ++ r ∷ rs)
+first-mid : (ls rs : List LogRange) (r r' : LogRange) → (IsReleased r' → ⊥) → IsFirstReleased (ls ++ r' ∷ rs) → IsFirstReleased (ls ++ r ∷ rs)
 first-mid [] rs r r' unreleased first = absurd (unreleased first)
 first-mid (l ∷ ls) rs r r' unreleased first = first
 
@@ -127,10 +127,10 @@ module _ (key : Start) (words : Words) (views : List View) (me : ℕ) (v : View)
   held : Last (shares slot) claim_of log.ahead [] claimed
   held = picked-last (shares slot) claim_of log.ahead [] claimed ((s.slots slot).range ∙ ap range_of m.told)
 
-  abbrev range : Range
+  abbrev range : LogRange
   range = held.here
 
-  abbrev front : List Range
+  abbrev front : List LogRange
   front = log.flushed ++ (log.exposed ++ held.before)
 
   base-is : range.base ≡ base
@@ -201,7 +201,7 @@ module _ (key : Start) (words : Words) (views : List View) (me : ℕ) (v : View)
       let here = inside-here range.base range.size entry (omega (arith, base-is)) (omega (arith, base-is, size-is, inner, some_units)) in
       omega (arith, was, remaining-is, here, counted-in range.base range.size)
 
-  ends-with : (r : Range) → EndsWithPart key.start log.parts r → EndsWithPart key.start parts' r
+  ends-with : (r : LogRange) → EndsWithPart key.start log.parts r → EndsWithPart key.start parts' r
   ends-with r b = boundary-mid part_size key.start (r.base + r.size) last.before last.behind old_part part refl
       (subst (λ l. IsTilingBoundary part_size key.start l (r.base + r.size)) last.split b)
 
@@ -225,7 +225,7 @@ module _ (key : Start) (words : Words) (views : List View) (me : ℕ) (v : View)
   module _ (phase : GroupPhase) (duty : Duty) (call : Call) (word : ℕ) (word-is : word ≡ told_word (Granted base) total left)
       (l : Left (key.ring / 4) (words.slot slot) (words.base slot) me piece (Granted base) (log.groups slot) m slot phase call)
       (lr : LeftRange me slot base total left phase duty call) where
-    abbrev now : Range
+    abbrev now : LogRange
     now = record { base = range.base; size = range.size; remaining = left; duty = duty }
 
     abbrev g : Group
@@ -257,7 +257,7 @@ module _ (key : Start) (words : Words) (views : List View) (me : ℕ) (v : View)
     still x b = subst (λ l. IsRangeBoundary key.start l x) are
         (boundary-mid range_size key.start x front held.behind range now refl (subst (λ l. IsRangeBoundary key.start l x) were b))
 
-    same-ranges : (P : Range → Type 0) → P now → AllByRecursion P (ranges_of log) → AllByRecursion P (ranges_of after)
+    same-ranges : (P : LogRange → Type 0) → P now → AllByRecursion P (ranges_of log) → AllByRecursion P (ranges_of after)
     same-ranges P here all = subst (AllByRecursion P) are (all-mid P front held.behind range now here (subst (AllByRecursion P) were all))
 
     contiguous : HasContiguousReservations key.start key.ring words.tail words.exposed words.durable after

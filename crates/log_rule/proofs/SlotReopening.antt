@@ -23,11 +23,11 @@ use Rattle.log_rule.specs.Words.{Words, put}
 use Rattle.log_rule.proofs.Filling.{put-here, put-other}
 use Rattle.log_rule.proofs.Groups.{Others}
 use Rattle.log_rule.proofs.Members.{steps-on}
-use Rattle.log_rule.proofs.Showing.{task_of-hands_of}
+use Rattle.log_rule.proofs.MachineShown.{task_of-hands_of}
 use Rattle.log_rule.proofs.SlotLeading.{active-if, known-led, known-whole}
 use Rattle.log_rule.proofs.SlotShowing.{shows-moved}
-use Rattle.log_rule.proofs.Slotting.{Mine, here, elsewhere, slot-sound}
-use Rattle.log_rule.proofs.Viewing.{seat_at}
+use Rattle.log_rule.proofs.SlotChanges.{Mine, here, elsewhere, slot-sound}
+use Rattle.log_rule.proofs.ViewChanges.{seat_at}
 
 module _ (key : Start) (words : Words) (views : List View) (me : ℕ) (v : View) (slot : ℕ) (log : Log) (s : IsSound key words views log)
     (at : get_elem? views me ≡ some v) (may : MayReopen slot v) where

@@ -14,7 +14,7 @@ use Rattle.log_rule.specs.GroupViews.{stage_of}
 use Rattle.log_rule.specs.Log.{Log}
 use Rattle.log_rule.specs.Words.{Words}
 use Rattle.log_rule.proofs.Groups.{shown-put, shown-at}
-use Rattle.log_rule.proofs.Showing.{hands_of-set, task_of-hands_of}
+use Rattle.log_rule.proofs.MachineShown.{hands_of-set, task_of-hands_of}
 
 pub length-groups_from : (slot count : ℕ) (groups : ℕ → Group) → length (groups_from slot count groups) ≡ count
 length-groups_from slot zero groups = refl

@@ -34,11 +34,11 @@ use Rattle.log_rule.proofs.Filling.{put-here, put-other}
 use Rattle.log_rule.proofs.Groups.{untold-placed, untold-closed}
 use Rattle.log_rule.proofs.Lists.{all-both, all-among}
 use Rattle.log_rule.proofs.Members.{KeepsMembers, steps-on, members-stay, totals-stay}
-use Rattle.log_rule.proofs.Ranging.{tiles-le}
+use Rattle.log_rule.proofs.RangeLists.{tiles-le}
 use Rattle.log_rule.proofs.SlotLeading.{Leading, active, led-whole, at-phase, sound, leader-steps}
 use Rattle.log_rule.proofs.SlotShowing.{group-shown, shows-moved, length-groups_from}
-use Rattle.log_rule.proofs.Showing.{task_of-hands_of}
-use Rattle.log_rule.proofs.Slotting.{here, elsewhere}
+use Rattle.log_rule.proofs.MachineShown.{task_of-hands_of}
+use Rattle.log_rule.proofs.SlotChanges.{here, elsewhere}
 
 granted-leads : (seat : ℕ) (piece : Piece) (total base : ℕ)
     → Leading seat piece (Stores total base) (Tells total (Granted base)) (Placed seat total (Granted base)) (Ready seat total (Granted base))

@@ -25,7 +25,7 @@ use Rattle.log_rule.proofs.Filling.{put-here, put-other}
 use Rattle.log_rule.proofs.Groups.{untold-ready}
 use Rattle.log_rule.proofs.Members.{KeepsMembers, steps-on, members-stay, totals-stay}
 use Rattle.log_rule.proofs.SlotLeading.{Leading, active, led-whole, at-phase, leader-steps}
-use Rattle.log_rule.proofs.Slotting.{elsewhere}
+use Rattle.log_rule.proofs.SlotChanges.{elsewhere}
 
 telling-leads : (seat : ℕ) (piece : Piece) (total : ℕ) (outcome : Outcome)
     → Leading seat piece (Tells total outcome) Waits (Ready seat total outcome) (Told total outcome total)

@@ -16,11 +16,11 @@ use Rattle.log_rule.specs.Roles.{is_worker, is_spent}
 use Rattle.log_rule.specs.CrewViews.{hires, hired}
 use Rattle.log_rule.specs.Words.{Words, words_in}
 use Rattle.log_rule.proofs.Adding.{adds}
-use Rattle.log_rule.proofs.Keeping.{accounts-stay}
+use Rattle.log_rule.proofs.AccountsKept.{accounts-stay}
 use Rattle.log_rule.proofs.Lists.{or-right}
 use Rattle.log_rule.proofs.Members.{totals-more, refusals-more, heard-moves}
 use Rattle.log_rule.proofs.Roles.{quiet-moves, restands-sound}
-use Rattle.log_rule.proofs.Viewing.{at_below, each_set, each_push, pairs_move, pairs_push, count-set}
+use Rattle.log_rule.proofs.ViewChanges.{at_below, each_set, each_push, pairs_move, pairs_push, count-set}
 
 lacks-all : (n : ℕ) (known made : List ℕ) → ((q : ℕ) → Knows q known → Knows q made) → Lacks n made → Lacks n known
 lacks-all n known made sub lacks = by_test (list_any (eqb n) known) refl
@@ -31,25 +31,25 @@ lacks-all n known made sub lacks = by_test (list_any (eqb n) known) refl
 
 module _ (key : Start) (words : Words) (views : List View) (me : ℕ) (v : View) (n : ℕ) (log : Log) (s : IsSound key words views log)
     (at : get_elem? views me ≡ some v) (may : MaySplit n v) (small : n < 4294967296) where
-  abbrev boss : View
-  boss = hires n v
+  abbrev flusher_view : View
+  flusher_view = hires n v
 
   abbrev worker : View
   worker = hired n v
 
-  more : (q : ℕ) → Knows q v.standing.made → Knows q boss.standing.made
+  more : (q : ℕ) → Knows q v.standing.made → Knows q flusher_view.standing.made
   more q knows = or-right (eqb q n) _ knows
 
   first : me ≡ 0
   first = (s.roles.each me v at).first may.flusher
 
   -- the flusher's seat knows one more number
-  crew-hires : HasSoundCrew words.crew (set views me boss)
+  crew-hires : HasSoundCrew words.crew (set views me flusher_view)
   crew-hires = record {
-    count = s.roles.count ∙ sym (same _ (count-set is_active_view views me v boss at));
-    each = each_set (λ seat z. HasSoundRole seat z.standing) views me boss s.roles.each
+    count = s.roles.count ∙ sym (same _ (count-set is_active_view views me v flusher_view at));
+    each = each_set (λ seat z. HasSoundRole seat z.standing) views me flusher_view s.roles.each
         (let old = s.roles.each me v at in record { small = old.small; first = old.first });
-    pairs = pairs_move (λ i y j z. HasSoundRoles i y.standing j z.standing) views me v boss at s.roles.pairs
+    pairs = pairs_move (λ i y j z. HasSoundRoles i y.standing j z.standing) views me v flusher_view at s.roles.pairs
         (let old = s.roles.pairs me v at me v at in
         record {
           apart = old.apart;
@@ -76,38 +76,38 @@ module _ (key : Start) (words : Words) (views : List View) (me : ℕ) (v : View)
       same : {a b : ℕ} (k : ℕ) → a + k ≡ b + k → a ≡ b
       same k e = omega arith
 
-  hired-sound : IsSound key words (set views me boss) log
-  hired-sound = restands-sound key words words.stop words.crew words.account views me v boss log s at refl refl (s.seen me v at) (s.constants me v at)
+  hired-sound : IsSound key words (set views me flusher_view) log
+  hired-sound = restands-sound key words words.stop words.crew words.account views me v flusher_view log s at refl refl (s.seen me v at) (s.constants me v at)
       (s.resting me v at) (s.entries me v at) crew-hires (s.sends me v at)
-      (each_set (λ _ z. StoresStop words.stop z) views me boss s.stops (s.stops me v at))
-      (each_set (λ _ z. HasReadStop words.stop z) views me boss s.read_stop (s.read_stop me v at))
-      (quiet-moves views me v boss s.quiet at (λ _ _ _ _ _ q. absurd (true≢false (sym q))) (λ _ h. h)) (λ _ q. absurd (true≢false (sym q))) (s.unheld me v at)
-      (accounts-stay key words.account log.parts log.groups views me v boss at refl s.accounts)
+      (each_set (λ _ z. StoresStop words.stop z) views me flusher_view s.stops (s.stops me v at))
+      (each_set (λ _ z. HasReadStop words.stop z) views me flusher_view s.read_stop (s.read_stop me v at))
+      (quiet-moves views me v flusher_view s.quiet at (λ _ _ _ _ _ q. absurd (true≢false (sym q))) (λ _ h. h)) (λ _ q. absurd (true≢false (sym q))) (s.unheld me v at)
+      (accounts-stay key words.account log.parts log.groups views me v flusher_view at refl s.accounts)
       record {
         loads = s.loads me v at;
         awaits = s.awaits me v at;
         totals = λ slot f. totals-more (length v.standing.made) (log.groups slot).members (log.groups slot).phase (s.totals me v at slot f);
-        heard = heard-moves views me v boss s.heard at (λ z h f. refusals-more (length v.standing.made) z.seen.refusals (h f)) (λ z h. h);
+        heard = heard-moves views me v flusher_view s.heard at (λ z h f. refusals-more (length v.standing.made) z.seen.refusals (h f)) (λ z h. h);
         last = s.lasts me v at;
       }
 
   abbrev made : List View
-  made = set views me boss
+  made = set views me flusher_view
 
   -- whoever the flusher's seat is, it knows the new number as made
-  boss-knows : (j : ℕ) (z : View) → get_elem? made j ≡ some z → z.standing.role ≡ Flusher → Knows n z.standing.made
-  boss-knows j z there f = ⊎_elim
-      (λ (t : (j ≡ me) × (boss ≡ z)). subst (λ (y : View). Knows n y.standing.made) t.1
+  flusher-knows : (j : ℕ) (z : View) → get_elem? made j ≡ some z → z.standing.role ≡ Flusher → Knows n z.standing.made
+  flusher-knows j z there f = ⊎_elim
+      (λ (t : (j ≡ me) × (flusher_view ≡ z)). subst (λ (y : View). Knows n y.standing.made) t.1
       (ap (λ b. b || list_any (eqb n) v.standing.made) (eq-eqb n n refl)))
       (λ (t : (j ≢ me) × (get_elem? views j ≡ some z)). absurd (t.0 ((s.roles.each j z t.1).first f ∙ sym first)))
-      (Rattle.atomic_table.proofs.Lists.at_set views me j boss z there)
+      (Rattle.atomic_table.proofs.Lists.at_set views me j flusher_view z there)
 
   -- and it is not quiet any more
-  boss-busy : (j : ℕ) (z : View) → get_elem? made j ≡ some z → z.standing.role ≡ Flusher → z.sending.quiet ≡ true → ⊥
-  boss-busy j z there f = ⊎_elim
-      (λ (t : (j ≡ me) × (boss ≡ z)). subst (λ (y : View). y.sending.quiet ≡ true → ⊥) t.1 (λ q. true≢false (sym q)))
+  flusher_view-busy : (j : ℕ) (z : View) → get_elem? made j ≡ some z → z.standing.role ≡ Flusher → z.sending.quiet ≡ true → ⊥
+  flusher_view-busy j z there f = ⊎_elim
+      (λ (t : (j ≡ me) × (flusher_view ≡ z)). subst (λ (y : View). y.sending.quiet ≡ true → ⊥) t.1 (λ q. true≢false (sym q)))
       (λ (t : (j ≢ me) × (get_elem? views j ≡ some z)). absurd (t.0 ((s.roles.each j z t.1).first f ∙ sym first)))
-      (Rattle.atomic_table.proofs.Lists.at_set views me j boss z there)
+      (Rattle.atomic_table.proofs.Lists.at_set views me j flusher_view z there)
 
   abbrev IsNewTo : View → Type 0
   IsNewTo y = (is_worker y.standing.role ≡ true → y.standing.worker ≡ n → ⊥) × Lacks n y.standing.merged × Lacks n y.standing.enrolled
@@ -115,9 +115,9 @@ module _ (key : Start) (words : Words) (views : List View) (me : ℕ) (v : View)
   -- no worker had the number, and nobody knew it as enrolled or merged
   new-number : (j : ℕ) (z : View) → get_elem? made j ≡ some z → IsNewTo z
   new-number j z there = ⊎_elim
-      (λ (t : (j ≡ me) × (boss ≡ z)). subst (λ (y : View). IsNewTo y) t.1 (of-old me v at))
+      (λ (t : (j ≡ me) × (flusher_view ≡ z)). subst (λ (y : View). IsNewTo y) t.1 (of-old me v at))
       (λ (t : (j ≢ me) × (get_elem? views j ≡ some z)). of-old j z t.1)
-      (Rattle.atomic_table.proofs.Lists.at_set views me j boss z there)
+      (Rattle.atomic_table.proofs.Lists.at_set views me j flusher_view z there)
     where
       of-old : (i : ℕ) (y : View) → get_elem? views i ≡ some y → IsNewTo y
       of-old i y here = let pair = s.roles.pairs me v at i y here in (
@@ -152,7 +152,7 @@ module _ (key : Start) (words : Words) (views : List View) (me : ℕ) (v : View)
           },
           record {
             apart = λ w _ same. absurd (new.0 w same);
-            made = λ f _. boss-knows j z there f;
+            made = λ f _. flusher-knows j z there f;
             enrolled = λ f q e. absurd (true≢false (sym e));
             merged = λ f q e. absurd (true≢false (sym e));
             fresh = λ _. refl;
@@ -170,8 +170,8 @@ module _ (key : Start) (words : Words) (views : List View) (me : ℕ) (v : View)
       (let old = s.seen me v at in
       record { tail_seen = old.tail_seen; exposed_seen = old.exposed_seen; durable_seen = old.durable_seen; boundaries = old.boundaries })
       (s.read_stop me v at) (λ _. s.constants me v at (ap is_spent may.flusher)) crew-splits (pairs_push (λ _ y _ z. RestsIfQuiet y z) made worker hired-sound.quiet
-      (λ f. absurd (cc)) (λ j z there. ((λ f. absurd (cc)), (λ f q. absurd (boss-busy j z there f q))))) refl
-      (λ j z there. hired-sound.heard j z there me boss (set_here views me boss (at_below views me v at)))
+      (λ f. absurd (cc)) (λ j z there. ((λ f. absurd (cc)), (λ f q. absurd (flusher_view-busy j z there f q))))) refl
+      (λ j z there. hired-sound.heard j z there me flusher_view (set_here views me flusher_view (at_below views me v at)))
       (λ _. let old = s.lasts me v at (ap is_spent may.flusher) in record {
         tail_among = old.tail_among;
         durable_among = old.durable_among;

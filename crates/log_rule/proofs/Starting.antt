@@ -14,7 +14,7 @@ use Rattle.log_rule.specs.Members.{LoadsForGroup, AwaitsPlace, HasTotalOfWorkers
 use Rattle.log_rule.specs.Sound.{EachView, HasSeenBoundaries, SendsIfFlusher, StoresStop, HasReadStop, RestsIfQuiet, LookedIfQuiet, HasWorkingOwner, HasConstants, RestsUnlessActive, OwnsIfWorker, HoldsIfActive, base_of, HasSoundRole, HasSoundRoles, IsSound, Ruled}
 use Rattle.log_rule.specs.Views.{flusher, nobody}
 use Rattle.log_rule.specs.Words.{Words, words_in}
-use Rattle.slot_word.specs.AccountWord.{packed, held_in, balance_in, mark_in}
+use Rattle.slot_word.specs.AccountWord.{packed, held_in, balance_in, last_commit_in}
 use Rattle.slot_word.proofs.AccountWordLemmas.{held_back, balance_back, mark_back}
 use Rattle.log_record.specs.Spelling.{IsBalance}
 use Rattle.lock_core.specs.Settling.{row}
@@ -22,7 +22,7 @@ use Rattle.log_rule.specs.Accounts.{KeepsAccounts}
 use Rattle.log_rule.specs.Books.{no_books}
 use Rattle.log_rule.specs.Layout.{Mark, Slot, Account, index_of, word_count}
 use Rattle.log_rule.specs.Opening.{HasAccounts, PutsAccounts}
-use Rattle.log_rule.proofs.Gathered.{starts-free}
+use Rattle.log_rule.proofs.GatheredSeats.{starts-free}
 use Rattle.log_rule.proofs.Lists.{among-first}
 
 -- nothing is reserved, and nobody has joined a group
@@ -189,12 +189,12 @@ start-allowed key ws zeros least most small has zero-is puts = (
 
     first : (account : ℕ) → account < count → (held_in ((words_in key ws).account account) ≡ false)
         × (balance_in ((words_in key ws).account account) ≡ (base_of key).balance account)
-        × (mark_in ((words_in key ws).account account) ≡ (base_of key).last_commit account) × IsBalance ((base_of key).balance account)
+        × (last_commit_in ((words_in key ws).account account) ≡ (base_of key).last_commit account) × IsBalance ((base_of key).balance account)
     first account below = let range = has.balances account below in let mark = has.marks account below in
         let is : (words_in key ws).account account ≡ packed false (row key.accounts.rows account).0 (row key.accounts.rows account).1 =
         ap (λ (t : Bool). cond t (get_or ws (index_of key.ring key.slots (Account account)) 0) 0) (lt-ltb account count below) ∙ puts.each account below in (
           ap held_in is ∙ held_back false _ _ (omega arith) (omega arith),
           ap balance_in is ∙ balance_back false _ _ (omega arith) (omega arith),
-          ap mark_in is ∙ mark_back false _ _ (omega arith) (omega arith),
+          ap last_commit_in is ∙ mark_back false _ _ (omega arith) (omega arith),
           range,
         )

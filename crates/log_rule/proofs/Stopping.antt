@@ -18,10 +18,10 @@ use Rattle.log_rule.specs.Roles.{is_active, is_working}
 use Rattle.log_rule.specs.Views.{counted, knows_all_enrolled, has_stopped, saw_crew}
 use Rattle.log_rule.specs.Words.{Words}
 use Rattle.log_rule.proofs.Lifting.{Tells}
-use Rattle.log_rule.proofs.Looking.{looks, sees-word}
+use Rattle.log_rule.proofs.Loads.{looks, sees-word}
 use Rattle.log_rule.proofs.Members.{seen-still, steps-on}
 use Rattle.log_rule.proofs.Roles.{sole-flusher}
-use Rattle.log_rule.proofs.Viewing.{each_moves, each_set}
+use Rattle.log_rule.proofs.ViewChanges.{each_moves, each_set}
 
 both-true : (a b : Bool) → (a && b) ≡ true → (a ≡ true) × (b ≡ true)
 both-true true b e = (refl, e)

@@ -18,7 +18,7 @@ use Rattle.log_rule.specs.Accounts.{KeepsAccounts}
 use Rattle.log_rule.specs.Events.{Event, IsStep, reservation_of, none}
 use Rattle.log_rule.specs.Groups.{Group}
 use Rattle.log_rule.specs.Layout.{Tail}
-use Rattle.log_rule.specs.Log.{Part, Duty, Released, Range, Log, ranges_of, unreleased_in, filled_in, Laid, SpellsRecord, StandsInRing, IsFullIfReleased, IsReleasedBelow, IsAtWork, CountsRemaining, AgreesFrom, EndsWithPart, IsRangeBoundary, is_released}
+use Rattle.log_rule.specs.Log.{Part, Duty, Released, LogRange, Log, ranges_of, unreleased_in, filled_in, Laid, SpellsRecord, StandsInRing, IsFullIfReleased, IsReleasedBelow, IsAtWork, CountsRemaining, AgreesFrom, EndsWithPart, IsRangeBoundary, is_released}
 use Rattle.log_rule.specs.Marks.{HasTrueMark, Carries, HasTrueEnds}
 use Rattle.log_rule.specs.Members.{HasSeenInGroup, LoadsForGroup, AwaitsPlace, HasTotalOfWorkers, HasSeenLast}
 use Rattle.log_rule.specs.Roles.{is_active, may_own}
@@ -28,15 +28,15 @@ use Rattle.log_rule.specs.Sound.{EachView, EachSeat, HasSeenBoundaries, HasConti
 use Rattle.log_rule.specs.Views.{seen_tail}
 use Rattle.log_rule.specs.Words.{Words}
 use Rattle.log_rule.proofs.Boundaries.{range_size, part_size, boundary-append, laid-end}
-use Rattle.log_rule.proofs.Carrying.{carrier-set, first-push, ends-push, ends-move}
+use Rattle.log_rule.proofs.Carriers.{carrier-set, first-push, ends-push, ends-move}
 use Rattle.log_rule.proofs.Lists.{all-append, all-weaker}
-use Rattle.log_rule.proofs.Looking.{tail-boundary, tail-looks_as}
+use Rattle.log_rule.proofs.Loads.{tail-boundary, tail-looks_as}
 use Rattle.log_rule.proofs.Members.{heard-same, tail-on}
-use Rattle.log_rule.proofs.Ranging.{tiles-le, tiles-push, tiles-within, laid-append, unreleased_in-append, unreleased_in-apart, filled_in-append, filled_in-apart}
+use Rattle.log_rule.proofs.RangeLists.{tiles-le, tiles-push, tiles-within, laid-append, unreleased_in-append, unreleased_in-apart, filled_in-append, filled_in-apart}
 use Rattle.log_rule.proofs.Roles.{crew-same, quiet-moves}
-use Rattle.log_rule.proofs.Showing.{same-shown}
+use Rattle.log_rule.proofs.MachineShown.{same-shown}
 use Rattle.log_rule.proofs.TrueMarks.{ready-push}
-use Rattle.log_rule.proofs.Viewing.{each_set, each_moves}
+use Rattle.log_rule.proofs.ViewChanges.{each_set, each_moves}
 use Rattle.std.proofs.lemmas.List.{map-append}
 
 -- no unit of the part is filled, and it is not released
@@ -76,7 +76,7 @@ module _ (key : Start) (words : Words) (views : List View) (me : ℕ) (v : View)
   abbrev from : ℕ
   from = words.tail
 
-  abbrev range : Range
+  abbrev range : LogRange
   range = record { base = from; size = size; remaining = size; duty = duty }
 
   abbrev pub moved_view : View

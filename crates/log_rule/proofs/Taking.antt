@@ -5,7 +5,7 @@ use mathlib.Core.Logic.{dite}
 use mathlib.Core.Option.{some}
 use native.Mathlib.Decide.{ℕ_discrete}
 use lib.ListN.{get_elem?}
-use Rattle.slot_word.specs.AccountWord.{held_in, balance_in, mark_in}
+use Rattle.slot_word.specs.AccountWord.{held_in, balance_in, last_commit_in}
 use Rattle.log_record.specs.declared.rec.Placed.{Placed}
 use Rattle.lock_core.specs.Records.{gain, loss}
 use Rattle.lock_core.specs.History.{end_from}
@@ -14,7 +14,7 @@ use Rattle.lock_core.specs.Sums.{BaseState, moved}
 use Rattle.lock_core.specs.Alone.{with_note, leg_updates}
 use Rattle.lock_core.specs.Serial.{IsRunWhole, IsCutShort}
 use Rattle.log_rule.specs.declared.view.TakenJob.{TakenJob}
-use Rattle.log_rule.specs.declared.view.Held.{Held}
+use Rattle.log_rule.specs.declared.view.Taken.{Taken}
 use Rattle.log_rule.specs.declared.view.Books.{Books}
 use Rattle.log_rule.specs.Books.{task_of, times_held, times_taken, taking_job, taking}
 use Rattle.log_rule.specs.Accounts.{Everywhere, IsAsTaken, MayBeTaken, HasOneHolder, HasDistinctJobs, moved_if_committed, Follows, IsUpToDate, WentBack, AccountsFollowList, KeepsAccounts}
@@ -28,13 +28,13 @@ pub put-else : (words : ℕ → ℕ) (account word other : ℕ) → other ≢ ac
 put-else words account word other differ = ap (λ (b : Bool). cond b word (words other)) (ne_eqb other account differ)
 
 -- what is known of other words
-pub as_taken-else : (accounts : ℕ) (words : ℕ → ℕ) (account word : ℕ) (held : Held) → held.account ≢ account → IsAsTaken accounts words held
+pub as_taken-else : (accounts : ℕ) (words : ℕ → ℕ) (account word : ℕ) (held : Taken) → held.account ≢ account → IsAsTaken accounts words held
     → IsAsTaken accounts (put words account word) held
 as_taken-else accounts words account word held differ old = let same = put-else words account word held.account differ in record {
   known = old.known;
   taken = ap held_in same ∙ old.taken;
   balance = ap balance_in same ∙ old.balance;
-  mark = ap mark_in same ∙ old.mark;
+  mark = ap last_commit_in same ∙ old.mark;
 }
 
 pub free-else : (base : BaseState) (h : List Placed) (words : ℕ → ℕ) (account word other : ℕ) → other ≢ account
@@ -118,9 +118,9 @@ module _ (base : BaseState) (words : ℕ → ℕ) (h : List Placed) (all : List 
     }
 
   -- a free account, whose word is then held with the same values
-  module _ (held : Held) (word : ℕ) (known : held.account < base.accounts) (free : held_in (words held.account) ≡ false)
-      (balance : balance_in (words held.account) ≡ held.balance) (mark : mark_in (words held.account) ≡ held.mark)
-      (is-held : held_in word ≡ true) (balance' : balance_in word ≡ held.balance) (mark' : mark_in word ≡ held.mark) where
+  module _ (held : Taken) (word : ℕ) (known : held.account < base.accounts) (free : held_in (words held.account) ≡ false)
+      (balance : balance_in (words held.account) ≡ held.balance) (mark : last_commit_in (words held.account) ≡ held.mark)
+      (is-held : held_in word ≡ true) (balance' : balance_in word ≡ held.balance) (mark' : last_commit_in word ≡ held.mark) where
     abbrev new' : Books
     new' = taking held mine
 
@@ -148,7 +148,7 @@ module _ (base : BaseState) (words : ℕ → ℕ) (h : List Placed) (all : List 
               known = known;
               taken = ap held_in (put-same words held.account word held.account refl) ∙ is-held;
               balance = ap balance_in (put-same words held.account word held.account refl) ∙ balance';
-              mark = ap mark_in (put-same words held.account word held.account refl) ∙ mark';
+              mark = ap last_commit_in (put-same words held.account word held.account refl) ∙ mark';
             },
             others-taken mine (s.taken me mine at),
           ) others-taken;

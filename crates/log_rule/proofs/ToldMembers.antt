@@ -8,17 +8,17 @@ use Rattle.log_rule.specs.declared.start.Start.{Start}
 use Rattle.log_rule.specs.declared.view.Call.TheVariants.{Joined}
 use Rattle.log_rule.specs.declared.view.View.{View}
 use Rattle.log_rule.specs.Groups.{Outcome, Granted, Piece, Member, Told}
-use Rattle.log_rule.specs.Log.{Range, Claim, Log, Tiles, ranges_of, claim_of, IsRangeBoundary}
+use Rattle.log_rule.specs.Log.{LogRange, Claim, Log, Tiles, ranges_of, claim_of, IsRangeBoundary}
 use Rattle.log_rule.specs.Slots.{is_member, piece_of, own_pieces, pieces_at, shares, range_of, LiesWithin, IsTold}
 use Rattle.log_rule.specs.Sound.{HasWorkingOwner, IsSound}
 use Rattle.log_rule.specs.Words.{Words}
 use Rattle.log_rule.proofs.Boundaries.{range_size, boundary-start, boundary-behind}
 use Rattle.log_rule.proofs.Filling.{ranges-split}
 use Rattle.log_rule.proofs.Lists.{Last, picked-last, all-at}
-use Rattle.log_rule.proofs.Ranging.{tiles-le, tiles-mid}
+use Rattle.log_rule.proofs.RangeLists.{tiles-le, tiles-mid}
 use Rattle.log_rule.proofs.SlotLeading.{at-phase}
-use Rattle.log_rule.proofs.Slotting.{here}
-use Rattle.log_rule.proofs.Viewing.{seat_at}
+use Rattle.log_rule.proofs.SlotChanges.{here}
+use Rattle.log_rule.proofs.ViewChanges.{seat_at}
 
 -- what holds of each member holds of the seat's piece
 pub piece-has : (seat : ℕ) (members : List Member) (piece : Piece) (P : Member → Type 0) (Q : Piece → Type 0)
@@ -27,11 +27,11 @@ piece-has seat members piece P Q own all tell = let last = picked-last (is_membe
     subst Q last.is (tell last.here (all-at P last.before last.behind last.here (subst (AllByRecursion P) last.split all)))
 
 -- a range ahead begins and ends at boundaries of the ranges, and ends not above the tail
-pub lies-between : (most start tail : ℕ) (log : Log) (before behind : List Range) (r : Range) → Tiles most start (ranges_of log) tail
+pub lies-between : (most start tail : ℕ) (log : Log) (before behind : List LogRange) (r : LogRange) → Tiles most start (ranges_of log) tail
     → log.ahead ≡ before ++ r ∷ behind
     → IsRangeBoundary start (ranges_of log) (r.base + r.size) × (r.base + r.size ≤ tail) × IsRangeBoundary start (ranges_of log) r.base
 lies-between most start tail log before behind r tiles is =
-    let front : List Range = log.flushed ++ (log.exposed ++ before) in
+    let front : List LogRange = log.flushed ++ (log.exposed ++ before) in
     let split : ranges_of log ≡ front ++ r ∷ behind = ranges-split log before behind r is in
     let mid = tiles-mid most start tail front behind r (subst (λ l. Tiles most start l tail) split tiles) in (
       subst (λ l. IsRangeBoundary start l (r.base + r.size)) (sym split)

@@ -4,48 +4,48 @@ use Rattle.std.proofs.Math.Nat.{add-mod_right}
 use Rattle.std.specs.List.{AllByRecursion}
 use mathlib.Core.Logic.{dite}
 use native.Mathlib.Decide.{ℕ_discrete, dec_lt}
-use Rattle.log_rule.specs.Log.{Range, Tiles, IsReleased}
+use Rattle.log_rule.specs.Log.{LogRange, Tiles, IsReleased}
 use Rattle.log_rule.specs.Marks.{IsReady, IsReadyIn, IsCurrentMark, HasTrueMark, IsFirstReleased, FirstEnds}
 use Rattle.log_rule.specs.Words.{put}
 use Rattle.log_rule.proofs.Filling.{differ_in_ring, put-here, put-other}
-use Rattle.log_rule.proofs.Ranging.{tiles-le, tiles-mid, tiles-replaced}
+use Rattle.log_rule.proofs.RangeLists.{tiles-le, tiles-mid, tiles-replaced}
 
 -- a range that is ready stands among others
-pub ready-here : (at end : ℕ) (ls rs : List Range) (r : Range) → IsReady at end r → IsReadyIn at end (ls ++ r ∷ rs)
+pub ready-here : (at end : ℕ) (ls rs : List LogRange) (r : LogRange) → IsReady at end r → IsReadyIn at end (ls ++ r ∷ rs)
 ready-here at end [] rs r ready = inl ready
 ready-here at end (l ∷ ls) rs r ready = inr (ready-here at end ls rs r ready)
 
-pub ready-push : (at end : ℕ) (ranges more : List Range) → IsReadyIn at end ranges → IsReadyIn at end (ranges ++ more)
+pub ready-push : (at end : ℕ) (ranges more : List LogRange) → IsReadyIn at end ranges → IsReadyIn at end (ranges ++ more)
 ready-push at end [] more ready = absurd ready
 ready-push at end (r ∷ rs) more ready = ⊎_elim (λ here. inl here) (λ later. inr (ready-push at end rs more later)) ready
 
 -- one that is not released is exchanged for another
-pub ready-mid : (at end : ℕ) (ls rs : List Range) (r r' : Range) → (IsReleased r → ⊥) → IsReadyIn at end (ls ++ r ∷ rs) → IsReadyIn at end (ls ++ r' ∷ rs)
+pub ready-mid : (at end : ℕ) (ls rs : List LogRange) (r r' : LogRange) → (IsReleased r → ⊥) → IsReadyIn at end (ls ++ r ∷ rs) → IsReadyIn at end (ls ++ r' ∷ rs)
 ready-mid at end [] rs r r' unreleased ready = ⊎_elim (λ (here : IsReady at end r). absurd (unreleased here.released)) (λ later. inr later) ready
 ready-mid at end (l ∷ ls) rs r r' unreleased ready = ⊎_elim (λ here. inl here) (λ later. inr (ready-mid at end ls rs r r' unreleased later)) ready
 
 -- what is ready lies within the tiling
-ready-low : (most from to at end : ℕ) (ranges : List Range) → Tiles most from ranges to → IsReadyIn at end ranges → from ≤ at
+ready-low : (most from to at end : ℕ) (ranges : List LogRange) → Tiles most from ranges to → IsReadyIn at end ranges → from ≤ at
 ready-low most from to at end [] t ready = absurd ready
 ready-low most from to at end (r ∷ rs) t ready = ⊎_elim (λ (here : IsReady at end r). omega (arith, here.base, t.0))
     (λ later. omega (arith, ready-low most (from + r.size) to at end rs t.3 later)) ready
 
 -- the first range is ready, from the one LSN to the other
-abbrev pub IsFirstReady : ℕ → ℕ → List Range → Type 0
+abbrev pub IsFirstReady : ℕ → ℕ → List LogRange → Type 0
 IsFirstReady at end [] = ⊥
 IsFirstReady at end (r ∷ rs) = IsReady at end r
 
-pub ready-first : (most from to end : ℕ) (ranges : List Range) → Tiles most from ranges to → IsReadyIn from end ranges → IsFirstReady from end ranges
+pub ready-first : (most from to end : ℕ) (ranges : List LogRange) → Tiles most from ranges to → IsReadyIn from end ranges → IsFirstReady from end ranges
 ready-first most from to end [] t ready = absurd ready
 ready-first most from to end (r ∷ rs) t ready = ⊎_elim (λ here. here)
     (λ later. absurd (omega (arith, ready-low most (from + r.size) to from end rs t.3 later, t.1))) ready
 
-pub first-ends : (at end : ℕ) (ranges : List Range) → IsFirstReady at end ranges → FirstEnds ranges end
+pub first-ends : (at end : ℕ) (ranges : List LogRange) → IsFirstReady at end ranges → FirstEnds ranges end
 first-ends at end [] ready = absurd ready
 first-ends at end (r ∷ rs) ready = (ready.released, sym ready.ends)
 
 -- the mark at exposed is above exposed where the first range ahead is released
-pub first-marked : (most size exposed tail : ℕ) (mark : ℕ → ℕ) (ahead : List Range) → Tiles most exposed ahead tail
+pub first-marked : (most size exposed tail : ℕ) (mark : ℕ → ℕ) (ahead : List LogRange) → Tiles most exposed ahead tail
     → AllByRecursion (HasTrueMark size mark) ahead → IsFirstReleased ahead → exposed < mark (exposed % size)
 first-marked most size exposed tail mark [] t true' first = absurd first
 first-marked most size exposed tail mark (r ∷ rs) t true' first =
@@ -53,12 +53,12 @@ first-marked most size exposed tail mark (r ∷ rs) t true' first =
     let same : mark (r.base % size) ≡ mark (exposed % size) = ap (λ n. mark (n % size)) t.0 in omega (arith, high, same, t.0, t.1)
 
 -- and only there
-pub marked-first : (most size exposed tail : ℕ) (mark : ℕ → ℕ) (ahead : List Range) → Tiles most exposed ahead tail
+pub marked-first : (most size exposed tail : ℕ) (mark : ℕ → ℕ) (ahead : List LogRange) → Tiles most exposed ahead tail
     → IsCurrentMark size mark ahead exposed → exposed < mark (exposed % size) → IsFirstReady exposed (mark (exposed % size)) ahead
 marked-first most size exposed tail mark ahead t current above =
     ⊎_elim (λ low. absurd (omega (arith, low, above))) (λ ready. ready-first most exposed tail _ ahead t ready) current
 
-module _ (most size : ℕ) (mark : ℕ → ℕ) (ls rs : List Range) (r r' : Range) where
+module _ (most size : ℕ) (mark : ℕ → ℕ) (ls rs : List LogRange) (r r' : LogRange) where
   abbrev end : ℕ
   end = r.base + r.size
 
@@ -103,7 +103,7 @@ module _ (most size : ℕ) (mark : ℕ → ℕ) (ls rs : List Range) (r r' : Ran
       below = let h = tiles-mid most exposed tail ls rs r tiles in omega (arith, h.1, tiles-le most (r.base + r.size) tail rs h.3)
 
 -- exposed is raised past the first range
-pub current-raise : (most size exposed tail : ℕ) (mark : ℕ → ℕ) (r : Range) (rest : List Range) → Tiles most exposed (r ∷ rest) tail → most ≤ size
+pub current-raise : (most size exposed tail : ℕ) (mark : ℕ → ℕ) (r : LogRange) (rest : List LogRange) → Tiles most exposed (r ∷ rest) tail → most ≤ size
     → ((at : ℕ) → exposed ≤ at → at < exposed + size → IsCurrentMark size mark (r ∷ rest) at)
     → (at : ℕ) → exposed + r.size ≤ at → at < exposed + r.size + size → IsCurrentMark size mark rest at
 current-raise most size exposed tail mark r rest t few current at lo hi = dite (dec_lt at (exposed + size))

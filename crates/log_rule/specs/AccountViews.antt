@@ -3,10 +3,10 @@ use Rattle.std.specs.Prelude.{◌==◌, ℕ, ◌+◌, if◌then◌else◌}
 use Rattle.log_rule.specs.declared.view.Given.{Given}
 use Rattle.log_rule.specs.declared.view.Seen.{Seen}
 use Rattle.log_rule.specs.declared.view.View.{View}
-use Rattle.slot_word.specs.AccountWord.{balance_in, mark_in}
+use Rattle.slot_word.specs.AccountWord.{balance_in, last_commit_in}
 use Rattle.lock_core.specs.declared.job.Job.{Job}
 use Rattle.lock_core.specs.Transactions.{recs_of, has_commit}
-use Rattle.log_rule.specs.declared.view.Held.{Held}
+use Rattle.log_rule.specs.declared.view.Taken.{Taken}
 use Rattle.log_rule.specs.Books.{balance_taken, taking_job, taking, giving}
 use Rattle.log_rule.specs.Views.{counted}
 
@@ -26,8 +26,8 @@ abbrev pub saw_account : ℕ → ℕ → View → View
 saw_account account word view = record view { seen = seen_account account word view.seen }
 
 -- the account with the values of the word
-abbrev pub held_as : ℕ → ℕ → Held
-held_as account word = record { account = account; balance = balance_in word; mark = mark_in word }
+abbrev pub held_as : ℕ → ℕ → Taken
+held_as account word = record { account = account; balance = balance_in word; mark = last_commit_in word }
 
 -- after an exchange of an account's word that took the account
 abbrev pub took_account : ℕ → ℕ → View → View

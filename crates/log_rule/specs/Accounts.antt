@@ -4,7 +4,7 @@ use Rattle.std.specs.Prelude.{◌≡◌, ◌&&◌, ℕ, ℤ, ◌+◌, ◌<◌, �
 use Rattle.std.specs.List.{AllByRecursion}
 use mathlib.Core.Option.{some}
 use lib.ListN.{get_elem?}
-use Rattle.slot_word.specs.AccountWord.{held_in, balance_in, mark_in}
+use Rattle.slot_word.specs.AccountWord.{held_in, balance_in, last_commit_in}
 use Rattle.log_record.specs.declared.limits.TheConstants.{MOST_ACCOUNTS}
 use Rattle.log_record.specs.declared.rec.Placed.{Placed}
 use Rattle.log_record.specs.Spelling.{IsTxn}
@@ -16,10 +16,10 @@ use Rattle.lock_core.specs.Sums.{BaseState, as_opening, moved, total, IsBalanceO
 use Rattle.lock_core.specs.Lawful.{IsLawful}
 use Rattle.lock_core.specs.Serial.{IsRunWhole, IsCutShort}
 use Rattle.log_rule.specs.declared.view.TakenJob.{TakenJob}
-use Rattle.log_rule.specs.declared.view.Held.{Held}
+use Rattle.log_rule.specs.declared.view.Taken.{Taken}
 use Rattle.log_rule.specs.declared.view.Given.{Given}
 use Rattle.log_rule.specs.declared.view.Books.{Books}
-use Rattle.log_rule.specs.Books.{task_of, times_held, times_taken, balance_taken, mark_taken}
+use Rattle.log_rule.specs.Books.{task_of, times_held, times_taken, balance_taken, last_commit_taken}
 
 -- each element has this
 abbrev pub Everywhere : {A : Type 0} → (A → Type 0) → List A → Type 0
@@ -38,11 +38,11 @@ abbrev pub takers : ℕ → List Books → ℕ
 takers number all = summed (λ (books : Books). times_taken number books.jobs) all
 
 -- the account is one of the table's, and its word is held with the values as they were taken
-pub record IsAsTaken (accounts : ℕ) (words : ℕ → ℕ) (held : Held) : Type 0 where
+pub record IsAsTaken (accounts : ℕ) (words : ℕ → ℕ) (held : Taken) : Type 0 where
   pub known : held.account < accounts
   pub taken : held_in (words held.account) ≡ true
   pub balance : balance_in (words held.account) ≡ held.balance
-  pub mark : mark_in (words held.account) ≡ held.mark
+  pub mark : last_commit_in (words held.account) ≡ held.mark
 
 -- a job that may be taken
 pub record MayBeTaken (accounts : ℕ) (taken : TakenJob) : Type 0 where
@@ -73,7 +73,7 @@ commit_in entries account mark =
 
 -- With what the seat's last job made of it by its Commit, the balance as it was taken is the balance of the whole list, and so is the
 -- last Commit.
-pub record Follows (base : BaseState) (h placed : List Placed) (held : Held) : Type 0 where
+pub record Follows (base : BaseState) (h placed : List Placed) (held : Taken) : Type 0 where
   pub balance : held.balance + moved_if_committed gain held.account placed + total loss held.account h
       ≡ base.balance held.account + total gain held.account h + moved_if_committed loss held.account placed
   pub mark : last_commit_of base h held.account ≡ commit_in placed held.account held.mark
@@ -81,7 +81,7 @@ pub record Follows (base : BaseState) (h placed : List Placed) (held : Held) : T
 -- the values of a free account's word are those of the whole list
 pub record IsUpToDate (base : BaseState) (h : List Placed) (account word : ℕ) : Type 0 where
   pub balance : IsBalanceOf base h account (balance_in word)
-  pub mark : last_commit_of base h account ≡ mark_in word
+  pub mark : last_commit_of base h account ≡ last_commit_in word
 
 -- The account's balance as it was taken is that of some front of the list, which ends at or above the tail as the seat had seen it when
 -- it gave the account back.
@@ -118,11 +118,11 @@ pub record KeepsAccounts (base : BaseState) (words : ℕ → ℕ) (h : List Plac
 
 -- An account goes back as the job that placed these records left it: where the job has no Commit, with the balance and the last Commit
 -- as they were taken, and else with the balance as the job changed it, and with the end of its Commit if it has a change of the account.
-pub record FollowsJob (account balance mark taken_balance taken_mark : ℕ) (placed : List Placed) : Type 0 where
+pub record FollowsJob (account balance mark taken_balance taken_last_commit : ℕ) (placed : List Placed) : Type 0 where
   pub balance_is : balance + moved_if_committed loss account placed ≡ taken_balance + moved_if_committed gain account placed
-  pub mark_is : mark ≡ commit_in placed account taken_mark
+  pub last_commit_is : mark ≡ commit_in placed account taken_last_commit
 
 -- the seat holds the account, and may give it back with the values of the word
 pub record MayGive (account word : ℕ) (books : Books) : Type 0 where
   pub has : 1 ≤ times_held account books.held
-  pub values : FollowsJob account (balance_in word) (mark_in word) (balance_taken books.held account) (mark_taken books.held account) books.placed
+  pub values : FollowsJob account (balance_in word) (last_commit_in word) (balance_taken books.held account) (last_commit_taken books.held account) books.placed

@@ -5,15 +5,15 @@ use Rattle.log_record.specs.declared.rec.Rec.{Rec}
 use Rattle.log_record.specs.declared.rec.Rec.TheVariants.{Genesis, Update, Commit, Short, Over, Note}
 use Rattle.lock_core.specs.Transfers.{transfer_of}
 use Rattle.lock_core.specs.Alone.{planned_records}
-use Rattle.lock_core.specs.Serial.{Task}
+use Rattle.lock_core.specs.Serial.{NumberedTransfer}
 use Rattle.lock_core.specs.Transactions.{recs_of, in_order}
 use Rattle.log_rule.specs.declared.view.TakenJob.{TakenJob}
-use Rattle.log_rule.specs.declared.view.Held.{Held}
+use Rattle.log_rule.specs.declared.view.Taken.{Taken}
 use Rattle.log_rule.specs.declared.view.Given.{Given}
 use Rattle.log_rule.specs.declared.view.Books.{Books}
 
 -- a job that was taken, as a transfer under its number
-abbrev pub task_of : TakenJob → Task
+abbrev pub task_of : TakenJob → NumberedTransfer
 task_of taken = record { number = taken.number; job = transfer_of taken.job }
 
 abbrev pub no_job : TakenJob
@@ -24,7 +24,7 @@ abbrev pub no_books : Books
 no_books = record { jobs = []; last = no_job; placed = []; held = []; given = [] }
 
 -- how often a list of held accounts has this one
-abbrev pub times_held : ℕ → List Held → ℕ
+abbrev pub times_held : ℕ → List Taken → ℕ
 times_held account [] = 0
 times_held account (held ∷ more) = (if held.account == account then 1 else 0) + times_held account more
 
@@ -34,18 +34,18 @@ times_taken number [] = 0
 times_taken number (taken ∷ more) = (if taken.number == number then 1 else 0) + times_taken number more
 
 -- the balance of an account as it was taken, 0 where it is not held
-abbrev pub balance_taken : List Held → ℕ → ℕ
+abbrev pub balance_taken : List Taken → ℕ → ℕ
 balance_taken [] account = 0
 balance_taken (held ∷ more) account = if held.account == account then held.balance else balance_taken more account
 
 -- the end of its last Commit as it was taken
-abbrev pub mark_taken : List Held → ℕ → ℕ
-mark_taken [] account = 0
-mark_taken (held ∷ more) account = if held.account == account then held.mark else mark_taken more account
+abbrev pub last_commit_taken : List Taken → ℕ → ℕ
+last_commit_taken [] account = 0
+last_commit_taken (held ∷ more) account = if held.account == account then held.mark else last_commit_taken more account
 
 -- all records of the seat's last job, run alone on the balances and last Commits as they were taken
 abbrev pub plan_of : Books → List Rec
-plan_of books = planned_records books.last.number (transfer_of books.last.job) (mark_taken books.held) (balance_taken books.held)
+plan_of books = planned_records books.last.number (transfer_of books.last.job) (last_commit_taken books.held) (balance_taken books.held)
 
 -- the record behind as many of them as the log has
 abbrev pub next_of : Books → Rec
@@ -57,7 +57,7 @@ pub record IsNext (rec : Rec) (books : Books) : Type 0 where
   pub plan : in_order (recs_of books.placed) (rec ∷ rest) ≡ plan_of books
 
 -- the accounts of the leg are held
-abbrev pub HoldsLeg : List Held → ℕ × ℕ × ℕ → Type 0
+abbrev pub HoldsLeg : List Taken → ℕ × ℕ × ℕ → Type 0
 HoldsLeg held leg = (1 ≤ times_held leg.0 held) × (1 ≤ times_held leg.1 held)
 
 -- all accounts of the seat's last job are held
@@ -87,11 +87,11 @@ abbrev pub taking_job : TakenJob → Books → Books
 taking_job taken books = record books { jobs = taken ∷ books.jobs; last = taken; placed = [] }
 
 -- the account is taken
-abbrev pub taking : Held → Books → Books
+abbrev pub taking : Taken → Books → Books
 taking held books = record books { held = held ∷ books.held }
 
 -- the list without the account
-abbrev pub without : ℕ → List Held → List Held
+abbrev pub without : ℕ → List Taken → List Taken
 without account [] = []
 without account (held ∷ more) = if held.account == account then more else held ∷ without account more
 

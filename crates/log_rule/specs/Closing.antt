@@ -6,12 +6,12 @@ use Rattle.log_rule.specs.declared.view.Entry.{Entry}
 use Rattle.log_rule.specs.declared.view.View.{View}
 use Rattle.log_rule.specs.Log.{IsFull, IsSpelled, IsEntryBoundary, units_in}
 use Rattle.log_rule.specs.Sends.{IsDrained}
-use Rattle.slot_word.specs.AccountWord.{balance_in, mark_in}
+use Rattle.slot_word.specs.AccountWord.{balance_in, last_commit_in}
 use Rattle.log_record.specs.declared.rec.Rec.{Rec}
 use Rattle.log_record.specs.declared.rec.Placed.{Placed}
 use Rattle.lock_core.specs.History.{history_from}
 use Rattle.lock_core.specs.Lawful.{IsLawful}
-use Rattle.lock_core.specs.Serial.{Task, IsPartlySerialAfter}
+use Rattle.lock_core.specs.Serial.{NumberedTransfer, IsPartlySerialAfter}
 use Rattle.lock_core.specs.Settling.{row, KeepsRows}
 use Rattle.lock_core.specs.Sums.{BaseState, as_opening}
 use Rattle.log_rule.specs.Accounts.{WentBack}
@@ -42,7 +42,7 @@ history_of base entries = history_from base.end [] (records_of entries)
 
 -- The list is a lawful continuation of the base state. These jobs are run whole or cut short in it, and it has no other transactions.
 -- The rows are its accounts.
-pub record IsLedger (base : BaseState) (h : List Placed) (tasks : List Task) (rows : List (ℕ × ℕ)) : Type 0 where
+pub record IsLedger (base : BaseState) (h : List Placed) (tasks : List NumberedTransfer) (rows : List (ℕ × ℕ)) : Type 0 where
   pub lawful : IsLawful (as_opening base) h
   pub serial : IsPartlySerialAfter base tasks h
   pub accounts : KeepsRows rows base h
@@ -65,7 +65,7 @@ HasHeardOfWorkers view = AllByRecursion (IsRefusalOf (length view.standing.made)
 pub record ReadsRows (ring slots n : ℕ) (words : List ℕ) (old new : List (ℕ × ℕ)) : Type 0 where
   pub count : length new ≡ length old
   pub each : (account : ℕ) → account < n
-      → row new account ≡ (balance_in (slice_index words (index_of ring slots (Account account))), mark_in (slice_index words (index_of ring slots (Account account))))
+      → row new account ≡ (balance_in (slice_index words (index_of ring slots (Account account))), last_commit_in (slice_index words (index_of ring slots (Account account))))
 
 -- how many of the first n slots have a state that is not 0, by the words of a table whose ring has that length
 abbrev pub in_use : ℕ → ℕ → List ℕ → ℕ

@@ -15,12 +15,12 @@ use Rattle.log_rule.specs.declared.view.View.{View}
 use Rattle.log_rule.specs.Groups.{Member, Group}
 use Rattle.log_rule.specs.GroupViews.{stage_of, slot_after}
 use Rattle.log_rule.specs.Layout.{Word}
-use Rattle.log_rule.specs.Log.{Part, Range, Log, ranges_of, filled_in, is_released}
+use Rattle.log_rule.specs.Log.{Part, LogRange, Log, ranges_of, filled_in, is_released}
 use Rattle.log_rule.specs.Sound.{IsSound}
 use Rattle.log_rule.specs.Words.{Words, word_at, with_word}
 
 -- a range as the machine's reservation: the units that its parts have filled are counted
-abbrev pub reservation_of : List Part → Range → Reservation
+abbrev pub reservation_of : List Part → LogRange → Reservation
 reservation_of parts range =
     record { base = range.base; size = range.size; filled = filled_in range.base range.size parts; released = is_released range.duty }
 

@@ -21,7 +21,7 @@ pub data Duty : Type 0 where
   Released : Duty
 
 -- a reserved range, and how many of its units are not yet released
-pub record Range : Type 0 where
+pub record LogRange : Type 0 where
   pub base : ℕ
   pub size : ℕ
   pub remaining : ℕ
@@ -37,13 +37,13 @@ pub record Claim : Type 0 where
 -- ahead of exposed, up to the tail; and the group at each slot
 pub record Log : Type 0 where
   pub parts : List Part
-  pub flushed : List Range
-  pub exposed : List Range
-  pub ahead : List Range
+  pub flushed : List LogRange
+  pub exposed : List LogRange
+  pub ahead : List LogRange
   pub groups : ℕ → Group
 
 -- all ranges in order
-abbrev pub ranges_of : Log → List Range
+abbrev pub ranges_of : Log → List LogRange
 ranges_of log = log.flushed ++ (log.exposed ++ log.ahead)
 
 -- of those that pass the test, in order, what `tell` tells
@@ -75,14 +75,14 @@ is_owed_by seat (Shared slot) = false
 is_owed_by seat (Owed other) = other == seat
 is_owed_by seat Released = false
 
-abbrev pub owes : ℕ → Range → Bool
+abbrev pub owes : ℕ → LogRange → Bool
 owes seat range = is_owed_by seat range.duty
 
-abbrev pub claim_of : Range → Claim
+abbrev pub claim_of : LogRange → Claim
 claim_of range = record { base = range.base; size = range.size; remaining = range.remaining }
 
 -- the ranges that the seat has to release
-abbrev pub owed : ℕ → List Range → List Claim
+abbrev pub owed : ℕ → List LogRange → List Claim
 owed seat ranges = picked (owes seat) claim_of ranges
 
 -- the entry's units, where it starts in the `size` units from `base` on
@@ -104,7 +104,7 @@ filled_in base size [] = 0
 filled_in base size (part ∷ parts) = filled_inside base size part.entry + filled_in base size parts
 
 -- the ranges follow one another from one LSN to another, each of 1 to `most` units
-abbrev pub Tiles : ℕ → ℕ → List Range → ℕ → Type 0
+abbrev pub Tiles : ℕ → ℕ → List LogRange → ℕ → Type 0
 Tiles most from [] to = from ≡ to
 Tiles most from (range ∷ ranges) to = (range.base ≡ from) × (1 ≤ range.size) × (range.size ≤ most) × Tiles most (from + range.size) ranges to
 
@@ -127,11 +127,11 @@ abbrev pub IsEntryBoundary : ℕ → List Entry → ℕ → Type 0
 IsEntryBoundary start entries at = IsTilingBoundary (λ (entry : Entry). entry.size) start entries at
 
 -- where a range begins or ends
-abbrev pub IsRangeBoundary : ℕ → List Range → ℕ → Type 0
-IsRangeBoundary start ranges at = IsTilingBoundary (λ (range : Range). range.size) start ranges at
+abbrev pub IsRangeBoundary : ℕ → List LogRange → ℕ → Type 0
+IsRangeBoundary start ranges at = IsTilingBoundary (λ (range : LogRange). range.size) start ranges at
 
 -- the range ends where a part does
-abbrev pub EndsWithPart : ℕ → List Part → Range → Type 0
+abbrev pub EndsWithPart : ℕ → List Part → LogRange → Type 0
 EndsWithPart start parts range = IsTilingBoundary (λ (part : Part). part.entry.size) start parts (range.base + range.size)
 
 -- as many units were reserved as the record has, and those filled are its first
@@ -169,26 +169,26 @@ IsFullIfReleased part = part.released ≡ true → IsFull part.entry
 abbrev pub IsReleasedBelow : ℕ → Part → Type 0
 IsReleasedBelow exposed part = part.entry.start < exposed → part.released ≡ true
 
-abbrev pub IsReleased : Range → Type 0
+abbrev pub IsReleased : LogRange → Type 0
 IsReleased range = range.duty ≡ Released
 
 -- one seat has to release the range
-pub record IsOwedBySeat (range : Range) : Type 0 where
+pub record IsOwedBySeat (range : LogRange) : Type 0 where
   pub seat : ℕ
   pub duty : range.duty ≡ Owed seat
 
 -- the members at a slot have to release it, and there are some
-pub record IsSharedByMembers (groups : ℕ → Group) (range : Range) : Type 0 where
+pub record IsSharedByMembers (groups : ℕ → Group) (range : LogRange) : Type 0 where
   pub slot : ℕ
   pub duty : range.duty ≡ Shared slot
   pub members : (groups slot).members ≢ []
 
 -- the range is owed by a seat, or shared by a slot's members
-abbrev pub IsOwed : (ℕ → Group) → Range → Type 0
+abbrev pub IsOwed : (ℕ → Group) → LogRange → Type 0
 IsOwed groups range = IsOwedBySeat range ⊎ IsSharedByMembers groups range
 
 -- where the range is not released, there is who has to release it
-abbrev pub IsAtWork : (ℕ → Group) → Range → Type 0
+abbrev pub IsAtWork : (ℕ → Group) → LogRange → Type 0
 IsAtWork groups range = IsReleased range ⊎ IsOwed groups range
 
 abbrev pub is_released : Duty → Bool
@@ -197,5 +197,5 @@ is_released (Owed seat) = false
 is_released Released = true
 
 -- what remains of the range is what its parts have that is not released
-abbrev pub CountsRemaining : List Part → Range → Type 0
+abbrev pub CountsRemaining : List Part → LogRange → Type 0
 CountsRemaining parts range = unreleased_in range.base range.size parts ≡ range.remaining

@@ -6,26 +6,26 @@ use lib.ListN.{get_elem?}
 use Rattle.log_rule.specs.declared.view.Call.{Call}
 use Rattle.log_rule.specs.declared.view.Call.TheVariants.{Idle, Filling, Joined, Emptying, Marked, Holding, Raising, Reopening}
 use Rattle.log_rule.specs.declared.view.View.{View}
-use Rattle.log_rule.specs.Log.{Range, Log, ranges_of, IsRangeBoundary, IsReleased}
+use Rattle.log_rule.specs.Log.{LogRange, Log, ranges_of, IsRangeBoundary, IsReleased}
 
 -- the range begins at the one LSN and ends at the other, is released, and nothing of it remains
-pub record IsReady (at end : ℕ) (range : Range) : Type 0 where
+pub record IsReady (at end : ℕ) (range : LogRange) : Type 0 where
   pub base : range.base ≡ at
   pub ends : range.base + range.size ≡ end
   pub released : IsReleased range
   pub remaining : range.remaining ≡ 0
 
 -- one of the ranges is ready, from the one LSN to the other
-abbrev pub IsReadyIn : ℕ → ℕ → List Range → Type 0
+abbrev pub IsReadyIn : ℕ → ℕ → List LogRange → Type 0
 IsReadyIn at end [] = ⊥
 IsReadyIn at end (range ∷ ranges) = IsReady at end range ⊎ IsReadyIn at end ranges
 
 -- the mark at an LSN is not above it, or a range is ready that begins there, and ends where the mark says
-abbrev pub IsCurrentMark : ℕ → (ℕ → ℕ) → List Range → ℕ → Type 0
+abbrev pub IsCurrentMark : ℕ → (ℕ → ℕ) → List LogRange → ℕ → Type 0
 IsCurrentMark size mark ahead at = (mark (at % size) ≤ at) ⊎ IsReadyIn at (mark (at % size)) ahead
 
 -- the mark at the base of a released range is at least its end
-abbrev pub HasTrueMark : ℕ → (ℕ → ℕ) → Range → Type 0
+abbrev pub HasTrueMark : ℕ → (ℕ → ℕ) → LogRange → Type 0
 HasTrueMark size mark range = IsReleased range → range.base + range.size ≤ mark (range.base % size)
 
 -- From exposed on, for the length of the ring, marks are current. All released ranges, those below exposed too, have true marks. No mark is
@@ -36,12 +36,12 @@ pub record HasReleaseMarks (size tail exposed : ℕ) (mark : ℕ → ℕ) (log :
   pub below_tail : (index : ℕ) → mark index ≤ tail
 
 -- the first of the ranges is released
-abbrev pub IsFirstReleased : List Range → Type 0
+abbrev pub IsFirstReleased : List LogRange → Type 0
 IsFirstReleased [] = ⊥
 IsFirstReleased (range ∷ ranges) = IsReleased range
 
 -- and it ends there
-abbrev pub FirstEnds : List Range → ℕ → Type 0
+abbrev pub FirstEnds : List LogRange → ℕ → Type 0
 FirstEnds [] end = ⊥
 FirstEnds (range ∷ ranges) end = IsReleased range × (end ≡ range.base + range.size)
 
@@ -64,7 +64,7 @@ pub record HasCarrier (place : ℕ) (views : List View) : Type 0 where
   pub carries : Carries place view.call
 
 -- where the first range ahead is released, some seat is on the way to expose it
-abbrev pub IsCarried : ℕ → List Range → List View → Type 0
+abbrev pub IsCarried : ℕ → List LogRange → List View → Type 0
 IsCarried exposed ahead views = IsFirstReleased ahead → HasCarrier exposed views
 
 -- exposed has been here: a boundary of reservations, at most exposed

@@ -4,7 +4,7 @@ use Rattle.std.specs.List.{AllByRecursion, list_any}
 use lib.Dec.{eqb}
 use Rattle.lsn_space.specs.declared.lsn.TheConstants.{LAST}
 use Rattle.log_rule.specs.declared.view.Entry.{Entry}
-use Rattle.log_rule.specs.declared.view.Held.{Held}
+use Rattle.log_rule.specs.declared.view.Taken.{Taken}
 use Rattle.log_rule.specs.declared.view.Call.TheVariants.{Idle, Filling, Joined, Emptying, Holding, Raising, Reopening}
 use Rattle.log_rule.specs.declared.group_view.After.{After}
 use Rattle.log_rule.specs.declared.group_view.MemberStep.TheVariants.{Closes, Hears, Places, Stores, Tells, Fills, Leaves}
@@ -18,12 +18,12 @@ use Rattle.lock_core.specs.declared.job.Job.{Job}
 use Rattle.slot_word.specs.declared.account_word.AccountWord.{AccountWord}
 use Rattle.slot_word.specs.declared.phase.Phase.TheVariants.{Gathering}
 use Rattle.slot_word.specs.declared.slot_word.SlotWord.{SlotWord}
-use Rattle.slot_word.specs.AccountWord.{word_of, held_in, balance_in, mark_in}
+use Rattle.slot_word.specs.AccountWord.{word_of, held_in, balance_in, last_commit_in}
 use Rattle.slot_word.specs.SlotWord.{word_of as word_of_slot}
 use Rattle.log_rule.specs.declared.view.TakenJob.{TakenJob}
 use Rattle.log_rule.specs.declared.view.Books.{Books}
 use Rattle.log_rule.specs.Accounts.{MayBeTaken, MayGive}
-use Rattle.log_rule.specs.Books.{times_held, balance_taken, mark_taken, next_of, IsNote, MayEnter}
+use Rattle.log_rule.specs.Books.{times_held, balance_taken, last_commit_taken, next_of, IsNote, MayEnter}
 use Rattle.log_rule.specs.Groups.{Outcome}
 use Rattle.log_rule.specs.Log.{IsFull}
 use Rattle.log_rule.specs.Slots.{told_word}
@@ -55,7 +55,7 @@ pub record HasBegunNothing (view : View) : Type 0 where
 
 -- each account that is held is below this one
 abbrev pub Ascends : ℕ → Books → Type 0
-Ascends account books = AllByRecursion (λ (held : Held). held.account < account) books.held
+Ascends account books = AllByRecursion (λ (held : Taken). held.account < account) books.held
 
 -- the account may be taken: it is above all that the seat holds, and its word is free and is taken with the same values
 pub record MayTake (account : ℕ) (from to : AccountWord) (view : View) : Type 0 where
@@ -70,7 +70,7 @@ pub record MayTake (account : ℕ) (from to : AccountWord) (view : View) : Type 
 -- where the seat holds the account, the word is held, with the values as it took them
 abbrev pub IsOwnWord : ℕ → ℕ → Books → Type 0
 IsOwnWord account word books = 1 ≤ times_held account books.held
-    → (held_in word ≡ true) × (balance_in word ≡ balance_taken books.held account) × (mark_in word ≡ mark_taken books.held account)
+    → (held_in word ≡ true) × (balance_in word ≡ balance_taken books.held account) × (last_commit_in word ≡ last_commit_taken books.held account)
 
 -- the account may be given back with these values
 pub record MayGiveBack (account : ℕ) (word : AccountWord) (view : View) : Type 0 where

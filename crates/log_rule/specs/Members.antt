@@ -16,7 +16,7 @@ use Rattle.log_rule.specs.declared.view.Seen.{Seen}
 use Rattle.log_rule.specs.declared.view.View.{View}
 use Rattle.log_rule.specs.Books.{next_of, MayEnter}
 use Rattle.log_rule.specs.Groups.{Outcome, Granted, Refused, GroupPhase, Vacant, Gathering, Closed, Placed, Ready, Told, Emptied, Member, Group}
-use Rattle.log_rule.specs.Log.{Range, IsRangeBoundary}
+use Rattle.log_rule.specs.Log.{LogRange, IsRangeBoundary}
 use Rattle.log_rule.specs.Roles.{is_spent}
 
 -- ---- what members had seen
@@ -32,13 +32,13 @@ HadSeenUnder (Granted base) member = member.piece.tail ≤ base
 HadSeenUnder (Refused tail durable) member = HadSeenUpTo tail durable member
 
 -- the tail and the durable by which a group was refused are boundaries of reservations, and not above the words
-pub record WasSeen (start tail durable : ℕ) (ranges : List Range) (seen_tail seen_durable : ℕ) : Type 0 where
+pub record WasSeen (start tail durable : ℕ) (ranges : List LogRange) (seen_tail seen_durable : ℕ) : Type 0 where
   pub tail_boundary : IsRangeBoundary start ranges seen_tail
   pub durable_boundary : IsRangeBoundary start ranges seen_durable
   pub tail_reached : seen_tail ≤ tail
   pub durable_reached : seen_durable ≤ durable
 
-abbrev pub IsTrueOutcome : ℕ → ℕ → ℕ → List Range → Outcome → Type 0
+abbrev pub IsTrueOutcome : ℕ → ℕ → ℕ → List LogRange → Outcome → Type 0
 IsTrueOutcome start tail durable ranges (Granted base) = Unit {0}
 IsTrueOutcome start tail durable ranges (Refused seen_tail seen_durable) = WasSeen start tail durable ranges seen_tail seen_durable
 
@@ -52,13 +52,13 @@ LacksRoomIfRefused ring total (Granted base) = Unit {0}
 LacksRoomIfRefused ring total (Refused tail durable) = LacksRoom ring total tail durable
 
 -- what became of the group of this total is so, and goes with what its members had seen
-pub record HasOutcome (start ring tail durable : ℕ) (ranges : List Range) (members : List Member) (total : ℕ) (outcome : Outcome) : Type 0 where
+pub record HasOutcome (start ring tail durable : ℕ) (ranges : List LogRange) (members : List Member) (total : ℕ) (outcome : Outcome) : Type 0 where
   pub members_seen : AllByRecursion (HadSeenUnder outcome) members
   pub is_true : IsTrueOutcome start tail durable ranges outcome
   pub no_room : LacksRoomIfRefused ring total outcome
 
 -- so, by the phase of the group
-abbrev pub HasPhaseOutcome : ℕ → ℕ → ℕ → ℕ → List Range → List Member → GroupPhase → Type 0
+abbrev pub HasPhaseOutcome : ℕ → ℕ → ℕ → ℕ → List LogRange → List Member → GroupPhase → Type 0
 HasPhaseOutcome start ring tail durable ranges members Vacant = Unit {0}
 HasPhaseOutcome start ring tail durable ranges members (Gathering leader total) = Unit {0}
 HasPhaseOutcome start ring tail durable ranges members (Closed leader total) = Unit {0}
@@ -68,7 +68,7 @@ HasPhaseOutcome start ring tail durable ranges members (Told total outcome remai
 HasPhaseOutcome start ring tail durable ranges members (Emptied last) = Unit {0}
 
 -- what the members of a group had seen is not above the words, nor above what became of the group
-pub record HasSeenInGroup (start ring tail durable : ℕ) (ranges : List Range) (group : Group) : Type 0 where
+pub record HasSeenInGroup (start ring tail durable : ℕ) (ranges : List LogRange) (group : Group) : Type 0 where
   pub members_seen : AllByRecursion (HadSeenUpTo tail durable) group.members
   pub outcome : HasPhaseOutcome start ring tail durable ranges group.members group.phase
 

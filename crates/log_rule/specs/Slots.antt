@@ -10,7 +10,7 @@ use Rattle.log_rule.specs.declared.group_view.MemberStep.TheVariants.{Closes, Wa
 use Rattle.log_rule.specs.declared.view.Call.{Call}
 use Rattle.log_rule.specs.declared.view.Call.TheVariants.{Idle, Filling, Joined, Emptying, Marked, Holding, Raising, Reopening}
 use Rattle.log_rule.specs.Groups.{Outcome, Granted, Refused, GroupPhase, Vacant, Gathering, Closed, Placed, Ready, Told, Emptied, Piece, Member, Group}
-use Rattle.log_rule.specs.Log.{Duty, Shared, Owed, Released, Range, Claim, picked, claim_of}
+use Rattle.log_rule.specs.Log.{Duty, Shared, Owed, Released, LogRange, Claim, picked, claim_of}
 
 -- ---- members
 
@@ -136,11 +136,11 @@ is_shared_at slot (Shared other) = other == slot
 is_shared_at slot (Owed seat) = false
 is_shared_at slot Released = false
 
-abbrev pub shares : ℕ → Range → Bool
+abbrev pub shares : ℕ → LogRange → Bool
 shares slot range = is_shared_at slot range.duty
 
 -- the ranges that the members at the slot have to release
-abbrev pub shared : ℕ → List Range → List Claim
+abbrev pub shared : ℕ → List LogRange → List Claim
 shared slot ranges = picked (shares slot) claim_of ranges
 
 -- the range of a group with this outcome
@@ -257,6 +257,6 @@ IsAtPhase most word base members (Told total outcome remaining) = IsTold most wo
 IsAtPhase most word base members (Emptied last) = IsEmptied most word members
 
 -- the range that the members have to release is their group's, and the slot's words are those of its phase
-pub record IsSoundSlot (most word base slot : ℕ) (ahead : List Range) (group : Group) : Type 0 where
+pub record IsSoundSlot (most word base slot : ℕ) (ahead : List LogRange) (group : Group) : Type 0 where
   pub range : shared slot ahead ≡ range_of group.phase
   pub words : IsAtPhase most word base group.members group.phase

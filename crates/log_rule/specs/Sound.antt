@@ -20,7 +20,7 @@ use Rattle.log_rule.specs.declared.view.Books.{Books}
 use Rattle.log_rule.specs.Accounts.{KeepsAccounts}
 use Rattle.log_rule.specs.Groups.{Group}
 use Rattle.log_rule.specs.Layout.{word_count}
-use Rattle.log_rule.specs.Log.{Part, Range, Log, ranges_of, own, parts_of, owed, Tiles, Laid, SpellsRecord, records_in, StandsInRing, AgreesFrom, IsRangeBoundary, EndsWithPart, IsFullIfReleased, IsReleasedBelow, IsReleased, IsAtWork, CountsRemaining}
+use Rattle.log_rule.specs.Log.{Part, LogRange, Log, ranges_of, own, parts_of, owed, Tiles, Laid, SpellsRecord, records_in, StandsInRing, AgreesFrom, IsRangeBoundary, EndsWithPart, IsFullIfReleased, IsReleasedBelow, IsReleased, IsAtWork, CountsRemaining}
 use Rattle.log_rule.specs.Marks.{HasReleaseMarks, IsCarried, HasTrueEnds}
 use Rattle.log_rule.specs.Members.{HasSeenInGroup, LoadsForGroup, AwaitsPlace, HasTotalOfWorkers, HeardOfWorkers, HasSeenLast}
 use Rattle.log_rule.specs.Slots.{own_pieces, pieces_at, led_phase, phase_at, KnowsGroup, IsSoundSlot}
@@ -48,7 +48,7 @@ pub record HasTailInReach (ring tail durable : ℕ) : Type 0 where
   pub within_log : tail ≤ LAST
 
 -- none of tail, exposed and durable is below what a seat saw in it, and each LSN that a seat saw is a boundary of reservations
-pub record HasSeenBoundaries (start tail exposed durable : ℕ) (ranges : List Range) (seen : Seen) : Type 0 where
+pub record HasSeenBoundaries (start tail exposed durable : ℕ) (ranges : List LogRange) (seen : Seen) : Type 0 where
   pub tail_seen : seen.tail ≤ tail
   pub exposed_seen : seen.exposed ≤ exposed
   pub durable_seen : seen.durable ≤ durable
@@ -106,7 +106,7 @@ LookedIfQuiet exposed view = view.standing.role ≡ Flusher → view.sending.qui
 
 -- The log has of the seat its entries, which are released, and what its call has reserved; and each slot has the seat as a member, and as
 -- the one who makes the slot's next step, where its call says so. What the call knows of its group is so.
-pub record HasWorkingOwner (groups : ℕ → Group) (parts : List Part) (ahead : List Range) (seat : ℕ) (view : View) : Type 0 where
+pub record HasWorkingOwner (groups : ℕ → Group) (parts : List Part) (ahead : List LogRange) (seat : ℕ) (view : View) : Type 0 where
   pub owns : own seat parts ≡ parts_of seat true view.entries ++ parts_of seat false (entries_in groups view.call)
   pub owes : owed seat ahead ≡ claims_in view.call
   pub joins : (slot : ℕ) → own_pieces seat (groups slot).members ≡ pieces_at slot view.call

@@ -18,5 +18,5 @@ pub use layout::{
 };
 pub use start::Start;
 pub use view::{
-    Books, Call, Constants, Entry, Given, Held, Role, Seen, Sending, Standing, TakenJob, View,
+    Books, Call, Constants, Entry, Given, Role, Seen, Sending, Standing, Taken, TakenJob, View,
 };

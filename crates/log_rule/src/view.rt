@@ -122,7 +122,7 @@ pub struct TakenJob {
 }
 
 /// An account that a seat holds, with the balance and the last commit's end as they were taken.
-pub struct Held {
+pub struct Taken {
     pub account: u64,
     pub balance: u64,
     pub mark: u64,
@@ -147,7 +147,7 @@ pub struct Books {
     pub jobs: LinkedList<TakenJob>,
     pub last: TakenJob,
     pub placed: LinkedList<log_record::Placed>,
-    pub held: LinkedList<Held>,
+    pub held: LinkedList<Taken>,
     pub given: LinkedList<Given>,
 }
 

@@ -28,6 +28,6 @@ pub record KnowsHired (key : Start) (workers : ℕ) (view : View) : Type 0 where
   pub books : view.books ≡ no_books
 
 -- so it is with the table's flusher's seat
-pub record HasHired (table : LogTable) (workers : ℕ) (boss : Seat) : Type 0 where
-  pub seat : IsOf table boss
-  pub knows : KnowsHired (key_of table) workers (view_of boss)
+pub record HasHired (table : LogTable) (workers : ℕ) (flusher_view : Seat) : Type 0 where
+  pub seat : IsOf table flusher_view
+  pub knows : KnowsHired (key_of table) workers (view_of flusher_view)

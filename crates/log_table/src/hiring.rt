@@ -10,8 +10,8 @@ impl LogTable {
     /// The seat of the worker of the next number. It is enrolled, and the flusher's seat knows that by
     /// a note, so that it sees when nobody is at work any more.
     pub fn hire(&self, seat: &mut Seat, worker: u32) -> Seat
-        requires boss { HasHired self.now worker seat.old }
-        ensures boss { HasHired self.now (worker + 1) seat.new }
+        requires flusher_view { HasHired self.now worker seat.old }
+        ensures flusher_view { HasHired self.now (worker + 1) seat.new }
         ensures new { IsOf self.now result }
         ensures view { view_of result ≡ enrolled (hired worker (view_of seat.old)) }
         ensures worker { result.worker ≡ worker }

@@ -11,8 +11,8 @@ use test_rig::{insert_all, insert_note, noted_job, table_of, worker};
 
 #[test]
 fn inserts_answer_their_lsns(rt: HostRuntime) -> Result<(), Fail> {
-    let (table, mut boss) = table_of(rt.alloc(), (100, 0), 4)?;
-    let mut seat = worker(&table, &mut boss, 0, 1);
+    let (table, mut flusher_seat) = table_of(rt.alloc(), (100, 0), 4)?;
+    let mut seat = worker(&table, &mut flusher_seat, 0, 1);
     let Some(job) = noted_job(b"aaaaaaaa") else {
         return Err(Fail::new("no job"));
     };
@@ -27,8 +27,8 @@ fn inserts_answer_their_lsns(rt: HostRuntime) -> Result<(), Fail> {
 
 #[test]
 fn refuses_units_past_the_last_lsn(rt: HostRuntime) -> Result<(), Fail> {
-    let (table, mut boss) = table_of(rt.alloc(), (100, 0), LAST - 1)?;
-    let mut seat = worker(&table, &mut boss, 0, 1);
+    let (table, mut flusher_seat) = table_of(rt.alloc(), (100, 0), LAST - 1)?;
+    let mut seat = worker(&table, &mut flusher_seat, 0, 1);
     let Some(job) = noted_job(b"aaaaaaaa") else {
         return Err(Fail::new("no job"));
     };
@@ -40,8 +40,8 @@ fn refuses_units_past_the_last_lsn(rt: HostRuntime) -> Result<(), Fail> {
 
 #[test]
 fn refuses_units_past_the_ring(rt: HostRuntime) -> Result<(), Fail> {
-    let (table, mut boss) = table_of(rt.alloc(), (100, 0), 4)?;
-    let mut seat = worker(&table, &mut boss, 0, 1);
+    let (table, mut flusher_seat) = table_of(rt.alloc(), (100, 0), 4)?;
+    let mut seat = worker(&table, &mut flusher_seat, 0, 1);
     let Some(job) = noted_job(b"aaaaaaaa") else {
         return Err(Fail::new("no job"));
     };

@@ -58,20 +58,20 @@ fn work<G: Gate>(
 }
 
 /// Both workers are merged, and the table is closed.
-fn gather(table: LogTable, mut boss: Seat, one: Seat, two: Seat) -> Closed
+fn gather(table: LogTable, mut flusher_seat: Seat, one: Seat, two: Seat) -> Closed
     requires one { IsOf table one }
     requires one_ended { (view_of one).standing.role ≡ Ended }
     requires one_is { (view_of one).standing.worker ≡ 0 }
     requires two { IsOf table two }
     requires two_ended { (view_of two).standing.role ≡ Ended }
     requires two_is { (view_of two).standing.worker ≡ 1 }
-    requires boss { IsOf table boss }
-    requires flusher { (view_of boss).standing.role ≡ Flusher }
-    requires made { (view_of boss).standing.made ≡ 1 ∷ 0 ∷ [] }
+    requires flusher_seat { IsOf table flusher_seat }
+    requires flusher { (view_of flusher_seat).standing.role ≡ Flusher }
+    requires made { (view_of flusher_seat).standing.made ≡ 1 ∷ 0 ∷ [] }
 {
-    table.merge(&mut boss, one);
-    table.merge(&mut boss, two);
-    table.close(boss)
+    table.merge(&mut flusher_seat, one);
+    table.merge(&mut flusher_seat, two);
+    table.close(flusher_seat)
 }
 
 /// Where the records of two workers start, and where the log ends behind them.
@@ -96,9 +96,9 @@ pub(crate) fn insert_both<R: Threads, G: Gate + Sync>(
     requires first { IsNotedJob first.now }
     requires second { IsNotedJob second.now }
 {
-    let (table, mut boss) = table_of(alloc, (100, 0), 4)?;
-    let one = worker(&table, &mut boss, 0, 1);
-    let two = worker(&table, &mut boss, 1, 2);
+    let (table, mut flusher_seat) = table_of(alloc, (100, 0), 4)?;
+    let one = worker(&table, &mut flusher_seat, 0, 1);
+    let two = worker(&table, &mut flusher_seat, 1, 2);
     let t = &table;
     let ((at_first, one), (at_second, two)) = join(
         rt,
@@ -111,8 +111,8 @@ pub(crate) fn insert_both<R: Threads, G: Gate + Sync>(
             ensures { IsOf t.entry.now result.1 × ((view_of result.1).standing.role ≡ Ended) × ((view_of result.1).standing.worker ≡ (view_of two).standing.worker) }
         { work(t, two, 2, second, gate) },
     );
-    let sent = send_all(alloc, &table, &mut boss, Lsn::new(4))?;
-    let closed = gather(table, boss, one, two);
+    let sent = send_all(alloc, &table, &mut flusher_seat, Lsn::new(4))?;
+    let closed = gather(table, flusher_seat, one, two);
     Ok(Inserted {
         places: (at_first, at_second, closed.lsn()),
         units: sent.0,

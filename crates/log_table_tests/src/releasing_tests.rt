@@ -43,9 +43,9 @@ fn is_range(rt: &impl Abort, range: &Range, from: u32, to: u32) {
 
 #[test]
 fn a_range_behind_a_gap_is_exposed_with_it(rt: HostRuntime) -> Result<(), Fail> {
-    let (table, mut boss) = table_of(rt.alloc(), (100, 0), 4)?;
-    let mut one = worker(&table, &mut boss, 0, 1);
-    let mut two = worker(&table, &mut boss, 1, 2);
+    let (table, mut flusher_seat) = table_of(rt.alloc(), (100, 0), 4)?;
+    let mut one = worker(&table, &mut flusher_seat, 0, 1);
+    let mut two = worker(&table, &mut flusher_seat, 1, 2);
     let (Some(first), Some(second)) = (noted_job(b"aaaaaaaa"), noted_job(b"bbbbbbbbb")) else {
         return Err(Fail::new("no job"));
     };
@@ -114,9 +114,9 @@ fn finds_a_later_lap(
 #[test]
 fn an_old_look_exposes_nothing(rt: HostRuntime) -> Result<(), Fail> {
     let alloc = rt.alloc();
-    let (table, mut boss) = table_of(alloc, (100, 0), 4)?;
-    let mut old = worker(&table, &mut boss, 0, 1);
-    let mut other = worker(&table, &mut boss, 1, 2);
+    let (table, mut flusher_seat) = table_of(alloc, (100, 0), 4)?;
+    let mut old = worker(&table, &mut flusher_seat, 0, 1);
+    let mut other = worker(&table, &mut flusher_seat, 1, 2);
     let Some(job) = noted_job(b"aaaaaaaa") else {
         return Err(Fail::new("no job"));
     };
@@ -128,7 +128,7 @@ fn an_old_look_exposes_nothing(rt: HostRuntime) -> Result<(), Fail> {
     let at = table.load_exposed(&mut old);
     is_at(&rt, "the old look", at, 4);
     insert_all(&table, &mut other, 2, 511, &job);
-    let sent = send_all(alloc, &table, &mut boss, Lsn::new(4))?;
+    let sent = send_all(alloc, &table, &mut flusher_seat, Lsn::new(4))?;
     is_at(&rt, "sent", sent.1, 1028);
     insert_all(&table, &mut other, 513, 2, &job);
     is_at(&rt, "tail", table.load_tail(&mut other), 1032);

@@ -46,57 +46,73 @@ fn sends<R: Abort>(
     rt: &R,
     alloc: Global,
     table: &LogTable,
-    boss: &mut Seat,
+    flusher_seat: &mut Seat,
     from: Lsn,
     wanted: &[u64],
     end: u32,
 ) -> Result<Lsn, Fail>
-    requires boss { IsOf table.now boss.old }
-    requires flusher { (view_of boss.old).standing.role ≡ Flusher }
-    requires rests { (view_of boss.old).sending.read ≡ [] }
-    requires from { sent_to (view_of boss.old) ≡ from }
-    ensures boss { IfOk result (λ to. IsOf table.now boss.new) }
-    ensures standing { IfOk result (λ to. (view_of boss.new).standing ≡ (view_of boss.old).standing) }
-    ensures rests { IfOk result (λ to. (view_of boss.new).sending.read ≡ []) }
-    ensures to { IfOk result (λ to. sent_to (view_of boss.new) ≡ to) }
+    requires flusher_seat { IsOf table.now flusher_seat.old }
+    requires flusher { (view_of flusher_seat.old).standing.role ≡ Flusher }
+    requires rests { (view_of flusher_seat.old).sending.read ≡ [] }
+    requires from { sent_to (view_of flusher_seat.old) ≡ from }
+    ensures flusher_seat { IfOk result (λ to. IsOf table.now flusher_seat.new) }
+    ensures standing { IfOk result (λ to. (view_of flusher_seat.new).standing ≡ (view_of flusher_seat.old).standing) }
+    ensures rests { IfOk result (λ to. (view_of flusher_seat.new).sending.read ≡ []) }
+    ensures to { IfOk result (λ to. sent_to (view_of flusher_seat.new) ≡ to) }
 {
-    let (units, to) = send_all(alloc, table, boss, from)?;
+    let (units, to) = send_all(alloc, table, flusher_seat, from)?;
     has_sent(rt, units.as_slice(), to, wanted, end);
     Ok(to)
 }
 
 /// The one worker that was hired leaves, and the log ends here.
-fn ends_at<R: Abort>(rt: &R, table: LogTable, mut boss: Seat, mut seat: Seat, end: u32)
+fn ends_at<R: Abort>(rt: &R, table: LogTable, mut flusher_seat: Seat, mut seat: Seat, end: u32)
     requires worker { IsOf table seat }
     requires leaves { MayLeave (view_of seat) }
     requires number { (view_of seat).standing.worker ≡ 0 }
-    requires boss { IsOf table boss }
-    requires flusher { (view_of boss).standing.role ≡ Flusher }
-    requires made { (view_of boss).standing.made ≡ 0 ∷ [] }
+    requires flusher_seat { IsOf table flusher_seat }
+    requires flusher { (view_of flusher_seat).standing.role ≡ Flusher }
+    requires made { (view_of flusher_seat).standing.made ≡ 0 ∷ [] }
 {
     table.leave(&mut seat);
-    is_number(rt, "workers", table.load_crew(&mut boss), 0);
-    is_at(rt, "exposed", table.load_exposed(&mut boss), end);
-    table.merge(&mut boss, seat);
-    is_at(rt, "end", table.close(boss).lsn(), end);
+    is_number(rt, "workers", table.load_crew(&mut flusher_seat), 0);
+    is_at(rt, "exposed", table.load_exposed(&mut flusher_seat), end);
+    table.merge(&mut flusher_seat, seat);
+    is_at(rt, "end", table.close(flusher_seat).lsn(), end);
 }
 
 #[test]
 fn the_flusher_reads_what_was_inserted(rt: HostRuntime) -> Result<(), Fail> {
     let alloc = rt.alloc();
-    let (table, mut boss) = table_of(alloc, (100, 0), 1022)?;
-    let mut seat = worker(&table, &mut boss, 0, 1);
-    is_number(&rt, "workers", table.load_crew(&mut boss), 1);
+    let (table, mut flusher_seat) = table_of(alloc, (100, 0), 1022)?;
+    let mut seat = worker(&table, &mut flusher_seat, 0, 1);
+    is_number(&rt, "workers", table.load_crew(&mut flusher_seat), 1);
     let (Some(first), Some(second)) = (noted_job(b"abcdefghi"), noted_job(b"jklmnopq")) else {
         return Err(Fail::new("no job"));
     };
     let start = Lsn::new(1022);
     inserts(&rt, &table, &mut seat, 1, &first, 1022);
-    let to = sends(&rt, alloc, &table, &mut boss, start, FIRST.as_slice(), 1025)?;
+    let to = sends(
+        &rt,
+        alloc,
+        &table,
+        &mut flusher_seat,
+        start,
+        FIRST.as_slice(),
+        1025,
+    )?;
     is_at(&rt, "durable", table.load_durable(&mut seat), 1025);
     inserts(&rt, &table, &mut seat, 2, &second, 1025);
-    let to = sends(&rt, alloc, &table, &mut boss, to, SECOND.as_slice(), 1027)?;
-    sends(&rt, alloc, &table, &mut boss, to, &[], 1027)?;
-    ends_at(&rt, table, boss, seat, 1027);
+    let to = sends(
+        &rt,
+        alloc,
+        &table,
+        &mut flusher_seat,
+        to,
+        SECOND.as_slice(),
+        1027,
+    )?;
+    sends(&rt, alloc, &table, &mut flusher_seat, to, &[], 1027)?;
+    ends_at(&rt, table, flusher_seat, seat, 1027);
     Ok(())
 }

@@ -45,9 +45,9 @@ fn finds_free(rt: &impl Abort, table: &LogTable, seat: &mut Seat, values: (u32, 
 
 #[test]
 fn an_account_is_held_until_it_is_given_back(rt: HostRuntime) -> Result<(), Fail> {
-    let (table, mut boss) = table_of(rt.alloc(), (100, 0), 4)?;
-    let mut one = worker(&table, &mut boss, 0, 1);
-    let mut two = worker(&table, &mut boss, 1, 2);
+    let (table, mut flusher_seat) = table_of(rt.alloc(), (100, 0), 4)?;
+    let mut one = worker(&table, &mut flusher_seat, 0, 1);
+    let mut two = worker(&table, &mut flusher_seat, 1, 2);
     table.take_job(&mut one, 1, &job_of(30));
     table.take_job(&mut two, 2, &job_of(30));
     let Ok(taken) = try_take(&table, &mut one, 0) else {

@@ -11,14 +11,14 @@ use std::marker::Model;
 
 /// A reserved range of the log.
 #[derive(Drop)]
-pub struct Range {
+pub struct RingRange {
     base: u32,
     size: u32,
     filled: u32,
     released: bool,
 }
 
-impl Model for Range {
+impl Model for RingRange {
     ghost use Rattle.ring_core.specs.RingLog.{Reservation};
 
     ghost Value = { Reservation };
@@ -26,12 +26,12 @@ impl Model for Range {
     ghost view = { λ r. record { base = r.base; size = r.size; filled = r.filled; released = r.released } };
 }
 
-impl Range {
+impl RingRange {
     /// `size` units from `base` on, none of them filled.
-    pub fn new(base: u32, size: u32) -> Range
+    pub fn new(base: u32, size: u32) -> RingRange
         ensures { result ≡ fresh base size }
     {
-        Range {
+        RingRange {
             base,
             size,
             filled: 0,
@@ -86,14 +86,14 @@ impl Range {
 }
 
 /// The index of the range that starts at `base`.
-pub fn index_at(ranges: &[Range], base: Lsn) -> Option<usize>
+pub fn index_at(ranges: &[RingRange], base: Lsn) -> Option<usize>
     ensures { result ≡ position (is_at base) ranges.now }
 {
     ranges.iter().position(|range| range.base() == base.units())
 }
 
 /// Whether one of the ranges ends at `place`.
-pub fn ends_at(ranges: &[Range], place: u32) -> bool
+pub fn ends_at(ranges: &[RingRange], place: u32) -> bool
     ensures { result ≡ list_any (is_end place) ranges.now }
 {
     ranges.iter().any(|range| range.end() == u64::from(place))

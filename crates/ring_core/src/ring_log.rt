@@ -6,7 +6,7 @@ ghost use Rattle.std.specs.List.{find};
 ghost use Rattle.std.specs.Option.{IsSomeAnd};
 ghost use Rattle.ring_core.specs.RingLog.{HasRoom, HasUnfilled, IsFull, MayFlush, IsLogBoundary, is_at, is_marked, end_at, empty_log, reserved, filled, marked, raised, flushed};
 
-use crate::range::{Range, ends_at, index_at};
+use crate::range::{RingRange, ends_at, index_at};
 use lsn_space::{LAST, Lsn, NoMemory};
 use std::alloc::Global;
 use std::marker::Model;
@@ -17,7 +17,7 @@ use std::marker::Model;
 pub struct RingLog {
     start: u32,
     ring: u32,
-    ranges: Vec<Range>,
+    ranges: Vec<RingRange>,
     tail: u32,
     exposed: u32,
     durable: u32,
@@ -98,7 +98,7 @@ impl RingLog {
         ensures err { OnErr result (self.new ≡ self.old) }
     {
         self.ranges.reserve(1).map_err(|_| NoMemory)?;
-        self.ranges.push_reserved(Range::new(self.tail, n));
+        self.ranges.push_reserved(RingRange::new(self.tail, n));
         self.tail += n;
         Ok(())
     }

@@ -52,7 +52,7 @@ pub record IsHand (table : LogTable) (queue : Queue) (hand : Hand) : Type 0 wher
 
 -- the next worker is hired, and has rows
 pub record Hires (table : LogTable) (number : ℕ) (boss_new : Seat) (old new : Jobs) (made : Hand) : Type 0 where
-  pub boss : HasHired table (number + 1) boss_new
+  pub flusher_seat : HasHired table (number + 1) boss_new
   pub jobs : HasEnlisted (number + 1) new
   pub same : IsSameQueue old new
   pub hand : IsHand table new.queue made

@@ -27,19 +27,19 @@ pub struct Hand {
 fn hire(
     alloc: Global,
     table: &LogTable,
-    boss: &mut Seat,
+    flusher_seat: &mut Seat,
     jobs: &mut Jobs,
     number: u32,
 ) -> Option<Hand>
-    requires boss { HasHired table.now number boss.old }
+    requires flusher_seat { HasHired table.now number flusher_seat.old }
     requires jobs { HasEnlisted number jobs.old }
     requires mark { number < workers_of jobs.old }
-    ensures { IfSome result (Hires table.now number boss.new jobs.old jobs.new) }
+    ensures { IfSome result (Hires table.now number flusher_seat.new jobs.old jobs.new) }
 {
     let Ok(rows) = enlisted(alloc, jobs, number) else {
         return None;
     };
-    let seat = worker(table, boss, number, 1);
+    let seat = worker(table, flusher_seat, number, 1);
     Some(Hand { seat, rows })
 }
 
@@ -47,20 +47,20 @@ fn hire(
 pub fn hands(
     alloc: Global,
     table: &LogTable,
-    boss: &mut Seat,
+    flusher_seat: &mut Seat,
     jobs: &mut Jobs,
     count: u32,
 ) -> Option<Vec<Hand>>
-    requires boss { HasHired table.now 0 boss.old }
+    requires flusher_seat { HasHired table.now 0 flusher_seat.old }
     requires jobs { HasEnlisted 0 jobs.old }
     requires marks { count ≤ workers_of jobs.old }
-    ensures boss { OnSome result (HasHired table.now count boss.new) }
+    ensures flusher_seat { OnSome result (HasHired table.now count flusher_seat.new) }
     ensures same { OnSome result (IsSameQueue jobs.old jobs.new) }
     ensures hands { IfSome result (λ hands. AreHands table.now jobs.new.queue hands.items) }
 {
     let mut hands = Vec::new(alloc);
     for number in 0..count {
-        let hand = hire(alloc, table, boss, jobs, number)?;
+        let hand = hire(alloc, table, flusher_seat, jobs, number)?;
         hands.push(hand).ok()?;
     }
     Some(hands)

@@ -42,7 +42,7 @@ pub fn flusher_on<'a, D: LogDisk>(
     seat: Seat,
     disk: &'a mut D,
 ) -> Option<Flusher<'a, D>>
-    requires boss { (n : ℕ) × HasHired table.now n seat }
+    requires flusher_seat { (n : ℕ) × HasHired table.now n seat }
     requires start { (key_of table.now).start ≡ 4 }
     requires ring { table.now.ring ≡ 1024 }
     requires disk { HasStableGate D.LogDisk disk.old }
@@ -67,7 +67,7 @@ pub fn daemon_on<'a, D: LogDisk>(
     sink: &'a mut MemorySink,
     voice: Voice,
 ) -> Option<Daemon<'a, D, MemorySink>>
-    requires boss { (n : ℕ) × HasHired table.now n seat }
+    requires flusher_seat { (n : ℕ) × HasHired table.now n seat }
     requires start { (key_of table.now).start ≡ 4 }
     requires ring { table.now.ring ≡ 1024 }
     requires disk { HasStableGate D.LogDisk disk.old }

@@ -27,23 +27,23 @@ module _ (table : LogTable) (number : ℕ) (old new : Seat) (done : IsDone table
   pub numbered : (view_of new).standing.worker ≡ number
   numbered = ap (λ me. me.0.standing.worker) leaves.me ∙ done.worker.numbered
 
-pub may-merge : (boss seat : Seat) → (view_of boss).standing.role ≡ Flusher → (view_of seat).standing.role ≡ Ended → MayMerge (view_of boss) (view_of seat)
-may-merge boss seat flusher ended = record { flusher = flusher; ended = ap has_ended ended }
+pub may-merge : (flusher_seat seat : Seat) → (view_of flusher_seat).standing.role ≡ Flusher → (view_of seat).standing.role ≡ Ended → MayMerge (view_of flusher_seat) (view_of seat)
+may-merge flusher_seat seat flusher ended = record { flusher = flusher; ended = ap has_ended ended }
 
 -- one was taken in, and then the other
-module _ (boss first second one two : Seat) (a : Becomes boss first (takes_in (view_of boss) (view_of one)))
+module _ (flusher_seat first second one two : Seat) (a : Becomes flusher_seat first (takes_in (view_of flusher_seat) (view_of one)))
     (b : Becomes first second (takes_in (view_of first) (view_of two)))
   where
-    pub role-taken : (view_of first).standing.role ≡ (view_of boss).standing.role
+    pub role-taken : (view_of first).standing.role ≡ (view_of flusher_seat).standing.role
     role-taken = ap (λ me. me.0.standing.role) a.me
 
-    pub entries-taken : (view_of second).entries ≡ merged_entries (merged_entries (view_of boss).entries (view_of one).entries) (view_of two).entries
+    pub entries-taken : (view_of second).entries ≡ merged_entries (merged_entries (view_of flusher_seat).entries (view_of one).entries) (view_of two).entries
     entries-taken = ap (λ me. me.0.entries) b.me ∙ ap (λ me. merged_entries me.0.entries (view_of two).entries) a.me
 
-    made-taken : (view_of second).standing.made ≡ (view_of boss).standing.made
+    made-taken : (view_of second).standing.made ≡ (view_of flusher_seat).standing.made
     made-taken = ap (λ me. me.0.standing.made) b.me ∙ ap (λ me. me.0.standing.made) a.me
 
-    merged-first : (view_of one).standing.role ≡ Ended → (view_of one).standing.worker ≡ 0 → (view_of boss).standing.merged ≡ []
+    merged-first : (view_of one).standing.role ≡ Ended → (view_of one).standing.worker ≡ 0 → (view_of flusher_seat).standing.merged ≡ []
         → (view_of first).standing.merged ≡ 0 ∷ []
     merged-first ended number merged = ap (λ me. me.0.standing.merged) a.me
         ∙ (λ i. cond {A = List ℕ} (is_worker (ended i)) (number i ∷ merged i) (merged i))
@@ -53,7 +53,7 @@ module _ (boss first second one two : Seat) (a : Becomes boss first (takes_in (v
     merged-both ended number merged = ap (λ me. me.0.standing.merged) b.me
         ∙ (λ i. cond {A = List ℕ} (is_worker (ended i)) (number i ∷ merged i) (merged i))
 
-    pub may-close : (view_of boss).standing.role ≡ Flusher → (view_of boss).standing.made ≡ 1 ∷ 0 ∷ [] → (view_of boss).standing.merged ≡ []
+    pub may-close : (view_of flusher_seat).standing.role ≡ Flusher → (view_of flusher_seat).standing.made ≡ 1 ∷ 0 ∷ [] → (view_of flusher_seat).standing.merged ≡ []
         → (view_of one).standing.role ≡ Ended → (view_of one).standing.worker ≡ 0 → (view_of two).standing.role ≡ Ended → (view_of two).standing.worker ≡ 1
         → MayClose (view_of second)
     may-close flusher made merged ended-one is-0 ended-two is-1 =

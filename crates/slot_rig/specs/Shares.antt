@@ -98,7 +98,7 @@ pub record HasBoth (ours theirs : Share) (base : ℕ) (seat : Seat) : Type 0 whe
 
 -- two workers joined the group at the only slot: the seat of one leads it, and that of the other waits
 pub record ArePair (table : LogTable) (hired : ℕ) (boss_seat one_seat two_seat : Seat) (ours theirs : Share) : Type 0 where
-  pub boss : HasHired table (hired + 2) boss_seat
+  pub flusher_seat : HasHired table (hired + 2) boss_seat
   pub one : Leads table ours one_seat
   pub two : Awaits table theirs two_seat
   pub workers : (ours.worker ≡ hired) × (theirs.worker ≡ hired + 1)

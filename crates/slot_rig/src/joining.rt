@@ -21,13 +21,13 @@ pub enum NotJoined {
 }
 
 /// The worker of the next number, whose first job may have this transaction number or one above it.
-pub fn joiner(table: &LogTable, boss: &mut Seat, worker: u32, number: u32) -> Seat
-    requires boss { HasHired table.now worker boss.old }
+pub fn joiner(table: &LogTable, flusher_seat: &mut Seat, worker: u32, number: u32) -> Seat
+    requires flusher_seat { HasHired table.now worker flusher_seat.old }
     requires number { IsTxn number }
-    ensures boss { HasHired table.now (worker + 1) boss.new }
+    ensures flusher_seat { HasHired table.now (worker + 1) flusher_seat.new }
     ensures joiner { IsJoiner table.now worker number result }
 {
-    table.hire(boss, worker)
+    table.hire(flusher_seat, worker)
 }
 
 /// Takes the job of this number, and joins the group at the worker's slot for its note.

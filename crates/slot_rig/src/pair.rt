@@ -19,7 +19,7 @@ use test_rig::{note_units, noted_job};
 /// of two units; that of the other has three.
 #[derive(Drop)]
 pub struct Pair {
-    pub boss: Seat,
+    pub flusher_seat: Seat,
     pub one: Seat,
     pub two: Seat,
     pub ours: Share,
@@ -28,17 +28,17 @@ pub struct Pair {
 
 /// Hires the workers of the next two numbers, which join the group at the only slot, for notes under this number and the
 /// next. None: they did not join.
-pub fn pair_of(table: &LogTable, boss: Seat, hired: u32, number: u32) -> Option<Pair>
-    requires boss { HasHired table.now hired boss }
+pub fn pair_of(table: &LogTable, flusher_seat: Seat, hired: u32, number: u32) -> Option<Pair>
+    requires flusher_seat { HasHired table.now hired flusher_seat }
     requires few { hired ≤ 100 }
     requires numbers { (IsTxn number) × (IsTxn (number + 1)) }
     requires slots { table.now.slots ≡ 1 }
     requires accounts { table.now.accounts ≡ 2 }
-    ensures { IfSome result (λ pair. ArePair table.now hired pair.boss pair.one pair.two pair.ours pair.theirs) }
+    ensures { IfSome result (λ pair. ArePair table.now hired pair.flusher_seat pair.one pair.two pair.ours pair.theirs) }
 {
-    let mut boss = boss;
-    let mut one = joiner(table, &mut boss, hired, number);
-    let mut two = joiner(table, &mut boss, hired + 1, number + 1);
+    let mut flusher_seat = flusher_seat;
+    let mut one = joiner(table, &mut flusher_seat, hired, number);
+    let mut two = joiner(table, &mut flusher_seat, hired + 1, number + 1);
     let first = noted_job(b"aaaaaaaa")?;
     let second = noted_job(b"bbbbbbbbb")?;
     let ours = Share {
@@ -60,7 +60,7 @@ pub fn pair_of(table: &LogTable, boss: Seat, hired: u32, number: u32) -> Option<
         return None;
     };
     Some(Pair {
-        boss,
+        flusher_seat,
         one,
         two,
         ours,
@@ -69,45 +69,45 @@ pub fn pair_of(table: &LogTable, boss: Seat, hired: u32, number: u32) -> Option<
 }
 
 /// The two workers that were hired leave, and the flusher's seat takes them in.
-fn take_in(table: &LogTable, boss: &mut Seat, one: Seat, two: Seat)
-    requires boss { HasHiredBoth table.now boss.old }
+fn take_in(table: &LogTable, flusher_seat: &mut Seat, one: Seat, two: Seat)
+    requires flusher_seat { HasHiredBoth table.now flusher_seat.old }
     requires one { IsDone table.now 0 one }
     requires two { IsDone table.now 1 two }
-    ensures boss { IsOf table.now boss.new }
-    ensures may { MayClose (view_of boss.new) }
-    ensures gathered { (view_of boss.new).entries
-        ≡ merged_entries (merged_entries (view_of boss.old).entries (view_of one).entries) (view_of two).entries }
+    ensures flusher_seat { IsOf table.now flusher_seat.new }
+    ensures may { MayClose (view_of flusher_seat.new) }
+    ensures gathered { (view_of flusher_seat.new).entries
+        ≡ merged_entries (merged_entries (view_of flusher_seat.old).entries (view_of one).entries) (view_of two).entries }
 {
     let (mut first, mut second) = (one, two);
     table.leave(&mut first);
     table.leave(&mut second);
-    table.merge(boss, first);
-    table.merge(boss, second);
+    table.merge(flusher_seat, first);
+    table.merge(flusher_seat, second);
 }
 
 /// The two workers that were hired leave, and the flusher's seat takes them in: its entries are then their pieces of the
 /// range that begins there, one behind the other.
 pub fn gather_both(
     table: &LogTable,
-    boss: &mut Seat,
+    flusher_seat: &mut Seat,
     base: Lsn,
     one: Seat,
     ours: &Share,
     two: Seat,
     theirs: &Share,
 )
-    requires boss { IsOf table.now boss.old }
-    requires flusher { (view_of boss.old).standing.role ≡ Flusher }
-    requires made { (view_of boss.old).standing.made ≡ 1 ∷ 0 ∷ [] }
-    requires merged { (view_of boss.old).standing.merged ≡ [] }
-    requires no_entry { (view_of boss.old).entries ≡ [] }
+    requires flusher_seat { IsOf table.now flusher_seat.old }
+    requires flusher { (view_of flusher_seat.old).standing.role ≡ Flusher }
+    requires made { (view_of flusher_seat.old).standing.made ≡ 1 ∷ 0 ∷ [] }
+    requires merged { (view_of flusher_seat.old).standing.merged ≡ [] }
+    requires no_entry { (view_of flusher_seat.old).entries ≡ [] }
     requires workers { (ours.now.worker ≡ 0) × (theirs.now.worker ≡ 1) }
     requires behind { ours.now.offset ≤ theirs.now.offset }
     requires one { HasReleased table.now ours.now base Idle one }
     requires two { HasReleased table.now theirs.now base Idle two }
-    ensures boss { IsOf table.now boss.new }
-    ensures may { MayClose (view_of boss.new) }
-    ensures gathered { HasBoth ours.now theirs.now base boss.new }
+    ensures flusher_seat { IsOf table.now flusher_seat.new }
+    ensures may { MayClose (view_of flusher_seat.new) }
+    ensures gathered { HasBoth ours.now theirs.now base flusher_seat.new }
 {
-    take_in(table, boss, one, two);
+    take_in(table, flusher_seat, one, two);
 }

@@ -28,7 +28,7 @@ const BOTH: [u64; 5] = [
 #[derive(Drop)]
 struct Placed {
     table: LogTable,
-    boss: Seat,
+    flusher_seat: Seat,
     one: Seat,
     ours: Share,
     two: Seat,
@@ -69,19 +69,19 @@ fn both_hear<R: Abort>(
 
 /// Two workers join the only slot, and their group is placed.
 fn placed_pair<R: Abort>(rt: &R, alloc: Global) -> Result<Placed, Fail>
-    ensures boss { IfOk result (λ p. HasHired p.table 2 p.boss) }
+    ensures flusher_seat { IfOk result (λ p. HasHired p.table 2 p.flusher_seat) }
     ensures start { IfOk result (λ p. (key_of p.table).start ≡ 4) }
     ensures workers { IfOk result (λ p. (p.ours.worker ≡ 0) × (p.theirs.worker ≡ 1)) }
     ensures behind { IfOk result (λ p. p.ours.offset ≤ p.theirs.offset) }
     ensures one { IfOk result (λ p. IsMember p.table p.ours (Fills p.base []) p.one) }
     ensures two { IfOk result (λ p. IsMember p.table p.theirs (Fills p.base []) p.two) }
 {
-    let (table, boss) = table_with_slots(alloc, (100, 0), 4, 1)?;
-    let Some(pair) = pair_of(&table, boss, 0, 1) else {
+    let (table, flusher_seat) = table_with_slots(alloc, (100, 0), 4, 1)?;
+    let Some(pair) = pair_of(&table, flusher_seat, 0, 1) else {
         return Err(Fail::new("no pair"));
     };
     let Pair {
-        boss,
+        flusher_seat,
         mut one,
         mut two,
         ours,
@@ -90,7 +90,7 @@ fn placed_pair<R: Abort>(rt: &R, alloc: Global) -> Result<Placed, Fail>
     let base = both_hear(rt, &table, &mut one, &ours, &mut two, &theirs)?;
     Ok(Placed {
         table,
-        boss,
+        flusher_seat,
         one,
         ours,
         two,
@@ -130,23 +130,31 @@ fn ends<R: Abort>(
     rt: &R,
     alloc: Global,
     table: LogTable,
-    boss: Seat,
+    flusher_seat: Seat,
     base: Lsn,
     one: (Seat, Share),
     two: (Seat, Share),
 ) -> Result<(), Fail>
-    requires boss { HasHired table 2 boss }
+    requires flusher_seat { HasHired table 2 flusher_seat }
     requires start { (key_of table).start ≡ 4 }
     requires workers { (one.1.worker ≡ 0) × (two.1.worker ≡ 1) }
     requires behind { one.1.offset ≤ two.1.offset }
     requires one { HasReleased table one.1 base Idle one.0 }
     requires two { HasReleased table two.1 base Idle two.0 }
 {
-    let mut boss = boss;
-    let (units, to) = send_all(alloc, &table, &mut boss, Lsn::new(4))?;
+    let mut flusher_seat = flusher_seat;
+    let (units, to) = send_all(alloc, &table, &mut flusher_seat, Lsn::new(4))?;
     has_sent(rt, units.as_slice(), to, &BOTH, 9);
-    gather_both(&table, &mut boss, base, one.0, &one.1, two.0, &two.1);
-    is_at(rt, "end", table.close(boss).lsn(), 9);
+    gather_both(
+        &table,
+        &mut flusher_seat,
+        base,
+        one.0,
+        &one.1,
+        two.0,
+        &two.1,
+    );
+    is_at(rt, "end", table.close(flusher_seat).lsn(), 9);
     Ok(())
 }
 
@@ -156,7 +164,7 @@ fn the_leader_releases_last(rt: HostRuntime) -> Result<(), Fail> {
     let placed = placed_pair(&rt, alloc)?;
     let Placed {
         table,
-        boss,
+        flusher_seat,
         mut one,
         ours,
         mut two,
@@ -165,7 +173,15 @@ fn the_leader_releases_last(rt: HostRuntime) -> Result<(), Fail> {
     } = placed;
     fills_and_leaves(&rt, &table, &mut two, &theirs, base, 9, (5, None))?;
     fills_and_leaves(&rt, &table, &mut one, &ours, base, 6, (2, Some(9)))?;
-    ends(&rt, alloc, table, boss, base, (one, ours), (two, theirs))
+    ends(
+        &rt,
+        alloc,
+        table,
+        flusher_seat,
+        base,
+        (one, ours),
+        (two, theirs),
+    )
 }
 
 #[test]
@@ -174,7 +190,7 @@ fn the_other_releases_last(rt: HostRuntime) -> Result<(), Fail> {
     let placed = placed_pair(&rt, alloc)?;
     let Placed {
         table,
-        boss,
+        flusher_seat,
         mut one,
         ours,
         mut two,
@@ -183,5 +199,13 @@ fn the_other_releases_last(rt: HostRuntime) -> Result<(), Fail> {
     } = placed;
     fills_and_leaves(&rt, &table, &mut one, &ours, base, 6, (5, None))?;
     fills_and_leaves(&rt, &table, &mut two, &theirs, base, 9, (3, Some(9)))?;
-    ends(&rt, alloc, table, boss, base, (one, ours), (two, theirs))
+    ends(
+        &rt,
+        alloc,
+        table,
+        flusher_seat,
+        base,
+        (one, ours),
+        (two, theirs),
+    )
 }

@@ -20,18 +20,18 @@ use test_rig::{note_units, noted_job, place_note, table_with_slots, worker};
 fn hired_reserves<R: Abort>(
     rt: &R,
     table: &LogTable,
-    boss: &mut Seat,
+    flusher_seat: &mut Seat,
     number: u32,
     job: &Job,
     end: u32,
 ) -> Result<(), Fail>
-    requires boss { HasHired table.now number boss.old }
+    requires flusher_seat { HasHired table.now number flusher_seat.old }
     requires few { number ≤ 100 }
     requires accounts { table.now.accounts ≡ 2 }
     requires job { IsNotedJob job.now }
-    ensures boss { HasHired table.now (number + 1) boss.new }
+    ensures flusher_seat { HasHired table.now (number + 1) flusher_seat.new }
 {
-    let mut seat = worker(table, boss, number, number + 1);
+    let mut seat = worker(table, flusher_seat, number, number + 1);
     let units = note_units(number + 1, job);
     let Ok(Some(range)) = place_note(table, &mut seat, number + 1, job, &units) else {
         return Err(Fail::new("no room"));
@@ -41,18 +41,18 @@ fn hired_reserves<R: Abort>(
 }
 
 /// Forty workers reserve the whole ring: 39 with the longest note, of 26 units, and one with a note of ten.
-fn reserve_ring<R: Abort>(rt: &R, table: &LogTable, boss: &mut Seat) -> Result<(), Fail>
-    requires boss { HasHired table.now 0 boss.old }
+fn reserve_ring<R: Abort>(rt: &R, table: &LogTable, flusher_seat: &mut Seat) -> Result<(), Fail>
+    requires flusher_seat { HasHired table.now 0 flusher_seat.old }
     requires accounts { table.now.accounts ≡ 2 }
-    ensures boss { IfOk result (λ done. HasHired table.now 40 boss.new) }
+    ensures flusher_seat { IfOk result (λ done. HasHired table.now 40 flusher_seat.new) }
 {
     let (Some(long), Some(short)) = (noted_job(&[97; 200]), noted_job(&[97; 72])) else {
         return Err(Fail::new("no job"));
     };
     for i in 0..39 {
-        hired_reserves(rt, table, boss, i, &long, 30 + 26 * i)?;
+        hired_reserves(rt, table, flusher_seat, i, &long, 30 + 26 * i)?;
     }
-    hired_reserves(rt, table, boss, 39, &short, 1028)
+    hired_reserves(rt, table, flusher_seat, 39, &short, 1028)
 }
 
 /// The member hears that its group was refused, and releases, where so much remained.
@@ -81,13 +81,13 @@ fn hears_and_leaves<R: Abort>(
 
 #[test]
 fn a_group_is_refused_by_a_full_ring(rt: HostRuntime) -> Result<(), Fail> {
-    let (table, mut boss) = table_with_slots(rt.alloc(), (100, 0), 4, 1)?;
-    reserve_ring(&rt, &table, &mut boss)?;
-    let Some(pair) = pair_of(&table, boss, 40, 41) else {
+    let (table, mut flusher_seat) = table_with_slots(rt.alloc(), (100, 0), 4, 1)?;
+    reserve_ring(&rt, &table, &mut flusher_seat)?;
+    let Some(pair) = pair_of(&table, flusher_seat, 40, 41) else {
         return Err(Fail::new("no pair"));
     };
     let Pair {
-        mut boss,
+        mut flusher_seat,
         mut one,
         mut two,
         ours,
@@ -99,16 +99,16 @@ fn a_group_is_refused_by_a_full_ring(rt: HostRuntime) -> Result<(), Fail> {
     is_refusal(&rt, &refusal, 1028, 4);
     hears_and_leaves(&rt, &table, &mut one, &ours, 5)?;
     hears_and_leaves(&rt, &table, &mut two, &theirs, 3)?;
-    joins_first(&rt, &table, &mut boss)
+    joins_first(&rt, &table, &mut flusher_seat)
 }
 
 /// A further worker is the first at the slot.
-fn joins_first<R: Abort>(rt: &R, table: &LogTable, boss: &mut Seat) -> Result<(), Fail>
-    requires boss { HasHired table.now 42 boss.old }
+fn joins_first<R: Abort>(rt: &R, table: &LogTable, flusher_seat: &mut Seat) -> Result<(), Fail>
+    requires flusher_seat { HasHired table.now 42 flusher_seat.old }
     requires slots { table.now.slots ≡ 1 }
     requires accounts { table.now.accounts ≡ 2 }
 {
-    let mut seat = joiner(table, boss, 42, 43);
+    let mut seat = joiner(table, flusher_seat, 42, 43);
     let Some(job) = noted_job(b"aaaaaaaa") else {
         return Err(Fail::new("no job"));
     };

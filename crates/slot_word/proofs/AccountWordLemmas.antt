@@ -1,6 +1,6 @@
 -- The fields of an account's word stand apart.
 use Rattle.std.proofs.Common.{arith, ◌≡◌, ◌<◌, ◌^◌, ℕ, Bool, true, false}
-use Rattle.slot_word.specs.AccountWord.{packed, held_in, balance_in, mark_in}
+use Rattle.slot_word.specs.AccountWord.{packed, held_in, balance_in, last_commit_in}
 
 pub fits_64 : (held : Bool) (balance mark : ℕ) → balance < 2 ^ 31 → mark < 2 ^ 32 → packed held balance mark < 2 ^ 64
 fits_64 true balance mark b m = grind (arith)
@@ -14,9 +14,9 @@ pub balance_back : (held : Bool) (balance mark : ℕ) → balance < 2 ^ 31 → m
 balance_back true balance mark b m = grind (arith)
 balance_back false balance mark b m = grind (arith)
 
-pub mark_back : (held : Bool) (balance mark : ℕ) → balance < 2 ^ 31 → mark < 2 ^ 32 → mark_in (packed held balance mark) ≡ mark
+pub mark_back : (held : Bool) (balance mark : ℕ) → balance < 2 ^ 31 → mark < 2 ^ 32 → last_commit_in (packed held balance mark) ≡ mark
 mark_back true balance mark b m = grind (arith)
 mark_back false balance mark b m = grind (arith)
 
-pub word_back : (word : ℕ) → word < 2 ^ 64 → packed (held_in word) (balance_in word) (mark_in word) ≡ word
+pub word_back : (word : ℕ) → word < 2 ^ 64 → packed (held_in word) (balance_in word) (last_commit_in word) ≡ word
 word_back word w = grind (arith)

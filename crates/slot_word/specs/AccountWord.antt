@@ -14,5 +14,5 @@ held_in word = nat_eq (word / 2 ^ 63) 1
 abbrev pub balance_in : ℕ → ℕ
 balance_in word = word / 2 ^ 32 % 2 ^ 31
 
-abbrev pub mark_in : ℕ → ℕ
-mark_in word = word % 2 ^ 32
+abbrev pub last_commit_in : ℕ → ℕ
+last_commit_in word = word % 2 ^ 32

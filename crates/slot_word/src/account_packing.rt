@@ -1,6 +1,6 @@
 //! An account's fields, packed into the word of the table.
 ghost use Rattle.std.specs.Prelude.{◌≡◌, ◌<◌, ◌^◌, ℕ, Bool};
-ghost use Rattle.slot_word.specs.AccountWord.{packed, word_of, held_in, balance_in, mark_in};
+ghost use Rattle.slot_word.specs.AccountWord.{packed, word_of, held_in, balance_in, last_commit_in};
 
 use crate::account_word::AccountWord;
 
@@ -21,7 +21,7 @@ impl AccountWord {
     pub fn unpack(word: u64) -> AccountWord
         ensures held { result.held ≡ held_in word }
         ensures balance { result.balance ≡ balance_in word }
-        ensures mark { result.mark ≡ mark_in word }
+        ensures mark { result.mark ≡ last_commit_in word }
     {
         let balance = (word >> BALANCE_AT & BALANCE_BITS) as u32;
         let mark = (word & MARK_BITS) as u32;
@@ -51,6 +51,6 @@ pub fn account_word_law()
     ensures balance { (held : Bool) (balance mark : ℕ) → balance < 2 ^ 31 → mark < 2 ^ 32
         → balance_in (packed held balance mark) ≡ balance }
     ensures mark { (held : Bool) (balance mark : ℕ) → balance < 2 ^ 31 → mark < 2 ^ 32
-        → mark_in (packed held balance mark) ≡ mark }
-    ensures word { (word : ℕ) → word < 2 ^ 64 → packed (held_in word) (balance_in word) (mark_in word) ≡ word }
+        → last_commit_in (packed held balance mark) ≡ mark }
+    ensures word { (word : ℕ) → word < 2 ^ 64 → packed (held_in word) (balance_in word) (last_commit_in word) ≡ word }
 {}

@@ -12,7 +12,7 @@ use Rattle.log_rule.specs.AccountViews.{took_job}
 use Rattle.log_rule.specs.Books.{taking_job, next_of, IsNext, MayEnter}
 use Rattle.log_table.specs.Seats.{Becomes, view_of}
 use Rattle.log_rule.specs.Views.{empty_entry}
-use Rattle.log_rule.proofs.Nexting.{next-is, may-enter, note-next}
+use Rattle.log_rule.proofs.RecordsToPlace.{next-is, may-enter, note-next}
 use Rattle.ring_buffer.specs.Calls.{MayPlace, HasPlaced, HasReserved}
 use Rattle.ring_buffer.specs.declared.call.Range.{Range}
 use Rattle.test_rig.specs.NotedJobs.{AreNoteUnits, MayInsert}

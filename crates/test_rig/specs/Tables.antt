@@ -13,7 +13,7 @@ AreBalances balances = (balances.0 ≤ MOST_BALANCE) × (balances.1 ≤ MOST_BAL
 
 -- a table of two accounts with these balances, over a log that ends here, with so many slots; and the seat of its flusher, who has hired none
 pub record IsTableOf (balances : ℕ × ℕ) (end slots_made : ℕ) (table : LogTable) (flusher : Seat) : Type 0 where
-  pub boss : HasHired table 0 flusher
+  pub flusher_seat : HasHired table 0 flusher
   pub ring : table.ring ≡ 1024
   pub slots : table.slots ≡ slots_made
   pub accounts : table.accounts ≡ 2
@@ -26,7 +26,7 @@ KeepsStanding old new = (view_of new).standing ≡ (view_of old).standing
 
 -- the flusher's seat has sent all up to this LSN, with nothing of its own changed
 pub record SendsAll (table : LogTable) (end : ℕ) (old new : Seat) : Type 0 where
-  pub boss : IsOf table new
+  pub flusher_seat : IsOf table new
   pub standing : KeepsStanding old new
   pub entries : (view_of new).entries ≡ (view_of old).entries
   pub rests : (view_of new).sending.read ≡ []

@@ -14,20 +14,20 @@ use std::alloc::{AllocError, Global};
 pub fn send_all(
     alloc: Global,
     table: &LogTable,
-    boss: &mut Seat,
+    flusher_seat: &mut Seat,
     from: Lsn,
 ) -> Result<(Vec<u64>, Lsn), AllocError>
-    requires boss { IsOf table.now boss.old }
-    requires flusher { (view_of boss.old).standing.role ≡ Flusher }
-    requires rests { (view_of boss.old).sending.read ≡ [] }
-    requires from { sent_to (view_of boss.old) ≡ from }
-    ensures { IfOk result (λ sent. SendsAll table.now sent.1 boss.old boss.new) }
+    requires flusher_seat { IsOf table.now flusher_seat.old }
+    requires flusher { (view_of flusher_seat.old).standing.role ≡ Flusher }
+    requires rests { (view_of flusher_seat.old).sending.read ≡ [] }
+    requires from { sent_to (view_of flusher_seat.old) ≡ from }
+    ensures { IfOk result (λ sent. SendsAll table.now sent.1 flusher_seat.old flusher_seat.new) }
 {
-    let to = table.load_exposed(boss);
+    let to = table.load_exposed(flusher_seat);
     let mut units = Vec::new(alloc);
     for at in from.units()..to.units() {
-        units.push(table.load_ring(boss, Lsn::new(at)))?;
+        units.push(table.load_ring(flusher_seat, Lsn::new(at)))?;
     }
-    table.store_durable(boss, to);
+    table.store_durable(flusher_seat, to);
     Ok((units, to))
 }

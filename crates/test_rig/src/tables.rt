@@ -48,15 +48,15 @@ pub fn table_with_slots(
 }
 
 /// The worker of the next number, whose first job may have this transaction number or one above it.
-pub fn worker(table: &LogTable, boss: &mut Seat, number: u32, first: u32) -> Seat
-    requires boss { HasHired table.now number boss.old }
+pub fn worker(table: &LogTable, flusher_seat: &mut Seat, number: u32, first: u32) -> Seat
+    requires flusher_seat { HasHired table.now number flusher_seat.old }
     requires first { IsTxn first }
-    ensures boss { HasHired table.now (number + 1) boss.new }
+    ensures flusher_seat { HasHired table.now (number + 1) flusher_seat.new }
     ensures worker { result.worker ≡ number }
     ensures unused { IsNew table.now result }
     ensures free { MayInsert table.now first result }
 {
-    table.hire(boss, number)
+    table.hire(flusher_seat, number)
 }
 
 /// A job that moves so much from account 0 to account 1.

@@ -12,7 +12,7 @@ use Rattle.lock_core.specs.Transactions.{recs_of, changes_in, has_commit, touche
 use Rattle.log_rule.specs.declared.view.Books.{Books}
 use Rattle.log_rule.specs.Books.{IsNote}
 use Rattle.txn_parts.specs.declared.release.Release.TheVariants.{Unchanged}
-use Rattle.txn_parts.specs.declared.holding.Holding.{Holding}
+use Rattle.txn_parts.specs.declared.holding.TakenAccount.{TakenAccount}
 use Rattle.txn_making.specs.Holdings.{GoesBack}
 
 note-uncommitted : (rec : Rec) → IsNote rec → commits rec ≡ false
@@ -30,10 +30,10 @@ notes-uncommitted [] notes = refl
 notes-uncommitted (entry ∷ placed) notes = λ i. note-uncommitted entry.rec notes.0 i || notes-uncommitted placed notes.1 i
 
 -- where there is no Commit, accounts go back as they were taken
-back-unchanged : (books : Books) → has_commit (recs_of books.placed) ≡ false → (holding : Holding) → GoesBack Unchanged books holding
+back-unchanged : (books : Books) → has_commit (recs_of books.placed) ≡ false → (holding : TakenAccount) → GoesBack Unchanged books holding
 back-unchanged books none holding = record {
   balance_is = λ i. holding.taken.balance + both i;
-  mark_is = λ i. cond (sym none i && touches holding.taken.account changes) (end_from 0 books.placed) holding.taken.mark;
+  last_commit_is = λ i. cond (sym none i && touches holding.taken.account changes) (end_from 0 books.placed) holding.taken.mark;
 }
   where
     changes : List Change
@@ -44,6 +44,6 @@ back-unchanged books none holding = record {
     both = (λ i. cond (none i) (moved loss holding.taken.account changes) 0)
         ∙ (λ i. cond (sym none i) (moved gain holding.taken.account changes) 0)
 
-pub all-unchanged : (books : Books) → has_commit (recs_of books.placed) ≡ false → (holdings : List Holding)
+pub all-unchanged : (books : Books) → has_commit (recs_of books.placed) ≡ false → (holdings : List TakenAccount)
     → All (GoesBack Unchanged books) holdings
 all-unchanged books none holdings k d within = back-unchanged books none (get_or holdings k d)

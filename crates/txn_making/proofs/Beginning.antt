@@ -13,14 +13,14 @@ use Rattle.log_table.specs.declared.table.Seat.{Seat}
 use Rattle.log_rule.specs.declared.view.Books.{Books}
 use Rattle.log_rule.specs.declared.view.Entry.{Entry}
 use Rattle.log_rule.specs.declared.view.TakenJob.{TakenJob}
-use Rattle.log_rule.specs.Books.{balance_taken, mark_taken, next_of, IsNext, MayEnter}
+use Rattle.log_rule.specs.Books.{balance_taken, last_commit_taken, next_of, IsNext, MayEnter}
 use Rattle.lock_core.specs.Transfers.{transfer_of, note_of}
 use Rattle.log_rule.specs.Closing.{records_of}
 use Rattle.log_table.specs.Seats.{view_of}
-use Rattle.log_rule.proofs.Nexting.{may-enter, note-next}
+use Rattle.log_rule.proofs.RecordsToPlace.{may-enter, note-next}
 use Rattle.ring_buffer.specs.Calls.{HasEntries, entry_of}
 use Rattle.txn_jobs.specs.declared.cause.Cause.{Cause}
-use Rattle.txn_parts.specs.declared.holding.Holding.{Holding}
+use Rattle.txn_parts.specs.declared.holding.TakenAccount.{TakenAccount}
 use Rattle.txn_making.specs.Holdings.{IsUnchanged}
 use Rattle.txn_making.specs.Inserts.{Puts, placing_all, IsLeft, StopsFor, IsCutOff}
 use Rattle.txn_making.specs.Legs.{changes_by, HoldsJob, AddsRecords, StandsBefore, TouchesLeg}
@@ -80,12 +80,12 @@ note-first number [] rest = refl
 note-first number (byte ∷ bytes) rest = refl
 
 -- behind its Note the transfer stands before its first leg
-module _ (accounts number : ℕ) (job : Job) (holdings : List Holding) (start books : Books) (added : List Entry)
+module _ (accounts number : ℕ) (job : Job) (holdings : List TakenAccount) (start books : Books) (added : List Entry)
     (placed : books ≡ placing_all added start)
     (records-are : records_of added ≡ with_note number (note_of job.note) []) (none : start.placed ≡ [])
     (holds : HoldsJob accounts number job holdings start) where
   abbrev rest : List Rec
-  rest = planned_from number (mark_taken start.held) (balance_taken start.held) 0 job.legs
+  rest = planned_from number (last_commit_taken start.held) (balance_taken start.held) 0 job.legs
 
   held : books.held ≡ start.held
   held = ap (λ (b : Books). b.held) placed
@@ -99,14 +99,14 @@ module _ (accounts number : ℕ) (job : Job) (holdings : List Holding) (start bo
 
   left-first : IsLeft (records_of added ++ rest) start
   left-first = subst (λ list. IsLeft list start) (sym (note-first number (note_of job.note) rest) ∙ (λ i. sym records-are i ++ rest))
-      ((λ i. in_order (recs_of (none i)) (planned_records number (transfer_of job) (mark_taken start.held) (balance_taken start.held)))
-      ∙ (λ i. planned_records (sym holds.last i).number (transfer_of (sym holds.last i).job) (mark_taken start.held)
+      ((λ i. in_order (recs_of (none i)) (planned_records number (transfer_of job) (last_commit_taken start.held) (balance_taken start.held)))
+      ∙ (λ i. planned_records (sym holds.last i).number (transfer_of (sym holds.last i).job) (last_commit_taken start.held)
       (balance_taken start.held)))
 
   pub stands-first : All IsUnchanged holdings → StandsBefore 0 number job holdings books
   stands-first unchanged = record {
     balances = balance_taken books.held;
-    left = subst (λ list. IsLeft (planned_from number (mark_taken list) (balance_taken list) 0 job.legs) books) (sym held)
+    left = subst (λ list. IsLeft (planned_from number (last_commit_taken list) (balance_taken list) 0 job.legs) books) (sym held)
         (left-behind added rest start books placed left-first);
     outcome = refl;
     now = λ k d within. unchanged k d within ∙ sym (holds.taken k d within).balance

@@ -17,11 +17,11 @@ use Rattle.lock_core.specs.Transfers.{transfer_of}
 use Rattle.log_table.specs.Seats.{view_of}
 use Rattle.ring_buffer.specs.Calls.{entry_of}
 use Rattle.txn_parts.specs.declared.release.Release.TheVariants.{Committed}
-use Rattle.txn_parts.specs.declared.holding.Holding.{Holding}
+use Rattle.txn_parts.specs.declared.holding.TakenAccount.{TakenAccount}
 use Rattle.txn_jobs.specs.declared.cause.Cause.{Cause}
 use Rattle.txn_jobs.specs.declared.rows.Answer.{Answer}
 use Rattle.txn_jobs.specs.declared.rows.Answer.TheVariants.{Done, Short, Over}
-use Rattle.txn_parts.specs.declared.ended.Ended.{Ended}
+use Rattle.txn_parts.specs.declared.ended.TransferEnd.{TransferEnd}
 use Rattle.txn_making.specs.Endings.{release_at, EndsTransfer}
 use Rattle.txn_making.specs.Holdings.{GoesBack}
 use Rattle.txn_making.specs.Inserts.{placing_all, Adds, Puts, StopsFor, IsCutOff}
@@ -38,14 +38,14 @@ ends-last number job (Short leg) = refl
 ends-last number job (Over leg) = refl
 
 -- after the Commit an account goes back with its new balance
-back-moved : (number legs start : ℕ) (books : Books) (holding : Holding) → HasChanged books holding
+back-moved : (number legs start : ℕ) (books : Books) (holding : TakenAccount) → HasChanged books holding
     → GoesBack (Committed (start + size_of (Commit number legs))) (placing_all (entry_of start (Commit number legs) ∷ []) books) holding
 back-moved number legs start books holding has = record {
   balance_is = has.sum;
-  mark_is = λ i. cond (sym has.touched i) (start + size_of (Commit number legs)) holding.taken.mark;
+  last_commit_is = λ i. cond (sym has.touched i) (start + size_of (Commit number legs)) holding.taken.mark;
 }
 
-all-back : (number : ℕ) (job : Job) (answer : Answer) (holdings : List Holding) (books : Books) (start : ℕ)
+all-back : (number : ℕ) (job : Job) (answer : Answer) (holdings : List TakenAccount) (books : Books) (start : ℕ)
     → ReachesEnd answer number job holdings books
     → All (GoesBack (release_at (start + size_of (last_record number job answer)) answer)
     (placing_all (entry_of start (last_record number job answer) ∷ []) books)) holdings
@@ -57,11 +57,11 @@ all-back number job (Over leg) holdings books start reaches = all-unchanged
     (placing_all (entry_of start (last_record number job (Over leg)) ∷ []) books) reaches.uncommitted holdings
 
 -- the end record comes next
-next-last : (number : ℕ) (job : Job) (answer : Answer) (holdings : List Holding) (books : Books) → ReachesEnd answer number job holdings books
+next-last : (number : ℕ) (job : Job) (answer : Answer) (holdings : List TakenAccount) (books : Books) → ReachesEnd answer number job holdings books
     → IsNext (last_record number job answer) books
 next-last number job answer holdings books reaches = record { rest = []; plan = reaches.left }
 
-pub enters-last : (accounts number : ℕ) (job : Job) (answer : Answer) (holdings holdings' : List Holding) (old between : Seat)
+pub enters-last : (accounts number : ℕ) (job : Job) (answer : Answer) (holdings holdings' : List TakenAccount) (old between : Seat)
     (before : List Entry)
     → Adds before old between → HoldsJob accounts number job holdings (view_of old).books
     → ReachesEnd answer number job holdings' (view_of between).books → MayEnter (next_of (view_of between).books) (view_of between).books
@@ -73,13 +73,13 @@ enters-last accounts number job answer holdings holdings' old between before add
     still : HoldsJob accounts number job holdings (view_of between).books
     still = holds-behind accounts number job holdings (view_of old).books (view_of between).books before adds.entries.books_are holds
 
-pub spells-last : (number : ℕ) (job : Job) (answer : Answer) (holdings : List Holding) (between : Seat)
+pub spells-last : (number : ℕ) (job : Job) (answer : Answer) (holdings : List TakenAccount) (between : Seat)
     → ReachesEnd answer number job holdings (view_of between).books → (units : List ℕ) → units ≡ spelling (last_record number job answer)
     → units ≡ spelling (next_of (view_of between).books)
 spells-last number job answer holdings between reaches = spells-next (last_record number job answer) between
     (next-last number job answer holdings (view_of between).books reaches)
 
-pub cut-last : (number : ℕ) (job : Job) (answer : Answer) (holdings : List Holding) (between : Seat)
+pub cut-last : (number : ℕ) (job : Job) (answer : Answer) (holdings : List TakenAccount) (between : Seat)
     → ReachesEnd answer number job holdings (view_of between).books → (cause : Cause) (new : Seat)
     → (view_of new).books ≡ (view_of between).books → StopsFor cause (next_of (view_of between).books ∷ []) (view_of new)
     → IsCutOff (view_of new) cause
@@ -87,7 +87,7 @@ cut-last number job answer holdings between reaches cause new same stops =
     cut-off (last_record number job answer) [] cause between new reaches.left reaches.uncommitted same
     (stops-it (last_record number job answer) between (next-last number job answer holdings (view_of between).books reaches) cause (view_of new) stops)
 
-pub ends-transfer : (number : ℕ) (job : Job) (ended : Ended) (holdings : List Holding) (old between new : Seat)
+pub ends-transfer : (number : ℕ) (job : Job) (ended : TransferEnd) (holdings : List TakenAccount) (old between new : Seat)
     (before : List Entry)
     → Adds before old between → ReachesEnd ended.answer number job holdings (view_of between).books
     → Puts (next_of (view_of between).books) ended.end between new → EndsTransfer number job ended holdings old new

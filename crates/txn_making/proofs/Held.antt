@@ -7,83 +7,83 @@ use Rattle.std.proofs.lemmas.List.Elements.{recursion_from_All, All-cons, Contai
 use Rattle.log_table.specs.declared.table.Seat.{Seat}
 use Rattle.log_rule.specs.declared.view.Books.{Books}
 use Rattle.log_rule.specs.declared.view.Given.{Given}
-use Rattle.log_rule.specs.declared.view.Held.{Held}
+use Rattle.log_rule.specs.declared.view.Taken.{Taken as TakenHere}
 use Rattle.log_rule.specs.declared.view.View.{View}
-use Rattle.log_rule.specs.Books.{times_held, balance_taken, mark_taken, without}
+use Rattle.log_rule.specs.Books.{times_held, balance_taken, last_commit_taken, without}
 use Rattle.log_table.specs.Seats.{Becomes, view_of}
 use Rattle.log_rule.specs.AccountViews.{gave_account}
 use Rattle.early_locks.specs.declared.taking.Taken.{Taken}
 use Rattle.early_locks.specs.Locks.{HoldsTaken, held_of, given_at}
-use Rattle.txn_parts.specs.declared.holding.Holding.{Holding}
+use Rattle.txn_parts.specs.declared.holding.TakenAccount.{TakenAccount}
 use Rattle.txn_making.specs.Holdings.{account_of, taken_of, held_behind, given_behind, Lacks, AreDistinct, with_held, KeepsGiven}
 use Rattle.txn_making.specs.Holdings.{account_given}
 use Rattle.txn_jobs.proofs.Listing.{rising-below}
 
 -- ascending accounts are distinct
-pub distinct : (holdings : List Holding) → IsStrictlyIncreasing (map account_of holdings) → AreDistinct holdings
+pub distinct : (holdings : List TakenAccount) → IsStrictlyIncreasing (map account_of holdings) → AreDistinct holdings
 distinct holdings rising = apart holdings (rising-below (map account_of holdings) rising)
   where
-    apart : (holdings : List Holding) → ((i j : ℕ) → i < j → j < length (map account_of holdings)
+    apart : (holdings : List TakenAccount) → ((i j : ℕ) → i < j → j < length (map account_of holdings)
         → get_or (map account_of holdings) i 0 < get_or (map account_of holdings) j 0)
         → AreDistinct holdings
     apart [] less = tt
     apart (holding ∷ holdings) less = (
-      recursion_from_All (λ (other : Holding). other.taken.account ≢ holding.taken.account) holdings
+      recursion_from_All (λ (other : TakenAccount). other.taken.account ≢ holding.taken.account) holdings
           (λ k d within same. let up = less 0 (suc k) (omega arith) (omega (arith, length-map holdings account_of)) in
           let at = get_or-map account_of holdings k d 0 within in omega arith),
       apart holdings (λ i j up within. less (suc i) (suc j) (omega arith) (omega arith)),
     )
 
 -- the account given back is the one that was taken first of all
-without-last : (front : List Held) (last : Held) → AllByRecursion (λ (held : Held). held.account ≢ last.account) front
+without-last : (front : List TakenHere) (last : TakenHere) → AllByRecursion (λ (held : TakenHere). held.account ≢ last.account) front
     → without last.account (front ++ last ∷ []) ≡ front
 without-last [] last none = λ i. cond (eq-eqb last.account last.account refl i) [] (last ∷ [])
 without-last (held ∷ front) last none =
     (λ i. cond (ne_eqb held.account last.account none.0 i) (front ++ last ∷ []) (held ∷ without last.account (front ++ last ∷ [])))
     ∙ ap (λ more. held ∷ more) (without-last front last none.1)
 
-without-behind : (holdings : List Holding) (front : List Held) (last : Held) → Lacks last.account holdings
-    → AllByRecursion (λ (held : Held). held.account ≢ last.account) front
+without-behind : (holdings : List TakenAccount) (front : List TakenHere) (last : TakenHere) → Lacks last.account holdings
+    → AllByRecursion (λ (held : TakenHere). held.account ≢ last.account) front
     → without last.account (held_behind holdings (front ++ last ∷ [])) ≡ held_behind holdings front
 without-behind [] front last lacks none = without-last front last none
 without-behind (holding ∷ holdings) front last lacks none = without-behind holdings (held_of holding.taken ∷ front) last lacks.1
     (lacks.0, none)
 
 -- what was taken later doesn't concern the account
-pub taken-behind : (books : Books) (holdings : List Holding) (held : List Held) (taken : Taken) → Lacks taken.account holdings
+pub taken-behind : (books : Books) (holdings : List TakenAccount) (held : List TakenHere) (taken : Taken) → Lacks taken.account holdings
     → HoldsTaken taken (record books { held = held }) → HoldsTaken taken (record books { held = held_behind holdings held })
 taken-behind books [] held taken lacks holds = holds
 taken-behind books (holding ∷ holdings) held taken lacks holds = taken-behind books holdings
     (held_of holding.taken ∷ held) taken lacks.1 record {
       has = omega (arith, holds.has);
       balance = (λ i. cond (other i) holding.taken.balance (balance_taken held taken.account)) ∙ holds.balance;
-      mark = (λ i. cond (other i) holding.taken.mark (mark_taken held taken.account)) ∙ holds.mark;
+      mark = (λ i. cond (other i) holding.taken.mark (last_commit_taken held taken.account)) ∙ holds.mark;
     }
   where
     other : (holding.taken.account == taken.account) ≡ false
     other = ne_eqb holding.taken.account taken.account lacks.0
 
 -- the account taken last
-pub taken-first : (books : Books) (holding : Holding) (held : List Held)
+pub taken-first : (books : Books) (holding : TakenAccount) (held : List TakenHere)
     → HoldsTaken holding.taken (record books { held = held_of holding.taken ∷ held })
 taken-first books holding held = record {
   has = subst (λ b. 1 ≤ cond b 1 0 + times_held holding.taken.account held) (sym same) (omega arith);
   balance = λ i. cond (same i) holding.taken.balance (balance_taken held holding.taken.account);
-  mark = λ i. cond (same i) holding.taken.mark (mark_taken held holding.taken.account);
+  mark = λ i. cond (same i) holding.taken.mark (last_commit_taken held holding.taken.account);
 }
   where
     same : (holding.taken.account == holding.taken.account) ≡ true
     same = eq-eqb holding.taken.account holding.taken.account refl
 
 module _ (view : View) where
-  pub given-push : (holdings : List Holding) (holding : Holding) (given : List Given)
+  pub given-push : (holdings : List TakenAccount) (holding : TakenAccount) (given : List Given)
       → given_behind view (holdings ++ holding ∷ []) given
       ≡ given_at view holding.taken ∷ given_behind view holdings given
   given-push [] holding given = refl
   given-push (first ∷ holdings) holding given = given-push holdings holding (given_at view first.taken ∷ given)
 
   -- what goes back stands before what went back before
-  pub given-front : (holdings : List Holding) (given : List Given)
+  pub given-front : (holdings : List TakenAccount) (given : List Given)
       → given_behind view holdings given ≡ given_behind view holdings [] ++ given
   given-front [] given = refl
   given-front (holding ∷ holdings) given = given-front holdings (given_at view holding.taken ∷ given)
@@ -91,14 +91,14 @@ module _ (view : View) where
       ∙ append_assoc (given_behind view holdings []) (given_at view holding.taken ∷ []) given)
 
   -- what went back before stays among what went back
-  still-given : (holdings : List Holding) (given : List Given) (account : ℕ) → Contains (map account_given given) account
+  still-given : (holdings : List TakenAccount) (given : List Given) (account : ℕ) → Contains (map account_given given) account
       → Contains (map account_given (given_behind view holdings given)) account
   still-given [] given account has = has
   still-given (holding ∷ holdings) given account has = still-given holdings (given_at view holding.taken ∷ given) account
       (Contains-append_right (holding.taken.account ∷ []) (map account_given given) account has)
 
   -- each account went back
-  pub given-all : (holdings : List Holding) (given : List Given) (account : ℕ) → Contains (map account_of holdings) account
+  pub given-all : (holdings : List TakenAccount) (given : List Given) (account : ℕ) → Contains (map account_of holdings) account
       → Contains (map account_given (given_behind view holdings given)) account
   given-all [] given account has = absurd (omega (arith, has.1))
   given-all (holding ∷ holdings) given account has =
@@ -109,8 +109,8 @@ module _ (view : View) where
       ]
 
   -- what is said of each account as it goes back is said of all that went back
-  pub given-each : (P : Given → Type 0) (holdings : List Holding) (given : List Given)
-      → AllByRecursion (λ (holding : Holding). P (given_at view holding.taken)) holdings
+  pub given-each : (P : Given → Type 0) (holdings : List TakenAccount) (given : List Given)
+      → AllByRecursion (λ (holding : TakenAccount). P (given_at view holding.taken)) holdings
       → All P given → All P (given_behind view holdings given)
   given-each P [] given each all = all
   given-each P (holding ∷ holdings) given each all = given-each P holdings (given_at view holding.taken ∷ given) each.1
@@ -130,7 +130,7 @@ account-given (first ∷ back) account has = elim (Contains-append_cases (first.
     is here = elim (Contains-push_cases [] first.account account here) [ inl none ↦ absurd (omega (arith, none.1)) | inr same ↦ same ]
 
 -- after these accounts went back
-pub given-held : (back : List Holding) (held : List Held) (first second : Seat)
+pub given-held : (back : List TakenAccount) (held : List TakenHere) (first second : Seat)
     → Becomes first second (with_held held back (view_of first)) → KeepsGiven (view_of first) (view_of second)
 given-held back held first second becomes = record {
   back = given_behind (view_of first) back [];
@@ -138,7 +138,7 @@ given-held back held first second becomes = record {
 }
 
 -- the first of the holdings that are left, and the others once it is given back
-module _ (first second : Seat) (back holdings rest : List Holding) (holding : Holding) (is : holdings ≡ holding ∷ rest)
+module _ (first second : Seat) (back holdings rest : List TakenAccount) (holding : TakenAccount) (is : holdings ≡ holding ∷ rest)
     (apart : AreDistinct holdings)
     (before : Becomes first second (with_held (held_behind holdings []) back (view_of first))) where
   abbrev view : View
@@ -189,7 +189,7 @@ module _ (first second : Seat) (back holdings rest : List Holding) (holding : Ho
       left : without holding.taken.account (held_behind (holding ∷ rest) []) ≡ held_behind rest []
       left = without-behind rest [] (held_of holding.taken) distinct-both.0 tt
 
-lacks-same : (account : ℕ) (old new : List Holding) → map account_of new ≡ map account_of old → Lacks account old → Lacks account new
+lacks-same : (account : ℕ) (old new : List TakenAccount) → map account_of new ≡ map account_of old → Lacks account old → Lacks account new
 lacks-same account old [] same lacks = tt
 lacks-same account [] (holding ∷ new) same lacks = absurd (omega (arith, ap length same))
 lacks-same account (first ∷ old) (holding ∷ new) same lacks =
@@ -197,7 +197,7 @@ lacks-same account (first ∷ old) (holding ∷ new) same lacks =
     let rest : map account_of new ≡ map account_of old = cc in
     (λ is. lacks.0 (sym here ∙ is), lacks-same account old new rest lacks.1)
 
-distinct-same : (old new : List Holding) → map account_of new ≡ map account_of old → AreDistinct old → AreDistinct new
+distinct-same : (old new : List TakenAccount) → map account_of new ≡ map account_of old → AreDistinct old → AreDistinct new
 distinct-same old [] same apart = tt
 distinct-same [] (holding ∷ new) same apart = absurd (omega (arith, ap length same))
 distinct-same (first ∷ old) (holding ∷ new) same apart =
@@ -206,22 +206,22 @@ distinct-same (first ∷ old) (holding ∷ new) same apart =
     (subst (λ account. Lacks account new) (sym here) (lacks-same first.taken.account old new rest apart.0), distinct-same old new rest apart.1)
 
 -- holdings of the same accounts, taken with the same values
-module _ (old new : List Holding) (same : map taken_of new ≡ map taken_of old) where
+module _ (old new : List TakenAccount) (same : map taken_of new ≡ map taken_of old) where
   same-length : length new ≡ length old
   same-length = sym (length-map new taken_of) ∙ ap length same ∙ length-map old taken_of
 
-  same-taken : (k : ℕ) (d : Holding) → k < length new → (get_or new k d).taken ≡ (get_or old k d).taken
+  same-taken : (k : ℕ) (d : TakenAccount) → k < length new → (get_or new k d).taken ≡ (get_or old k d).taken
   same-taken k d within = sym (get_or-map taken_of new k d d.taken within) ∙ ap (λ list. get_or list k d.taken) same
       ∙ get_or-map taken_of old k d d.taken (omega (arith, same-length))
 
   pub same-accounts : map account_of new ≡ map account_of old
   same-accounts = accounts new ∙ ap (map (λ (taken : Taken). taken.account)) same ∙ sym (accounts old)
     where
-      accounts : (holdings : List Holding) → map account_of holdings ≡ map (λ (taken : Taken). taken.account) (map taken_of holdings)
+      accounts : (holdings : List TakenAccount) → map account_of holdings ≡ map (λ (taken : Taken). taken.account) (map taken_of holdings)
       accounts [] = refl
       accounts (holding ∷ holdings) = ap (λ list. holding.taken.account ∷ list) (accounts holdings)
 
-  pub all-same : (P : Taken → Type 0) → All (λ (holding : Holding). P holding.taken) old → All (λ (holding : Holding). P holding.taken) new
+  pub all-same : (P : Taken → Type 0) → All (λ (holding : TakenAccount). P holding.taken) old → All (λ (holding : TakenAccount). P holding.taken) new
   all-same P all k d within = subst P (sym (same-taken k d within)) (all k d (omega (arith, same-length)))
 
   pub still-distinct : AreDistinct old → AreDistinct new

@@ -6,13 +6,13 @@ use Rattle.log_record.specs.declared.rec.Rec.TheVariants.{Update}
 use Rattle.log_record.specs.Spelling.{spelling}
 use Rattle.log_table.specs.declared.table.Seat.{Seat}
 use Rattle.log_rule.specs.declared.view.Books.{Books}
-use Rattle.log_rule.specs.Books.{mark_taken, next_of, HoldsAccounts, IsNext, MayEnter}
+use Rattle.log_rule.specs.Books.{last_commit_taken, next_of, HoldsAccounts, IsNext, MayEnter}
 use Rattle.log_table.specs.Seats.{view_of}
-use Rattle.log_rule.proofs.Nexting.{may-enter}
+use Rattle.log_rule.proofs.RecordsToPlace.{may-enter}
 use Rattle.ring_buffer.specs.Calls.{entry_of}
 use Rattle.early_locks.specs.Locks.{HoldsTaken}
 use Rattle.txn_jobs.specs.declared.cause.Cause.{Cause}
-use Rattle.txn_parts.specs.declared.holding.Holding.{Holding}
+use Rattle.txn_parts.specs.declared.holding.TakenAccount.{TakenAccount}
 use Rattle.txn_making.specs.Inserts.{placing_all, Puts, IsLeft, StopsFor, IsCutOff}
 use Rattle.txn_making.specs.Legs.{MayMakeLeg, AddsRecords, leg_records}
 use Rattle.txn_making.proofs.Adding.{adds-trans, left-behind, uncommitted-behind, cut-off}
@@ -23,26 +23,26 @@ pub enters : (rec : Rec) (rest : List Rec) (books : Books) → 1 ≤ books.last.
     → IsLeft (rec ∷ rest) books → MayEnter (next_of books) books
 enters rec rest books some_job holds left = may-enter rec books some_job record { rest = rest; plan = left } (inr holds)
 
-module _ (accounts number : ℕ) (leg : ℕ × ℕ × ℕ) (holdings : List Holding) (old : Seat)
+module _ (accounts number : ℕ) (leg : ℕ × ℕ × ℕ) (holdings : List TakenAccount) (old : Seat)
     (may : MayMakeLeg accounts number leg holdings (view_of old).books) where
   abbrev books : Books
   books = (view_of old).books
 
   abbrev less : Rec
-  less = Update number leg.0 (neg_ℤ (pos leg.2)) (mark_taken books.held leg.0)
+  less = Update number leg.0 (neg_ℤ (pos leg.2)) (last_commit_taken books.held leg.0)
 
   abbrev more : Rec
-  more = Update number leg.1 (pos leg.2) (mark_taken books.held leg.1)
+  more = Update number leg.1 (pos leg.2) (last_commit_taken books.held leg.1)
 
   -- what is spelled is an Update with the last Commit of its account as it was taken
-  marked : (units : List ℕ) (delta : ℤ) (account : ℕ) (holding : Holding)
+  marked : (units : List ℕ) (delta : ℤ) (account : ℕ) (holding : TakenAccount)
       → units ≡ spelling (Update number holding.taken.account delta holding.taken.mark) → Contains holdings holding
-      → holding.taken.account ≡ account → units ≡ spelling (Update number account delta (mark_taken books.held account))
+      → holding.taken.account ≡ account → units ≡ spelling (Update number account delta (last_commit_taken books.held account))
   marked units delta account holding is has same = is ∙ (λ i. spelling (Update number (same i) delta (mark i)))
     where
-      mark : holding.taken.mark ≡ mark_taken books.held account
-      mark = sym (All-contains (λ (holding : Holding). HoldsTaken holding.taken books) holdings holding may.taken has).mark
-          ∙ ap (mark_taken books.held) same
+      mark : holding.taken.mark ≡ last_commit_taken books.held account
+      mark = sym (All-contains (λ (holding : TakenAccount). HoldsTaken holding.taken books) holdings holding may.taken has).mark
+          ∙ ap (last_commit_taken books.held) same
 
   next-less : IsNext less books
   next-less = record { rest = more ∷ may.rest; plan = may.left }
@@ -50,7 +50,7 @@ module _ (accounts number : ℕ) (leg : ℕ × ℕ × ℕ) (holdings : List Hold
   pub enters-first : MayEnter (next_of books) books
   enters-first = enters less (more ∷ may.rest) books may.some_job may.holds may.left
 
-  pub spells-first : (units : List ℕ) (payer : Holding)
+  pub spells-first : (units : List ℕ) (payer : TakenAccount)
       → units ≡ spelling (Update number payer.taken.account (neg_ℤ (pos leg.2)) payer.taken.mark) → Contains holdings payer
       → payer.taken.account ≡ leg.0 → units ≡ spelling (next_of books)
   spells-first units payer is has same = spells-next less old next-less units (marked units (neg_ℤ (pos leg.2)) leg.0 payer is has same)
@@ -77,7 +77,7 @@ module _ (accounts number : ℕ) (leg : ℕ × ℕ × ℕ) (holdings : List Hold
     enters-second = enters more may.rest (view_of between).books (subst (λ (b : Books). 1 ≤ b.last.number) (sym placed) may.some_job)
         (subst HoldsAccounts (sym placed) may.holds) left-second
 
-    pub spells-second : (units : List ℕ) (payee : Holding)
+    pub spells-second : (units : List ℕ) (payee : TakenAccount)
         → units ≡ spelling (Update number payee.taken.account (pos leg.2) payee.taken.mark) → Contains holdings payee
         → payee.taken.account ≡ leg.1 → units ≡ spelling (next_of (view_of between).books)
     spells-second units payee is has same = spells-next more between next-more units (marked units (pos leg.2) leg.1 payee is has same)
@@ -89,7 +89,7 @@ module _ (accounts number : ℕ) (leg : ℕ × ℕ × ℕ) (holdings : List Hold
         (stops-it more between next-more cause (view_of new) stops)
 
     pub leg-made : (new : Seat) (end' : ℕ) → Puts (next_of (view_of between).books) end' between new
-        → AddsRecords (leg_records number (mark_taken books.held) leg) old new
+        → AddsRecords (leg_records number (last_commit_taken books.held) leg) old new
     leg-made new end' put' = record {
       added = entry_of put-less.start less ∷ entry_of put-more.start more ∷ [];
       adds = adds-trans (entry_of put-less.start less ∷ []) (entry_of put-more.start more ∷ []) old between new put-less.adds put-more.adds;

@@ -18,13 +18,13 @@ use Rattle.early_locks.specs.declared.taking.Taken.{Taken}
 use Rattle.early_locks.specs.Locks.{HoldsTaken}
 use Rattle.log_rule.specs.declared.view.Books.{Books}
 use Rattle.log_rule.specs.declared.view.Entry.{Entry}
-use Rattle.log_rule.specs.declared.view.Held.{Held}
+use Rattle.log_rule.specs.declared.view.Taken.{Taken as TakenHere}
 use Rattle.log_rule.specs.declared.view.TakenJob.{TakenJob}
-use Rattle.log_rule.specs.Books.{times_held, balance_taken, mark_taken, HoldsLeg, HoldsAccounts}
+use Rattle.log_rule.specs.Books.{times_held, balance_taken, last_commit_taken, HoldsLeg, HoldsAccounts}
 use Rattle.lock_core.specs.Transfers.{transfer_of}
 use Rattle.log_rule.specs.Closing.{records_of}
 use Rattle.log_rule.proofs.Planning.{leg-sums}
-use Rattle.txn_parts.specs.declared.holding.Holding.{Holding}
+use Rattle.txn_parts.specs.declared.holding.TakenAccount.{TakenAccount}
 use Rattle.txn_jobs.specs.declared.rows.Answer.{Answer}
 use Rattle.txn_jobs.specs.declared.rows.Answer.TheVariants as answer
 use Rattle.txn_jobs.specs.Accounts.{HasAccountsOf, IsAccountOf}
@@ -35,7 +35,7 @@ use Rattle.txn_making.proofs.Adding.{left-behind, records-behind, uncommitted-be
 use Rattle.txn_making.proofs.Held.{same-accounts, all-same}
 
 -- an account that is one of the holdings' is held
-contains-held : (books : Books) (holdings : List Holding) (account : ℕ)
+contains-held : (books : Books) (holdings : List TakenAccount) (account : ℕ)
     → AreHeld holdings books
     → Contains (map account_of holdings) account → 1 ≤ times_held account books.held
 contains-held books [] account taken has = absurd (omega (arith, has.1))
@@ -46,7 +46,7 @@ contains-held books (first ∷ holdings) account taken has = subst (λ a. 1 ≤ 
     within = omega (arith, has.1, length-map (first ∷ holdings) account_of)
 
 -- all accounts of the job are held
-pub holds-accounts : (accounts number : ℕ) (job : Job) (holdings : List Holding) (books : Books)
+pub holds-accounts : (accounts number : ℕ) (job : Job) (holdings : List TakenAccount) (books : Books)
     → HoldsJob accounts number job holdings books → HoldsAccounts books
 holds-accounts accounts number job holdings books holds = subst (λ (last : TakenJob). AllByRecursion
     (HoldsLeg books.held) last.job.legs) (sym holds.last)
@@ -55,7 +55,7 @@ holds-accounts accounts number job holdings books holds = subst (λ (last : Take
     job.legs holds.all))
 
 -- records that are placed, and balances that are changed, leave the job and its accounts as they are
-pub holds-behind : (accounts number : ℕ) (job : Job) (holdings : List Holding) (books books' : Books) (added : List Entry)
+pub holds-behind : (accounts number : ℕ) (job : Job) (holdings : List TakenAccount) (books books' : Books) (added : List Entry)
     → books' ≡ placing_all added books
     → HoldsJob accounts number job holdings books → HoldsJob accounts number job holdings books'
 holds-behind accounts number job holdings books books' added placed holds = subst (HoldsJob accounts number job holdings)
@@ -67,7 +67,7 @@ holds-behind accounts number job holdings books books' added placed holds = subs
       taken = λ k d within. let taken = holds.taken k d within in record { has = taken.has; balance = taken.balance; mark = taken.mark };
     }
 
-holds-same : (accounts number : ℕ) (job : Job) (old new : List Holding) (books : Books) → map taken_of new ≡ map taken_of old
+holds-same : (accounts number : ℕ) (job : Job) (old new : List TakenAccount) (books : Books) → map taken_of new ≡ map taken_of old
     → HoldsJob accounts number job old books → HoldsJob accounts number job new books
 holds-same accounts number job old new books same holds = record {
   last = holds.last;
@@ -96,15 +96,15 @@ touches-more legs i changes less more within pays receives before = All-more (To
     )
 
 -- what a leg makes of each holding
-pub paid-taken : (leg : ℕ × ℕ × ℕ) (old new : List Holding) → AllZip (IsAfter leg) old new → map taken_of new ≡ map taken_of old
+pub paid-taken : (leg : ℕ × ℕ × ℕ) (old new : List TakenAccount) → AllZip (IsAfter leg) old new → map taken_of new ≡ map taken_of old
 paid-taken leg [] [] paid = refl
 paid-taken leg [] (after ∷ new) paid = absurd paid
 paid-taken leg (before ∷ old) [] paid = absurd paid
 paid-taken leg (before ∷ old) (after ∷ new) paid = λ i. paid.0.taken i ∷ paid-taken leg old new paid.1 i
 
-paid-now : (leg : ℕ × ℕ × ℕ) (balances : ℕ → ℕ) (old new : List Holding) → AllZip (IsAfter leg) old new
-    → All (λ (holding : Holding). holding.balance ≡ balances holding.taken.account) old
-    → All (λ (holding : Holding). holding.balance ≡ after_leg leg balances holding.taken.account) new
+paid-now : (leg : ℕ × ℕ × ℕ) (balances : ℕ → ℕ) (old new : List TakenAccount) → AllZip (IsAfter leg) old new
+    → All (λ (holding : TakenAccount). holding.balance ≡ balances holding.taken.account) old
+    → All (λ (holding : TakenAccount). holding.balance ≡ after_leg leg balances holding.taken.account) new
 paid-now leg balances old new paid now k d within = let is = AllZip-get_or (IsAfter leg) old new k d d paid
     (omega (arith, length_all_zip (IsAfter leg) old new paid)) in
     is.balance ∙ same (get_or old k d).taken.account (now k d (omega (arith, length_all_zip (IsAfter leg) old new paid)))
@@ -113,11 +113,11 @@ paid-now leg balances old new paid now k d within = let is = AllZip-get_or (IsAf
     same : {balance : ℕ} (account : ℕ) → balance ≡ balances account → after_leg leg (λ a. balance) account ≡ after_leg leg balances account
     same account is = λ i. cond (leg.0 == account) (is i - leg.2) (cond (leg.1 == account) (is i + leg.2) (is i))
 
-module _ (accounts number : ℕ) (job : Job) (holdings : List Holding) (books : Books) (i : ℕ)
+module _ (accounts number : ℕ) (job : Job) (holdings : List TakenAccount) (books : Books) (i : ℕ)
     (holds : HoldsJob accounts number job holdings books)
     (stands : StandsBefore i number job holdings books) where
   abbrev mark : ℕ → ℕ
-  mark = mark_taken books.held
+  mark = last_commit_taken books.held
 
   abbrev balances : ℕ → ℕ
   balances = stands.balances
@@ -125,9 +125,9 @@ module _ (accounts number : ℕ) (job : Job) (holdings : List Holding) (books : 
   abbrev changes : List Change
   changes = changes_by books
 
-  balance-is : (holding : Holding) (account : ℕ) → Contains holdings holding → holding.taken.account ≡ account
+  balance-is : (holding : TakenAccount) (account : ℕ) → Contains holdings holding → holding.taken.account ≡ account
       → holding.balance ≡ balances account
-  balance-is holding account has same = All-contains (λ (holding : Holding). holding.balance ≡ balances holding.taken.account)
+  balance-is holding account has same = All-contains (λ (holding : TakenAccount). holding.balance ≡ balances holding.taken.account)
       holdings holding stands.now has ∙ ap balances same
 
   -- all legs are made
@@ -157,7 +157,7 @@ module _ (accounts number : ℕ) (job : Job) (holdings : List Holding) (books : 
                 (λ a. touches a changes ≡ true) receives both.1
           ]
 
-      has-moved : (holding : Holding) → HoldsTaken holding.taken books → holding.balance ≡ balances holding.taken.account
+      has-moved : (holding : TakenAccount) → HoldsTaken holding.taken books → holding.balance ≡ balances holding.taken.account
           → IsAccountOf job.legs holding.taken.account
           → HasChanged books holding
       has-moved holding taken now only = record {
@@ -267,7 +267,7 @@ module _ (accounts number : ℕ) (job : Job) (holdings : List Holding) (books : 
       }
 
       -- the holdings after the leg, and the books once its Updates are placed
-      module _ (holdings' : List Holding) (paid : AllZip (IsAfter leg) holdings holdings') (books' : Books) (added : List Entry)
+      module _ (holdings' : List TakenAccount) (paid : AllZip (IsAfter leg) holdings holdings') (books' : Books) (added : List Entry)
           (placed : books' ≡ placing_all added books) (records-are : records_of added ≡ leg_records number mark leg) where
         held : books'.held ≡ books.held
         held = ap (λ (b : Books). b.held) placed
@@ -299,13 +299,13 @@ module _ (accounts number : ℕ) (job : Job) (holdings : List Holding) (books : 
         pub stands-next : StandsBefore (i + 1) number job holdings' books'
         stands-next = record {
           balances = after_leg leg balances;
-          left = subst (λ list. IsLeft (planned_from number (mark_taken list) (after_leg leg balances) (i + 1) rest) books') (sym held)
+          left = subst (λ list. IsLeft (planned_from number (last_commit_taken list) (after_leg leg balances) (i + 1) rest) books') (sym held)
               (left-behind added behind books books' placed (subst (λ records. IsLeft (records ++ behind) books)
               (sym records-are) left-leg));
           outcome = ap (λ list. outcome_alone (transfer_of job) (balance_taken list)) held
               ∙ outcome-at ∙ cond-false (lacks leg balances) _ _ (has can.payer) ∙ cond-false (overfills leg balances) _ _ fits;
           now = paid-now leg balances holdings holdings' paid stands.now;
-          sums = λ account. subst (λ (p : List Held × List Change). after_leg leg balances account + moved loss account p.1
+          sums = λ account. subst (λ (p : List TakenHere × List Change). after_leg leg balances account + moved loss account p.1
               ≡ balance_taken p.0 account + moved gain account p.1)
               (λ i. (sym held i, sym changes' i))
               (leg-sums leg balances (balance_taken books.held) changes (mark leg.0)

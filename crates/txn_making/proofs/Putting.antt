@@ -9,7 +9,7 @@ use Rattle.log_rule.specs.declared.view.Entry.{Entry}
 use Rattle.log_rule.specs.declared.view.View.{View}
 use Rattle.log_rule.specs.Books.{next_of, placing, IsNext, MayEnter}
 use Rattle.log_table.specs.Seats.{view_of}
-use Rattle.log_rule.proofs.Nexting.{next-is}
+use Rattle.log_rule.proofs.RecordsToPlace.{next-is}
 use Rattle.ring_buffer.specs.Calls.{MayPlace, HasEntries, entry_of}
 use Rattle.txn_jobs.specs.declared.cause.Cause.{Cause}
 use Rattle.txn_making.specs.Inserts.{Puts, StopsFor}

@@ -11,8 +11,8 @@ use Rattle.log_rule.specs.Books.{balance_taken}
 use Rattle.lock_core.specs.Transfers.{transfer_of}
 use Rattle.log_table.specs.Seats.{view_of}
 use Rattle.ring_buffer.specs.Calls.{entry_of}
-use Rattle.txn_parts.specs.declared.holding.Holding.{Holding}
-use Rattle.txn_parts.specs.declared.ended.Ended.{Ended}
+use Rattle.txn_parts.specs.declared.holding.TakenAccount.{TakenAccount}
+use Rattle.txn_parts.specs.declared.ended.TransferEnd.{TransferEnd}
 pub use Rattle.txn_parts.specs.Holdings.{release_at}
 use Rattle.txn_making.specs.Holdings.{GoesBack}
 use Rattle.txn_making.specs.Inserts.{Adds, IsLeft}
@@ -21,7 +21,7 @@ use Rattle.txn_jobs.specs.Rows.{outcome_of}
 
 -- The seat inserted records of the transfer, its end record last, and none is left. The answer is the outcome of the transfer run alone on
 -- the balances as taken, and the holdings have the values with which they go back.
-pub record EndsTransfer (number : ℕ) (job : Job) (ended : Ended) (holdings : List Holding) (old new : Seat) : Type 0 where
+pub record EndsTransfer (number : ℕ) (job : Job) (ended : TransferEnd) (holdings : List TakenAccount) (old new : Seat) : Type 0 where
   pub before : List Entry
   pub start : ℕ
   pub end_is : ended.end ≡ start + size_of (last_record number job ended.answer)

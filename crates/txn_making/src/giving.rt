@@ -12,7 +12,7 @@ use arrayvec::ArrayVec;
 use early_locks::{Taken, give, give_durable};
 use log_table::{LogTable, Seat};
 use txn_jobs::MOST_PARTIES;
-use txn_parts::{Holding, Release};
+use txn_parts::{Release, TakenAccount};
 
 /// Gives the accounts back in the order in which they were taken. `durable`: the worker has seen that the end record of the
 /// transfer is on the disk.
@@ -20,7 +20,7 @@ use txn_parts::{Holding, Release};
 pub fn give_all(
     table: &LogTable,
     seat: &mut Seat,
-    holdings: &mut ArrayVec<Holding, MOST_PARTIES>,
+    holdings: &mut ArrayVec<TakenAccount, MOST_PARTIES>,
     release: Release,
     durable: bool,
 )
@@ -41,7 +41,7 @@ pub fn give_all(
 pub fn give_unchanged(
     table: &LogTable,
     seat: &mut Seat,
-    holdings: &mut ArrayVec<Holding, MOST_PARTIES>,
+    holdings: &mut ArrayVec<TakenAccount, MOST_PARTIES>,
 )
     requires seat { IsOf table.now seat.old }
     requires ready { IsReady (view_of seat.old) }

@@ -11,7 +11,8 @@ use schedule_hook::Gate;
 use std::sync::Wait;
 use txn_jobs::{Answer, Cause};
 use txn_parts::{
-    Desk, Holding, Numbered, Relief, holding_of, move_amount, refusal, spell_credit, spell_debit,
+    Desk, Numbered, Relief, TakenAccount, holding_of, move_amount, refusal, spell_credit,
+    spell_debit,
 };
 
 /// Makes the legs, each on the balances as those before it left them, up to the first that can't be made. Answers how the
@@ -19,7 +20,7 @@ use txn_parts::{
 pub fn make_legs<R: Wait, Q: Relief, G: Gate>(
     desk: &mut Desk<'_, R, Q, G>,
     numbered: &Numbered,
-    holdings: &mut [Holding],
+    holdings: &mut [TakenAccount],
     units: &mut Units,
 ) -> Result<Answer, Cause>
     requires work { IsAtWork Q.Relief desk.old }
@@ -48,7 +49,7 @@ fn make_leg<R: Wait, Q: Relief, G: Gate>(
     desk: &mut Desk<'_, R, Q, G>,
     number: u32,
     leg: (u32, u32, u32),
-    holdings: &[Holding],
+    holdings: &[TakenAccount],
     units: &mut Units,
 ) -> Result<(), Cause>
     requires work { IsAtWork Q.Relief desk.old }

@@ -11,7 +11,7 @@ use early_locks::{Taken, try_take};
 use schedule_hook::{Gate, Place};
 use std::sync::Wait;
 use txn_jobs::{Cause, MOST_PARTIES};
-use txn_parts::{Desk, Holding, Relief, pause};
+use txn_parts::{Desk, Relief, TakenAccount, pause};
 
 /// Takes the accounts, which ascend, one after another, each once no other worker holds it, into a list that the caller has, in place
 /// of what that held. After an Err none is held. It is asked only where the log had not stopped when that was seen last, and so it
@@ -19,7 +19,7 @@ use txn_parts::{Desk, Holding, Relief, pause};
 pub fn take_all<R: Wait, Q: Relief, G: Gate>(
     desk: &mut Desk<'_, R, Q, G>,
     accounts: &[u32],
-    holdings: &mut ArrayVec<Holding, MOST_PARTIES>,
+    holdings: &mut ArrayVec<TakenAccount, MOST_PARTIES>,
 ) -> Result<(), Cause>
     requires work { IsAtWork Q.Relief desk.old }
     requires may { MayTakeAll (view_at desk.old) }
@@ -35,7 +35,7 @@ pub fn take_all<R: Wait, Q: Relief, G: Gate>(
         match take_one(desk, *account) {
             Ok(taken) => {
                 let balance = taken.balance;
-                holdings.push(Holding { taken, balance });
+                holdings.push(TakenAccount { taken, balance });
             }
             Err(cause) => {
                 give_unchanged(desk.table, desk.seat, holdings);

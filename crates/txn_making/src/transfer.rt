@@ -16,16 +16,16 @@ use log_record::{Units, spell_commit, spell_over, spell_short};
 use schedule_hook::Gate;
 use std::sync::Wait;
 use txn_jobs::{Answer, Cause, MOST_PARTIES};
-use txn_parts::{Desk, Ended, Holding, Numbered, Relief, spell_job_note};
+use txn_parts::{Desk, Numbered, Relief, TakenAccount, TransferEnd, spell_job_note};
 
 /// Inserts the records of the transfer, whose accounts are held: its Note, if it has one, two Updates for each leg that is
 /// made, and its end record.
 pub fn insert_transfer<R: Wait, Q: Relief, G: Gate>(
     desk: &mut Desk<'_, R, Q, G>,
     numbered: &Numbered,
-    holdings: &mut ArrayVec<Holding, MOST_PARTIES>,
+    holdings: &mut ArrayVec<TakenAccount, MOST_PARTIES>,
     units: &mut Units,
-) -> Result<Ended, Cause>
+) -> Result<TransferEnd, Cause>
     requires work { IsAtWork Q.Relief desk.old }
     requires may { MayInsertTransfer (accounts_at desk.old) numbered.now.number numbered.now.job holdings.old.items (view_at desk.old) }
     ensures work { WorksOn Q.Relief desk.old desk.new }
@@ -40,7 +40,7 @@ pub fn insert_transfer<R: Wait, Q: Relief, G: Gate>(
     let answer = make_legs(desk, numbered, list, units)?;
     spell_end(units, numbered, answer);
     let end = insert_units(desk, units)?;
-    Ok(Ended { answer, end })
+    Ok(TransferEnd { answer, end })
 }
 
 /// Inserts the Note of the seat's last job, if it has one.

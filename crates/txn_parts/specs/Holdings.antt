@@ -3,18 +3,18 @@ use Rattle.std.specs.Prelude.{ℕ}
 use Rattle.early_locks.specs.declared.taking.Taken.{Taken}
 use Rattle.txn_jobs.specs.declared.rows.Answer.{Answer}
 use Rattle.txn_jobs.specs.declared.rows.Answer.TheVariants.{Done, Short, Over}
-use Rattle.txn_parts.specs.declared.holding.Holding.{Holding}
+use Rattle.txn_parts.specs.declared.holding.TakenAccount.{TakenAccount}
 use Rattle.txn_parts.specs.declared.release.Release.{Release}
 use Rattle.txn_parts.specs.declared.release.Release.TheVariants.{Unchanged, Committed}
 
-abbrev pub taken_of : Holding → Taken
+abbrev pub taken_of : TakenAccount → Taken
 taken_of holding = holding.taken
 
-abbrev pub account_of : Holding → ℕ
+abbrev pub account_of : TakenAccount → ℕ
 account_of holding = holding.taken.account
 
 -- the balance and the last commit with which an account goes back
-abbrev pub back_of : Release → Holding → ℕ × ℕ
+abbrev pub back_of : Release → TakenAccount → ℕ × ℕ
 back_of Unchanged holding = (holding.taken.balance, holding.taken.mark)
 back_of (Committed end) holding = (holding.balance, end)
 

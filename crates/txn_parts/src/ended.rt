@@ -8,12 +8,12 @@ use txn_jobs::Answer;
 
 /// How a transfer ended, and where its end record does.
 #[derive(Clone, Copy, Debug)]
-pub struct Ended {
+pub struct TransferEnd {
     pub answer: Answer,
     pub end: Lsn,
 }
 
-impl Ended {
+impl TransferEnd {
     /// With which values the accounts go back.
     pub fn release(&self) -> Release
         ensures { result ≡ release_at self.now.end self.now.answer }

@@ -6,7 +6,7 @@ use early_locks::Taken;
 
 /// An account as it was taken, and its balance after the legs so far.
 #[derive(Drop)]
-pub struct Holding {
+pub struct TakenAccount {
     pub taken: Taken,
     pub balance: u32,
     ghost fits: { balance ≤ MOST_BALANCE },
@@ -14,9 +14,9 @@ pub struct Holding {
 }
 
 /// It stands where a list of holdings has no element.
-impl Default for Holding {
-    fn default() -> Holding {
-        Holding {
+impl Default for TakenAccount {
+    fn default() -> TakenAccount {
+        TakenAccount {
             taken: Taken {
                 account: 0,
                 balance: 0,

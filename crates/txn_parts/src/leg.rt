@@ -8,13 +8,13 @@ ghost use Rattle.txn_jobs.specs.Accounts.{HasAccountsOf};
 ghost use Rattle.txn_parts.specs.Holdings.{account_of};
 ghost use Rattle.txn_parts.specs.Leg.{IsRefused, CanMake, CanBear, IsAfter};
 
-use crate::holding::Holding;
+use crate::holding::TakenAccount;
 use log_record::{MOST_BALANCE, Units, spell_update};
 use lsn_space::Lsn;
 use txn_jobs::Answer;
 
 /// The answer that refuses the leg at this place, from 1, on the balances as they are now. None: it can be made.
-pub fn refusal(holdings: &[Holding], leg: (u32, u32, u32), place: u32) -> Option<Answer>
+pub fn refusal(holdings: &[TakenAccount], leg: (u32, u32, u32), place: u32) -> Option<Answer>
     requires both { HasAccountsOf (map account_of holdings.now) leg }
     requires amount { leg.2 ≤ MOST_BALANCE }
     ensures refused { IfSome result (IsRefused holdings.now leg place) }
@@ -30,7 +30,7 @@ pub fn refusal(holdings: &[Holding], leg: (u32, u32, u32), place: u32) -> Option
 }
 
 /// The holding of this account.
-pub fn holding_of(holdings: &[Holding], account: u32) -> &Holding
+pub fn holding_of(holdings: &[TakenAccount], account: u32) -> &TakenAccount
     requires { Contains (map account_of holdings.now) account }
     ensures found { Contains holdings.now result.now }
     ensures account { result.now.taken.account ≡ account }
@@ -44,7 +44,7 @@ pub fn holding_of(holdings: &[Holding], account: u32) -> &Holding
 }
 
 /// Spells the Update of an account that pays.
-pub fn spell_debit(units: &mut Units, number: u32, holding: &Holding, amount: u32)
+pub fn spell_debit(units: &mut Units, number: u32, holding: &TakenAccount, amount: u32)
     requires account { IsAccount holding.now.taken.account }
     requires amount { amount ≤ MOST_BALANCE }
     ensures { units.new ≡ spelling (Rec.Update number holding.now.taken.account (neg_ℤ (pos amount)) holding.now.taken.mark) }
@@ -55,7 +55,7 @@ pub fn spell_debit(units: &mut Units, number: u32, holding: &Holding, amount: u3
 }
 
 /// Spells the Update of an account that receives.
-pub fn spell_credit(units: &mut Units, number: u32, holding: &Holding, amount: u32)
+pub fn spell_credit(units: &mut Units, number: u32, holding: &TakenAccount, amount: u32)
     requires account { IsAccount holding.now.taken.account }
     requires amount { amount ≤ MOST_BALANCE }
     ensures { units.new ≡ spelling (Rec.Update number holding.now.taken.account (pos amount) holding.now.taken.mark) }
@@ -65,7 +65,7 @@ pub fn spell_credit(units: &mut Units, number: u32, holding: &Holding, amount: u
 }
 
 /// Moves the leg's amount from the balance of its payer to that of its payee.
-pub fn move_amount(holdings: &mut [Holding], leg: (u32, u32, u32))
+pub fn move_amount(holdings: &mut [TakenAccount], leg: (u32, u32, u32))
     requires { All (CanBear leg) holdings.old }
     ensures { AllZip (IsAfter leg) holdings.old holdings.new }
 {
@@ -74,7 +74,7 @@ pub fn move_amount(holdings: &mut [Holding], leg: (u32, u32, u32))
     }
 }
 
-fn bear(holding: &mut Holding, leg: (u32, u32, u32))
+fn bear(holding: &mut TakenAccount, leg: (u32, u32, u32))
     requires { CanBear leg holding.old }
     ensures { IsAfter leg holding.old holding.new }
 {

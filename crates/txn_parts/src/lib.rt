@@ -13,8 +13,8 @@ mod relief;
 mod waiting;
 
 pub use desk::Desk;
-pub use ended::Ended;
-pub use holding::Holding;
+pub use ended::TransferEnd;
+pub use holding::TakenAccount;
 pub use leg::{holding_of, move_amount, refusal, spell_credit, spell_debit};
 pub use noting::spell_job_note;
 pub use numbered::Numbered;

@@ -3,7 +3,7 @@ ghost use Rattle.std.specs.Prelude.{◌≡◌, ◌≤◌};
 ghost use Rattle.log_record.specs.declared.limits.TheConstants.{MOST_BALANCE};
 ghost use Rattle.txn_parts.specs.Holdings.{back_of};
 
-use crate::holding::Holding;
+use crate::holding::TakenAccount;
 use lsn_space::Lsn;
 
 /// With which values accounts go back.
@@ -17,7 +17,7 @@ pub enum Release {
 
 impl Release {
     /// The balance and the last commit with which this account goes back.
-    pub fn values(&self, holding: &Holding) -> (u32, u32)
+    pub fn values(&self, holding: &TakenAccount) -> (u32, u32)
         ensures values { result ≡ back_of self.now holding.now }
         ensures fits { result.0 ≤ MOST_BALANCE }
     {

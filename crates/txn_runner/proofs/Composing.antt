@@ -14,20 +14,20 @@ use Rattle.log_table.specs.declared.table.Seat.{Seat}
 use Rattle.log_rule.specs.declared.view.Books.{Books}
 use Rattle.log_rule.specs.declared.view.Entry.{Entry}
 use Rattle.log_rule.specs.declared.view.Given.{Given}
-use Rattle.log_rule.specs.declared.view.Held.{Held}
+use Rattle.log_rule.specs.declared.view.Taken.{Taken as TakenHere}
 use Rattle.log_rule.specs.declared.view.View.{View}
 use Rattle.log_rule.specs.Accounts.{MayBeTaken}
-use Rattle.log_rule.specs.Books.{balance_taken, mark_taken}
+use Rattle.log_rule.specs.Books.{balance_taken, last_commit_taken}
 use Rattle.lock_core.specs.Transfers.{transfer_of}
 use Rattle.log_rule.specs.Closing.{records_of}
 use Rattle.log_table.specs.Seats.{Becomes, view_of}
 use Rattle.ring_buffer.specs.Calls.{entry_of}
 use Rattle.txn_jobs.specs.declared.cause.Cause.{Cause}
 use Rattle.txn_jobs.specs.declared.cause.Cause.TheVariants.{Stop, LogEnd}
-use Rattle.txn_parts.specs.declared.holding.Holding.{Holding}
+use Rattle.txn_parts.specs.declared.holding.TakenAccount.{TakenAccount}
 use Rattle.txn_jobs.specs.declared.rows.Answer.{Answer}
 use Rattle.txn_jobs.specs.declared.rows.Answer.TheVariants as answer
-use Rattle.txn_parts.specs.declared.ended.Ended.{Ended}
+use Rattle.txn_parts.specs.declared.ended.TransferEnd.{TransferEnd}
 use Rattle.txn_jobs.specs.Accounts.{HasAccountsOf, IsAccountOf}
 use Rattle.txn_making.specs.Endings.{EndsTransfer}
 use Rattle.txn_making.specs.Holdings.{account_of, taken_of, IsKnown, held_behind, given_behind, holding_all, AreDistinct, HoldsAll, TakesAll, with_held}
@@ -52,8 +52,8 @@ accounts-known accounts legs list allowed only k d within = known (only k d with
         elim side [ inl pays ↦ subst (λ n. n < accounts) pays a.payer | inr receives ↦ subst (λ n. n < accounts) receives a.payee ]
 
 -- each account that was taken is held with its values
-all-held : (books : Books) (holdings : List Holding) (held : List Held) → AreDistinct holdings
-    → AllByRecursion (λ (holding : Holding). HoldsTaken holding.taken (record books { held = held_behind holdings held })) holdings
+all-held : (books : Books) (holdings : List TakenAccount) (held : List TakenHere) → AreDistinct holdings
+    → AllByRecursion (λ (holding : TakenAccount). HoldsTaken holding.taken (record books { held = held_behind holdings held })) holdings
 all-held books [] held apart = tt
 all-held books (holding ∷ holdings) held apart = (
   taken-behind books holdings (held_of holding.taken ∷ held) holding.taken apart.0 (taken-first books holding held),
@@ -67,7 +67,7 @@ pub record IsGivenFrom (view : View) (given : Given) : Type 0 where
   pub committed : given.committed ≡ has_commit (recs_of view.books.placed)
 
 -- The accounts of the job were listed, and taken.
-module _ (accounts number : ℕ) (job : Job) (list slice : List ℕ) (holdings : List Holding) (old new : Seat) (same-list : slice ≡ list)
+module _ (accounts number : ℕ) (job : Job) (list slice : List ℕ) (holdings : List TakenAccount) (old new : Seat) (same-list : slice ≡ list)
     (rising : IsStrictlyIncreasing list) (only : All (IsAccountOf job.legs) list) (allowed : MayBeTaken accounts (record { number = number; job = job }))
     (takes : TakesAll slice holdings old new) where
   listed : map account_of holdings ≡ list
@@ -75,7 +75,7 @@ module _ (accounts number : ℕ) (job : Job) (list slice : List ℕ) (holdings :
 
   are-held : AreHeld holdings (view_of new).books
   are-held = subst (AreHeld holdings) (sym takes.entries.books_are)
-      (All-from_recursion (λ (holding : Holding). HoldsTaken holding.taken (holding_all holdings (view_of old).books)) holdings
+      (All-from_recursion (λ (holding : TakenAccount). HoldsTaken holding.taken (holding_all holdings (view_of old).books)) holdings
       (all-held (view_of old).books holdings [] (distinct holdings (subst IsStrictlyIncreasing (sym listed) rising))))
 
   -- the job may be run
@@ -104,7 +104,7 @@ module _ (accounts number : ℕ) (job : Job) (list slice : List ℕ) (holdings :
   }
 
 -- the accounts are held, and have other balances now
-module _ (accounts number : ℕ) (job : Job) (holdings paid : List Holding) (books : Books)
+module _ (accounts number : ℕ) (job : Job) (holdings paid : List TakenAccount) (books : Books)
     (may : MayMakeTransfer accounts number job holdings books) (same : map taken_of paid ≡ map taken_of holdings) where
   -- they are still the table's accounts
   pub still-known : All (IsKnown accounts) paid
@@ -117,16 +117,16 @@ module _ (accounts number : ℕ) (job : Job) (holdings paid : List Holding) (boo
     held = held ∙ may.all.held ∙ behind holdings [] ∙ ap (λ (list : List Taken). onto list []) (sym same) ∙ sym (behind paid []);
   }
     where
-      onto : List Taken → List Held → List Held
+      onto : List Taken → List TakenHere → List TakenHere
       onto [] held = held
       onto (taken ∷ list) held = onto list (held_of taken ∷ held)
 
-      behind : (holdings : List Holding) (held : List Held) → held_behind holdings held ≡ onto (map taken_of holdings) held
+      behind : (holdings : List TakenAccount) (held : List TakenHere) → held_behind holdings held ≡ onto (map taken_of holdings) held
       behind [] held = refl
       behind (holding ∷ holdings) held = behind holdings (held_of holding.taken ∷ held)
 
   -- each taken with the balance that is known of it
-  still-as : All (λ (holding : Holding). balance_taken books.held holding.taken.account ≡ holding.taken.balance) paid
+  still-as : All (λ (holding : TakenAccount). balance_taken books.held holding.taken.account ≡ holding.taken.balance) paid
   still-as = all-same holdings paid same (λ taken. balance_taken books.held taken.account ≡ taken.balance)
       (λ k d within. (may.holds.taken k d within).balance)
 
@@ -145,9 +145,9 @@ module _ (accounts number : ℕ) (job : Job) (holdings paid : List Holding) (boo
     said (IsGivenFrom from) (λ k d within. record { tail = refl; durable = refl; committed = refl }),
   )
     where
-      said : (P : Given → Type 0) → All (λ (holding : Holding). P (given_at from holding.taken)) paid → All P (given_behind from paid [])
+      said : (P : Given → Type 0) → All (λ (holding : TakenAccount). P (given_at from holding.taken)) paid → All P (given_behind from paid [])
       said P all = given-each from P paid []
-          (recursion_from_All (λ (holding : Holding). P (given_at from holding.taken)) paid all) (All-from_recursion P [] tt)
+          (recursion_from_All (λ (holding : TakenAccount). P (given_at from holding.taken)) paid all) (All-from_recursion P [] tt)
 
       all : All (HasAccountsOf (map account_of paid)) job.legs
       all = subst (λ xs. All (HasAccountsOf xs) job.legs) (sym (same-accounts holdings paid same)) may.holds.all
@@ -161,7 +161,7 @@ pub record Keeps (old new : View) : Type 0 where
 module _ (number : ℕ) (job : Job) (rest : List Rec) (first last : View) (second third : Seat) (added : List Entry)
     (taken : HasTakenJob number job first (view_of second))
     (adds : Adds added second third) (left : IsLeft rest (view_of third).books) (keeps : Keeps (view_of third) last) where
-  abbrev held : List Held
+  abbrev held : List TakenHere
   held = (view_of second).books.held
 
   pub all-entries : last.entries ≡ first.entries ++ added
@@ -173,17 +173,17 @@ module _ (number : ℕ) (job : Job) (rest : List Rec) (first last : View) (secon
   pub all-jobs : last.books.jobs ≡ record { number = number; job = job } ∷ first.books.jobs
   all-jobs = keeps.jobs ∙ ap (λ (b : Books). b.jobs) adds.entries.books_are ∙ taken.jobs
 
-  pub all-planned : records_of added ++ rest ≡ planned_records number (transfer_of job) (mark_taken held) (balance_taken held)
+  pub all-planned : records_of added ++ rest ≡ planned_records number (transfer_of job) (last_commit_taken held) (balance_taken held)
   all-planned = sym (placed-front added (view_of second).books.placed rest
       ∙ (λ i. in_order (recs_of (taken.none i)) (records_of added ++ rest)))
       ∙ subst (IsLeft rest) adds.entries.books_are left
-      ∙ (λ i. planned_records (taken.last i).number (transfer_of (taken.last i).job) (mark_taken held) (balance_taken held))
+      ∙ (λ i. planned_records (taken.last i).number (transfer_of (taken.last i).job) (last_commit_taken held) (balance_taken held))
 
   -- of the records of the transfer, run alone on the balances and last Commits as they were taken, all but the rest are inserted
   abbrev pub has-inserted : HasInserted number job rest first last
   has-inserted = record {
     balances = balance_taken held;
-    marks = mark_taken held;
+    marks = last_commit_taken held;
     added = added;
     entries = all-entries;
     within = all-within;
@@ -191,13 +191,13 @@ module _ (number : ℕ) (job : Job) (rest : List Rec) (first last : View) (secon
     jobs = all-jobs;
   }
 
-stops-held : (cause : Cause) (rest : List Rec) (held : List Held) (back : List Holding) (view : View) → StopsFor cause rest view
+stops-held : (cause : Cause) (rest : List Rec) (held : List TakenHere) (back : List TakenAccount) (view : View) → StopsFor cause rest view
     → StopsFor cause rest (with_held held back view)
 stops-held (Stop word) rest list back view stops = stops
 stops-held (LogEnd tail total) [] list back view stops = stops
 stops-held (LogEnd tail total) (next ∷ rest) list back view stops = stops
 
-pub still-stops : (cause : Cause) (rest : List Rec) (held : List Held) (back : List Holding) (first second : Seat)
+pub still-stops : (cause : Cause) (rest : List Rec) (held : List TakenHere) (back : List TakenAccount) (first second : Seat)
     → Becomes first second (with_held held back (view_of first))
     → StopsFor cause rest (view_of first) → StopsFor cause rest (view_of second)
 still-stops cause rest held back first second becomes stops =
@@ -252,7 +252,7 @@ lie-last from to [] entry lie = lie.0
 lie-last from to (other ∷ entries) entry lie = let after = lie-last (other.start + other.size) to entries entry lie.1 in
     omega (arith, lie.0, after)
 
-pub has-run : (number : ℕ) (job : Job) (wait : Bool) (ended : Ended) (seen : ℕ) (holdings : List Holding) (first last : View) (second third : Seat)
+pub has-run : (number : ℕ) (job : Job) (wait : Bool) (ended : TransferEnd) (seen : ℕ) (holdings : List TakenAccount) (first last : View) (second third : Seat)
     → HasTakenJob number job first (view_of second) → EndsTransfer number job ended holdings second third → Keeps (view_of third) last
     → seen ≡ last.seen.durable → (wait ≡ true → ended.end ≤ seen)
     → (gave : GaveBack number job (balance_taken (view_of second).books.held) first.books.given last)

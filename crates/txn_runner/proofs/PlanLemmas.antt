@@ -10,28 +10,28 @@ use Rattle.lock_core.specs.Records.{txn_of, ends}
 abbrev pub IsRecordOf : ℕ → Rec → Type 0
 IsRecordOf txn rec = txn_of rec ≡ txn
 
-planned_from-own : (txn : ℕ) (mark balance : ℕ → ℕ) (k : ℕ) (legs : List (ℕ × ℕ × ℕ))
-    → AllByRecursion (IsRecordOf txn) (planned_from txn mark balance k legs)
-planned_from-own txn mark balance k [] = (refl, tt)
-planned_from-own txn mark balance k (leg ∷ legs) =
-    by_case (lacks leg balance) (overfills leg balance) (planned_from-own txn mark (after_leg leg balance) (k + 1) legs)
+planned_from-own : (txn : ℕ) (last_commit balance : ℕ → ℕ) (k : ℕ) (legs : List (ℕ × ℕ × ℕ))
+    → AllByRecursion (IsRecordOf txn) (planned_from txn last_commit balance k legs)
+planned_from-own txn last_commit balance k [] = (refl, tt)
+planned_from-own txn last_commit balance k (leg ∷ legs) =
+    by_case (lacks leg balance) (overfills leg balance) (planned_from-own txn last_commit (after_leg leg balance) (k + 1) legs)
   where
     rest : List Rec
-    rest = planned_from txn mark (after_leg leg balance) (k + 1) legs
+    rest = planned_from txn last_commit (after_leg leg balance) (k + 1) legs
 
-    by_case : (short over : Bool) → AllByRecursion (IsRecordOf txn) (planned_from txn mark (after_leg leg balance) (k + 1) legs)
+    by_case : (short over : Bool) → AllByRecursion (IsRecordOf txn) (planned_from txn last_commit (after_leg leg balance) (k + 1) legs)
         → AllByRecursion (IsRecordOf txn) (cond short (Short txn (k + 1) ∷ []) (cond over (Over txn (k + 1) ∷ [])
-        (Update txn leg.0 (neg_ℤ (pos leg.2)) (mark leg.0) ∷ Update txn leg.1 (pos leg.2) (mark leg.1) ∷ planned_from txn mark (after_leg leg balance) (k + 1) legs)))
+        (Update txn leg.0 (neg_ℤ (pos leg.2)) (last_commit leg.0) ∷ Update txn leg.1 (pos leg.2) (last_commit leg.1) ∷ planned_from txn last_commit (after_leg leg balance) (k + 1) legs)))
     by_case true over own = (refl, tt)
     by_case false true own = (refl, tt)
     by_case false false own = (refl, (refl, own))
 
-pub planned_records-own : (txn : ℕ) (job : PlainTransfer) (mark balance : ℕ → ℕ) → AllByRecursion (IsRecordOf txn) (planned_records txn job mark balance)
-planned_records-own txn job mark balance = by_note job.note
+pub planned_records-own : (txn : ℕ) (job : PlainTransfer) (last_commit balance : ℕ → ℕ) → AllByRecursion (IsRecordOf txn) (planned_records txn job last_commit balance)
+planned_records-own txn job last_commit balance = by_note job.note
   where
-    by_note : (note : List ℕ) → AllByRecursion (IsRecordOf txn) (with_note txn note (planned_from txn mark balance 0 job.legs))
-    by_note [] = planned_from-own txn mark balance 0 job.legs
-    by_note (byte ∷ bytes) = (refl, planned_from-own txn mark balance 0 job.legs)
+    by_note : (note : List ℕ) → AllByRecursion (IsRecordOf txn) (with_note txn note (planned_from txn last_commit balance 0 job.legs))
+    by_note [] = planned_from-own txn last_commit balance 0 job.legs
+    by_note (byte ∷ bytes) = (refl, planned_from-own txn last_commit balance 0 job.legs)
 
 -- the last record of a list that isn't empty is the only one that may end the transaction
 abbrev EndsOnlyLast : List Rec → Type 0
@@ -49,41 +49,41 @@ ends_only_last-front [] next rest last = tt
 ends_only_last-front (rec ∷ []) next rest last = (last.0, tt)
 ends_only_last-front (rec ∷ other ∷ records) next rest last = (last.0, ends_only_last-front (other ∷ records) next rest last.1)
 
-planned_from-last : (txn : ℕ) (mark balance : ℕ → ℕ) (k : ℕ) (legs : List (ℕ × ℕ × ℕ)) → EndsOnlyLast (planned_from txn mark balance k legs)
-planned_from-last txn mark balance k [] = tt
-planned_from-last txn mark balance k (leg ∷ legs) =
-    by_case (lacks leg balance) (overfills leg balance) (planned_from-last txn mark (after_leg leg balance) (k + 1) legs)
+planned_from-last : (txn : ℕ) (last_commit balance : ℕ → ℕ) (k : ℕ) (legs : List (ℕ × ℕ × ℕ)) → EndsOnlyLast (planned_from txn last_commit balance k legs)
+planned_from-last txn last_commit balance k [] = tt
+planned_from-last txn last_commit balance k (leg ∷ legs) =
+    by_case (lacks leg balance) (overfills leg balance) (planned_from-last txn last_commit (after_leg leg balance) (k + 1) legs)
   where
     -- by whether the leg is refused, and why
-    by_case : (short over : Bool) → EndsOnlyLast (planned_from txn mark (after_leg leg balance) (k + 1) legs)
+    by_case : (short over : Bool) → EndsOnlyLast (planned_from txn last_commit (after_leg leg balance) (k + 1) legs)
         → EndsOnlyLast (cond short (Short txn (k + 1) ∷ []) (cond over (Over txn (k + 1) ∷ [])
-        (Update txn leg.0 (neg_ℤ (pos leg.2)) (mark leg.0) ∷ Update txn leg.1 (pos leg.2) (mark leg.1) ∷ planned_from txn mark (after_leg leg balance) (k + 1) legs)))
+        (Update txn leg.0 (neg_ℤ (pos leg.2)) (last_commit leg.0) ∷ Update txn leg.1 (pos leg.2) (last_commit leg.1) ∷ planned_from txn last_commit (after_leg leg balance) (k + 1) legs)))
     by_case true over last = tt
     by_case false true last = tt
     by_case false false last = (
       refl,
-      ends_only_last-more (Update txn leg.1 (pos leg.2) (mark leg.1))
-          (planned_from txn mark (after_leg leg balance) (k + 1) legs) refl last,
+      ends_only_last-more (Update txn leg.1 (pos leg.2) (last_commit leg.1))
+          (planned_from txn last_commit (after_leg leg balance) (k + 1) legs) refl last,
     )
 
-planned_records-last : (txn : ℕ) (job : PlainTransfer) (mark balance : ℕ → ℕ) → EndsOnlyLast (planned_records txn job mark balance)
-planned_records-last txn job mark balance = by_note job.note
+planned_records-last : (txn : ℕ) (job : PlainTransfer) (last_commit balance : ℕ → ℕ) → EndsOnlyLast (planned_records txn job last_commit balance)
+planned_records-last txn job last_commit balance = by_note job.note
   where
-    by_note : (note : List ℕ) → EndsOnlyLast (with_note txn note (planned_from txn mark balance 0 job.legs))
-    by_note [] = planned_from-last txn mark balance 0 job.legs
-    by_note (byte ∷ bytes) = ends_only_last-more (Note txn (byte ∷ bytes)) (planned_from txn mark balance 0 job.legs) refl
-        (planned_from-last txn mark balance 0 job.legs)
+    by_note : (note : List ℕ) → EndsOnlyLast (with_note txn note (planned_from txn last_commit balance 0 job.legs))
+    by_note [] = planned_from-last txn last_commit balance 0 job.legs
+    by_note (byte ∷ bytes) = ends_only_last-more (Note txn (byte ∷ bytes)) (planned_from txn last_commit balance 0 job.legs) refl
+        (planned_from-last txn last_commit balance 0 job.legs)
 
 -- a transfer has a record
-pub planned_records-some : (txn : ℕ) (job : PlainTransfer) (mark balance : ℕ → ℕ) → planned_records txn job mark balance ≢ []
-planned_records-some txn job mark balance none = subst EndsOnlyLast none (planned_records-last txn job mark balance)
+pub planned_records-some : (txn : ℕ) (job : PlainTransfer) (last_commit balance : ℕ → ℕ) → planned_records txn job last_commit balance ≢ []
+planned_records-some txn job last_commit balance none = subst EndsOnlyLast none (planned_records-last txn job last_commit balance)
 
 -- where records of it are left, none of those before them is its end record
-pub planned_records-front : (txn : ℕ) (job : PlainTransfer) (mark balance : ℕ → ℕ) (records rest : List Rec)
-    → records ++ rest ≡ planned_records txn job mark balance → rest ≢ [] → AllByRecursion (λ rec. ends rec ≡ false) records
-planned_records-front txn job mark balance records [] are some = absurd (some refl)
-planned_records-front txn job mark balance records (next ∷ rest) are some = ends_only_last-front records next rest
-    (subst EndsOnlyLast (sym are) (planned_records-last txn job mark balance))
+pub planned_records-front : (txn : ℕ) (job : PlainTransfer) (last_commit balance : ℕ → ℕ) (records rest : List Rec)
+    → records ++ rest ≡ planned_records txn job last_commit balance → rest ≢ [] → AllByRecursion (λ rec. ends rec ≡ false) records
+planned_records-front txn job last_commit balance records [] are some = absurd (some refl)
+planned_records-front txn job last_commit balance records (next ∷ rest) are some = ends_only_last-front records next rest
+    (subst EndsOnlyLast (sym are) (planned_records-last txn job last_commit balance))
 
 pub end_record-own : (txn : ℕ) (job : PlainTransfer) (outcome : Outcome) → txn_of (end_record txn job outcome) ≡ txn
 end_record-own txn job Done = refl

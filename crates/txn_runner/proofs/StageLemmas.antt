@@ -18,9 +18,9 @@ use Rattle.log_table.specs.Seats.{Becomes, view_of}
 use Rattle.ring_buffer.specs.Calls.{IsReady, IsSameWorker, HasEntries}
 use Rattle.ring_buffer.proofs.TwoCalls.{IsSameWorker-trans}
 use Rattle.txn_jobs.specs.declared.cause.Cause.{Cause}
-use Rattle.txn_parts.specs.declared.holding.Holding.{Holding}
+use Rattle.txn_parts.specs.declared.holding.TakenAccount.{TakenAccount}
 use Rattle.txn_jobs.specs.declared.rows.Row.{Row}
-use Rattle.txn_parts.specs.declared.ended.Ended.{Ended}
+use Rattle.txn_parts.specs.declared.ended.TransferEnd.{TransferEnd}
 use Rattle.txn_jobs.specs.Accounts.{HasAccountsOf, IsAccountOf}
 use Rattle.txn_making.specs.Endings.{EndsTransfer}
 use Rattle.txn_making.specs.Holdings.{taken_of, given_behind, holding_all, with_held, HoldsAll, KeepsBooks, KeepsGiven, ReturnsAll, TakesAll}
@@ -130,7 +130,7 @@ module _ (accounts number : ℕ) (job : Job) (first : Seat) (next : HasNextJob a
         record { entries = kept.entries; grows = kept.same.grows; jobs = ap (λ (books : Books). books.jobs) kept.books } stops
 
   -- the job is the seat's last still
-  still-taken : (holdings : List Holding) (second : Seat)
+  still-taken : (holdings : List TakenAccount) (second : Seat)
       → HasEntries first second (view_of first).entries (holding_all holdings (view_of first).books)
       → (origin : View) → HasTakenJob number job origin (view_of first) → HasTakenJob number job origin (view_of second)
   still-taken holdings second kept origin taken = record {
@@ -143,7 +143,7 @@ module _ (accounts number : ℕ) (job : Job) (first : Seat) (next : HasNextJob a
   }
 
   -- the accounts are held then
-  pub takes-accounts : (list slice : List ℕ) (holdings : List Holding) (second : Seat) → slice ≡ list → IsStrictlyIncreasing list
+  pub takes-accounts : (list slice : List ℕ) (holdings : List TakenAccount) (second : Seat) → slice ≡ list → IsStrictlyIncreasing list
       → All (IsAccountOf job.legs) list → All (HasAccountsOf list) job.legs → TakesAll slice holdings first second
       → TakesAccounts accounts number job holdings first second
   takes-accounts list slice holdings second same rising only all takes = record {
@@ -157,13 +157,13 @@ module _ (accounts number : ℕ) (job : Job) (first : Seat) (next : HasNextJob a
   }
 
 -- The transfer was made from `second` to `third`, as far as it came: all its accounts are held still.
-module _ (accounts number : ℕ) (job : Job) (holdings paid : List Holding) (second third : Seat)
+module _ (accounts number : ℕ) (job : Job) (holdings paid : List TakenAccount) (second third : Seat)
     (may : MayMakeTransfer accounts number job holdings (view_of second).books) (same : map taken_of paid ≡ map taken_of holdings) where
   pub holds-made : (added : List Entry) → Adds added second third → HoldsAll paid (view_of third).books
   holds-made added adds = still-held accounts number job holdings paid (view_of second).books may same (view_of third).books
       (ap (λ (books : Books). books.held) adds.entries.books_are)
 
-  pub may-end : (ended : Ended) → EndsTransfer number job ended paid second third → MayEndTransfer accounts ended paid (view_of third).books
+  pub may-end : (ended : TransferEnd) → EndsTransfer number job ended paid second third → MayEndTransfer accounts ended paid (view_of third).books
   may-end ended ends = record {
     is_last = ends.is_last;
     has_ended = ends.has_ended;
@@ -173,7 +173,7 @@ module _ (accounts number : ℕ) (job : Job) (holdings paid : List Holding) (sec
   }
 
 -- the accounts went back
-pub gives-all : (back : List Holding) (first second : Seat) → IsReady (view_of first) → ReturnsAll back first second
+pub gives-all : (back : List TakenAccount) (first second : Seat) → IsReady (view_of first) → ReturnsAll back first second
     → GivesAll back first second
 gives-all back first second ready becomes =
     let kept = changes first second _ _ ready.rests.idle becomes (omega arith) (omega arith) (omega arith) (omega arith) in record {
@@ -189,7 +189,7 @@ gives-all back first second ready becomes =
     }
 
 -- after a call that left the entries and the books as they were
-pub gives-then : (back : List Holding) (first second third : Seat) → HasEntries first second (view_of first).entries (view_of first).books
+pub gives-then : (back : List TakenAccount) (first second third : Seat) → HasEntries first second (view_of first).entries (view_of first).books
     → GivesAll back second third → GivesAll back first third
 gives-then back first second third kept gives = record {
   same = IsSameWorker-trans first second third kept.same gives.same;
@@ -204,7 +204,7 @@ gives-then back first second third kept gives = record {
 }
 
 -- what was seen just before is seen still
-module _ (wait : Bool) (end : ℕ) (back : List Holding) (first second : Seat) (becomes : Becomes first second (with_held [] back (view_of first))) where
+module _ (wait : Bool) (end : ℕ) (back : List TakenAccount) (first second : Seat) (becomes : Becomes first second (with_held [] back (view_of first))) where
   pub still-seen : (result : Result ℕ Cause) → IfOk result (HasSeen end wait (view_of first)) → IfOk result (HasSeen end wait (view_of second))
   still-seen (Ok seen) saw = record { durable = saw.durable ∙ sym (ap (λ m. m.0.seen.durable) becomes.me); waited = saw.waited }
   still-seen (Err cause) saw = tt
@@ -215,7 +215,7 @@ module _ (wait : Bool) (end : ℕ) (back : List Holding) (first second : Seat) (
   still-stopped (Err cause) stopped = still-stops cause [] [] back first second becomes stopped
 
 -- Its accounts went back then.
-module _ (accounts number : ℕ) (job : Job) (wait : Bool) (holdings paid : List Holding) (second third fourth : Seat)
+module _ (accounts number : ℕ) (job : Job) (wait : Bool) (holdings paid : List TakenAccount) (second third fourth : Seat)
     (may : MayMakeTransfer accounts number job holdings (view_of second).books) (same : map taken_of paid ≡ map taken_of holdings)
     (gives : GivesAll paid third fourth) where
   keeps : Keeps (view_of third) (view_of fourth)
@@ -258,7 +258,7 @@ module _ (accounts number : ℕ) (job : Job) (wait : Bool) (holdings paid : List
       (ap (λ (books : Books). has_commit (recs_of books.placed)) gives.from_books ∙ cut.uncommitted))
       cut.some stops
 
-  module _ (ended : Ended) (ends : EndsTransfer number job ended paid second third) where
+  module _ (ended : TransferEnd) (ends : EndsTransfer number job ended paid second third) where
     -- it ran
     pub run-made : (result : Result Row Cause) → IfOk result (IsRowOf number ended wait (view_of fourth))
         → IfOk result (HasRunTaken number job wait (view_of second) (view_of fourth))
@@ -278,7 +278,7 @@ module _ (accounts number : ℕ) (job : Job) (wait : Bool) (holdings paid : List
         (has-inserted number job [] first (view_of fourth) second third _ taken ends.adds ends.left keeps) waits cut
 
 -- its accounts were taken, and it is made or cut off
-pub makes-behind : (accounts number : ℕ) (job : Job) (holdings : List Holding) (first second third : Seat)
+pub makes-behind : (accounts number : ℕ) (job : Job) (holdings : List TakenAccount) (first second third : Seat)
     → TakesAccounts accounts number job holdings first second → (wait : Bool) (result : Result Row Cause)
     → MakesTaken number job wait result second third → MakesTaken number job wait result first third
 makes-behind accounts number job holdings first second third takes wait result made = record {

@@ -18,10 +18,10 @@ use Rattle.job_queue.specs.declared.rows.Rows.{Rows}
 use Rattle.job_queue.specs.Passes.{HasPassOf, TakesPlace, TakesMark, jobs_of, marks_in, places_in}
 use Rattle.txn_jobs.specs.declared.cause.Cause.{Cause}
 use Rattle.txn_parts.specs.declared.desk.Desk.{Desk}
-use Rattle.txn_parts.specs.declared.holding.Holding.{Holding}
+use Rattle.txn_parts.specs.declared.holding.TakenAccount.{TakenAccount}
 pub use Rattle.txn_parts.specs.declared.relief.Relief.{Ghosts}
 use Rattle.txn_jobs.specs.declared.rows.Row.{Row}
-use Rattle.txn_parts.specs.declared.ended.Ended.{Ended}
+use Rattle.txn_parts.specs.declared.ended.TransferEnd.{TransferEnd}
 use Rattle.txn_making.specs.Endings.{release_at}
 use Rattle.txn_making.specs.Holdings.{IsKnown, IsUnchanged, GoesBack, HoldsAll, KeepsGiven, given_behind}
 use Rattle.txn_making.specs.Legs.{HoldsJob}
@@ -81,7 +81,7 @@ pub record HasBegun (accounts number : ℕ) (job : Job) (view : View) (stop : �
   pub stop_is : view.seen.stop ≡ stop
 
 -- The seat's last job may be made: nothing of it is in the log, and its accounts are held as they were taken, each once, and no other.
-pub record MayMakeTransfer (accounts number : ℕ) (job : Job) (holdings : List Holding) (books : Books) : Type 0 where
+pub record MayMakeTransfer (accounts number : ℕ) (job : Job) (holdings : List TakenAccount) (books : Books) : Type 0 where
   pub holds : HoldsJob accounts number job holdings books
   pub all : HoldsAll holdings books
   pub known : All (IsKnown accounts) holdings
@@ -90,7 +90,7 @@ pub record MayMakeTransfer (accounts number : ℕ) (job : Job) (holdings : List 
 
 -- The seat had taken the job, and took its accounts, has nothing under way, and is as contended as before. The log had not stopped when
 -- that was seen last.
-pub record TakesAccounts (accounts number : ℕ) (job : Job) (holdings : List Holding) (old new : Seat) : Type 0 where
+pub record TakesAccounts (accounts number : ℕ) (job : Job) (holdings : List TakenAccount) (old new : Seat) : Type 0 where
   pub same : IsSameWorker old new
   pub idle : (view_of new).call ≡ Idle
   pub contended : (view_of new).contended ≡ (view_of old).contended
@@ -100,7 +100,7 @@ pub record TakesAccounts (accounts number : ℕ) (job : Job) (holdings : List Ho
   pub runs : (view_of new).seen.stop ≡ 0
 
 -- The transfer's end record is in the log and ends there, and its accounts are held, and no other, with the values with which they go back.
-pub record MayEndTransfer (accounts : ℕ) (ended : Ended) (holdings : List Holding) (books : Books) : Type 0 where
+pub record MayEndTransfer (accounts : ℕ) (ended : TransferEnd) (holdings : List TakenAccount) (books : Books) : Type 0 where
   pub is_last : end_from 0 books.placed ≡ ended.end
   pub has_ended : has_end (recs_of books.placed) ≡ true
   pub all : HoldsAll holdings books
@@ -109,7 +109,7 @@ pub record MayEndTransfer (accounts : ℕ) (ended : Ended) (holdings : List Hold
 
 -- The seat gave these accounts back, with the books that it had and the tail and the durable LSN that it has seen last. It has nothing
 -- under way, holds none, has the entries and the other books that it had, and is as contended as before.
-pub record GivesAll (holdings : List Holding) (old new : Seat) : Type 0 where
+pub record GivesAll (holdings : List TakenAccount) (old new : Seat) : Type 0 where
   pub same : IsSameWorker old new
   pub idle : (view_of new).call ≡ Idle
   pub contended : (view_of new).contended ≡ (view_of old).contended
@@ -122,7 +122,7 @@ pub record GivesAll (holdings : List Holding) (old new : Seat) : Type 0 where
       ≡ record (view_of old).books { held = []; given = given_behind from holdings (view_of old).books.given }
 
 -- the worker's seat gave them back so
-abbrev pub Gives : {R Q G : Type 0} → List Holding → Desk R Q G → Desk R Q G → Type 0
+abbrev pub Gives : {R Q G : Type 0} → List TakenAccount → Desk R Q G → Desk R Q G → Type 0
 Gives holdings old new = GivesAll holdings old.seat.now new.seat.now
 
 -- The seat has nothing under way, is as contended as before, holds no account, and what it gave back before stands behind what it gave
@@ -135,7 +135,7 @@ pub record LetsGo (old new : Seat) : Type 0 where
   pub given : KeepsGiven (view_of old) (view_of new)
 
 -- the row tells how the transfer ended, and what was durable as the seat saw it last; that is at or above the end where it was waited for
-pub record IsRowOf (number : ℕ) (ended : Ended) (wait : Bool) (view : View) (row : Row) : Type 0 where
+pub record IsRowOf (number : ℕ) (ended : TransferEnd) (wait : Bool) (view : View) (row : Row) : Type 0 where
   pub row_is : row ≡ record { txn = number; answer = ended.answer; end = ended.end; seen = view.seen.durable }
   pub waited : wait ≡ true → ended.end ≤ row.seen
 

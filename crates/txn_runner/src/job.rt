@@ -11,7 +11,7 @@ use schedule_hook::{Gate, Place};
 use std::sync::Wait;
 use txn_jobs::{Cause, MOST_PARTIES, Row, list_accounts, unless_stopped};
 use txn_making::{give_all, give_unchanged, insert_transfer, take_all};
-use txn_parts::{Desk, Ended, Holding, Numbered, Relief, see_durable};
+use txn_parts::{Desk, Numbered, Relief, TakenAccount, TransferEnd, see_durable};
 
 /// Makes the transfer that was taken, and answers its row. The lists are lent: what they hold is lost.
 pub(crate) fn run_job<R: Wait, Q: Relief, G: Gate>(
@@ -19,7 +19,7 @@ pub(crate) fn run_job<R: Wait, Q: Relief, G: Gate>(
     stop: u64,
     numbered: &Numbered,
     accounts: &mut ArrayVec<u32, MOST_PARTIES>,
-    holdings: &mut ArrayVec<Holding, MOST_PARTIES>,
+    holdings: &mut ArrayVec<TakenAccount, MOST_PARTIES>,
     units: &mut Units,
     wait: bool,
 ) -> Result<Row, Cause>
@@ -38,7 +38,7 @@ fn take_accounts<R: Wait, Q: Relief, G: Gate>(
     stop: u64,
     numbered: &Numbered,
     accounts: &mut ArrayVec<u32, MOST_PARTIES>,
-    holdings: &mut ArrayVec<Holding, MOST_PARTIES>,
+    holdings: &mut ArrayVec<TakenAccount, MOST_PARTIES>,
 ) -> Result<(), Cause>
     requires work { IsAtWork Q.Relief desk.old }
     requires begun { HasBegun (accounts_at desk.old) numbered.now.number numbered.now.job (view_at desk.old) stop }
@@ -58,7 +58,7 @@ fn take_accounts<R: Wait, Q: Relief, G: Gate>(
 fn make_transfer<R: Wait, Q: Relief, G: Gate>(
     desk: &mut Desk<'_, R, Q, G>,
     numbered: &Numbered,
-    holdings: &mut ArrayVec<Holding, MOST_PARTIES>,
+    holdings: &mut ArrayVec<TakenAccount, MOST_PARTIES>,
     units: &mut Units,
     wait: bool,
 ) -> Result<Row, Cause>
@@ -81,8 +81,8 @@ fn make_transfer<R: Wait, Q: Relief, G: Gate>(
 fn end_transfer<R: Wait, Q: Relief, G: Gate>(
     desk: &mut Desk<'_, R, Q, G>,
     number: u32,
-    ended: Ended,
-    holdings: &mut ArrayVec<Holding, MOST_PARTIES>,
+    ended: TransferEnd,
+    holdings: &mut ArrayVec<TakenAccount, MOST_PARTIES>,
     wait: bool,
 ) -> Result<Row, Cause>
     requires work { IsAtWork Q.Relief desk.old }
@@ -106,8 +106,8 @@ fn end_transfer<R: Wait, Q: Relief, G: Gate>(
 /// Gives the accounts back behind the end record, where asked once that is durable, and answers what was durable just before.
 fn give_behind<R: Wait, Q: Relief, G>(
     desk: &mut Desk<'_, R, Q, G>,
-    ended: &Ended,
-    holdings: &mut ArrayVec<Holding, MOST_PARTIES>,
+    ended: &TransferEnd,
+    holdings: &mut ArrayVec<TakenAccount, MOST_PARTIES>,
     wait: bool,
 ) -> Result<Lsn, Cause>
     requires work { IsAtWork Q.Relief desk.old }

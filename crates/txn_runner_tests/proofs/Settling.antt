@@ -57,10 +57,10 @@ pub one-taken : (number : ℕ) (job : TakenJob) → times_taken number (job ∷ 
 one-taken number job = few (job.number == number)
 
 -- the table is closed once the flusher's seat took in the seat of its only worker, which took one job
-pub settles-one : (start : ℕ) (accounts : List (ℕ × ℕ)) (key : Start) (job : Job) (boss other view : View) (closed : Closed) → key.start ≡ start
-    → key.accounts.rows ≡ accounts → KnowsHired key 1 boss → view ≡ takes_in boss other → other.books.jobs ≡ record { number = 1; job = job } ∷ []
+pub settles-one : (start : ℕ) (accounts : List (ℕ × ℕ)) (key : Start) (job : Job) (flusher_seat other view : View) (closed : Closed) → key.start ≡ start
+    → key.accounts.rows ≡ accounts → KnowsHired key 1 flusher_seat → view ≡ takes_in flusher_seat other → other.books.jobs ≡ record { number = 1; job = job } ∷ []
     → IsGathered closed.tail view → closed.exposed ≡ closed.tail → IsSettled (base_of key) view closed.accounts.rows → SettlesOne start accounts 1 job closed
-settles-one start accounts key job boss other view closed start_is rows_are knows takes taken gathered released settled =
+settles-one start accounts key job flusher_seat other view closed start_is rows_are knows takes taken gathered released settled =
     let starts : view.constants.start ≡ start = ap (λ (v : View). v.constants.start) takes ∙ (ap (λ (c : Constants). c.start) knows.constants ∙ start_is) in
     let jobs : view.books.jobs ≡ record { number = 1; job = job } ∷ [] = ap (λ (v : View). v.books.jobs) takes
     ∙ (ap (λ (b : Books). b.jobs ++ other.books.jobs) knows.books ∙ taken) in record {

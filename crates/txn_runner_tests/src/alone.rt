@@ -93,8 +93,8 @@ pub(crate) fn run_alone<R: Wait + Abort>(
     requires { (balances.0 ≤ MOST_BALANCE) × (balances.1 ≤ MOST_BALANCE) }
 {
     let (script, end) = given;
-    let (table, mut boss) = table_of(alloc, balances, end)?;
-    let seat = worker(&table, &mut boss, 0, 1);
+    let (table, mut flusher_seat) = table_of(alloc, balances, end)?;
+    let seat = worker(&table, &mut flusher_seat, 0, 1);
     let Some(mut jobs) = jobs_of(rt, alloc, script, 1) else {
         return Err(Fail::new("no script"));
     };
@@ -102,8 +102,8 @@ pub(crate) fn run_alone<R: Wait + Abort>(
     let (worked, seat) = work_alone(rt, &table, seat, jobs.queue(), &mut rows);
     let rows = jobs.dismiss(rows);
     jobs.count_taken();
-    table.merge(&mut boss, seat);
-    let closed = table.close(boss);
+    table.merge(&mut flusher_seat, seat);
+    let closed = table.close(flusher_seat);
     Ok((worked, rows, (closed.balance(0), closed.balance(1))))
 }
 
@@ -116,22 +116,22 @@ pub(crate) fn run_two<R: Wait + Abort>(
     alloc: Global,
     (script, end): Given,
 ) -> Result<BothRan, Fail> {
-    let (table, mut boss) = table_of(alloc, (100, 0), end)?;
-    let one = worker(&table, &mut boss, 0, 1);
-    let two = worker(&table, &mut boss, 1, 1);
+    let (table, mut flusher_seat) = table_of(alloc, (100, 0), end)?;
+    let one = worker(&table, &mut flusher_seat, 0, 1);
+    let two = worker(&table, &mut flusher_seat, 1, 1);
     let Some(mut jobs) = jobs_of(rt, alloc, script, 2) else {
         return Err(Fail::new("no script"));
     };
     let mut first_rows = enlisted(alloc, &mut jobs, 0)?;
     let mut second_rows = enlisted(alloc, &mut jobs, 1)?;
     let (first, seat) = work_alone(rt, &table, one, jobs.queue(), &mut first_rows);
-    table.merge(&mut boss, seat);
+    table.merge(&mut flusher_seat, seat);
     let (second, seat) = work_alone(rt, &table, two, jobs.queue(), &mut second_rows);
-    table.merge(&mut boss, seat);
+    table.merge(&mut flusher_seat, seat);
     let first_rows = jobs.dismiss(first_rows);
     let second_rows = jobs.dismiss(second_rows);
     jobs.count_taken();
-    let closed = table.close(boss);
+    let closed = table.close(flusher_seat);
     let balances = (closed.balance(0), closed.balance(1));
     Ok(((first, first_rows), (second, second_rows), balances))
 }

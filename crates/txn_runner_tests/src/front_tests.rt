@@ -65,8 +65,8 @@ const THREE_ROWS: &[Line] = &[
 #[test]
 fn a_worker_alone_takes_all_in_order(rt: HostRuntime) -> Result<(), Fail> {
     let given: Given = (b"pay 0 1 30\npay 0 1 20\npay 1 0 10\n", 4);
-    let (table, mut boss) = table_of(rt.alloc(), (100, 0), given.1)?;
-    let seat = worker(&table, &mut boss, 0, 1);
+    let (table, mut flusher_seat) = table_of(rt.alloc(), (100, 0), given.1)?;
+    let seat = worker(&table, &mut flusher_seat, 0, 1);
     let Some(mut jobs) = jobs_from_five(&rt, rt.alloc(), given.0) else {
         return Err(Fail::new("no script"));
     };
@@ -128,17 +128,17 @@ const SHORT_ROW: &[Line] = &[(2, Answer::Short(1), LAST, LAST - 3)];
 #[test]
 fn workers_at_the_end_of_the_log_take_a_front(rt: HostRuntime) -> Result<(), Fail> {
     let given: Given = (SIX, LAST - 3);
-    let (table, mut boss) = table_of(rt.alloc(), (100, 0), given.1)?;
+    let (table, mut flusher_seat) = table_of(rt.alloc(), (100, 0), given.1)?;
     let Some(mut jobs) = jobs_of(&rt, rt.alloc(), given.0, 3) else {
         return Err(Fail::new("no script"));
     };
     let mut one = enlisted(rt.alloc(), &mut jobs, 0)?;
     let mut two = enlisted(rt.alloc(), &mut jobs, 1)?;
     let mut three = enlisted(rt.alloc(), &mut jobs, 2)?;
-    let seat = worker(&table, &mut boss, 0, 1);
+    let seat = worker(&table, &mut flusher_seat, 0, 1);
     let first = log_end(LAST - 1, 2);
     is_cut_off(&rt, given, &table, seat, jobs.queue(), &mut one, &[], first)?;
-    let seat = worker(&table, &mut boss, 1, 1);
+    let seat = worker(&table, &mut flusher_seat, 1, 1);
     let second = log_end(LAST, 2);
     is_cut_off(
         &rt,
@@ -150,7 +150,7 @@ fn workers_at_the_end_of_the_log_take_a_front(rt: HostRuntime) -> Result<(), Fai
         SHORT_ROW,
         second,
     )?;
-    let seat = worker(&table, &mut boss, 2, 1);
+    let seat = worker(&table, &mut flusher_seat, 2, 1);
     let third = log_end(LAST, 2);
     is_cut_off(
         &rt,
@@ -175,13 +175,13 @@ fn workers_at_the_end_of_the_log_take_a_front(rt: HostRuntime) -> Result<(), Fai
 #[test]
 fn a_worker_that_was_cut_off_gives_its_mark_back(rt: HostRuntime) -> Result<(), Fail> {
     let given: Given = (b"pay 0 1 30\npay 0 1 20\n", 4);
-    let (table, mut boss) = table_of(rt.alloc(), (100, 0), given.1)?;
+    let (table, mut flusher_seat) = table_of(rt.alloc(), (100, 0), given.1)?;
     let Some(mut jobs) = jobs_of(&rt, rt.alloc(), given.0, 1) else {
         return Err(Fail::new("no script"));
     };
     let mut rows = enlisted(rt.alloc(), &mut jobs, 0)?;
-    let seat = worker(&table, &mut boss, 0, 1);
-    table.store_stop(&mut boss, 2);
+    let seat = worker(&table, &mut flusher_seat, 0, 1);
+    table.store_stop(&mut flusher_seat, 2);
     let stop = Cause::Stop(2);
     is_cut_off(&rt, given, &table, seat, jobs.queue(), &mut rows, &[], stop)?;
     jobs.dismiss(rows);

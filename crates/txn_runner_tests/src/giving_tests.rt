@@ -17,16 +17,16 @@ use test_rig::{job_of, send_all, table_of, values_of, worker};
 use txn_runner::{Answer, Cause, Relief, Rows, Worked};
 
 /// Another worker, the second, which took a job and no account yet.
-fn looker(table: &LogTable, boss: &mut Seat) -> Seat
+fn looker(table: &LogTable, flusher_seat: &mut Seat) -> Seat
     requires accounts { table.now.accounts ≡ 2 }
-    requires boss { HasHired table.now 1 boss.old }
-    ensures boss { HasHired table.now 2 boss.new }
+    requires flusher_seat { HasHired table.now 1 flusher_seat.old }
+    ensures flusher_seat { HasHired table.now 2 flusher_seat.new }
     ensures seat { IsOf table.now result }
     ensures rests { IsAtRest (view_of result) }
     ensures begins { HasBegunNothing (view_of result) }
     ensures none_held { (view_of result).books.held ≡ [] }
 {
-    let mut seat = worker(table, boss, 1, 9);
+    let mut seat = worker(table, flusher_seat, 1, 9);
     table.take_job(&mut seat, 9, &job_of(30));
     seat
 }
@@ -43,9 +43,9 @@ fn run_beside<R: Wait + Abort>(rt: &R, alloc: Global, given: Given) -> Result<Ra
     ensures none_held { IfOk result (λ ran. (view_of ran.1).books.held ≡ []) }
 {
     let (script, end) = given;
-    let (table, mut boss) = table_of(alloc, (100, 0), end)?;
-    let seat = worker(&table, &mut boss, 0, 1);
-    let looker = looker(&table, &mut boss);
+    let (table, mut flusher_seat) = table_of(alloc, (100, 0), end)?;
+    let seat = worker(&table, &mut flusher_seat, 0, 1);
+    let looker = looker(&table, &mut flusher_seat);
     let Some(mut jobs) = jobs_of(rt, alloc, script, 1) else {
         return Err(Fail::new("no script"));
     };
@@ -93,7 +93,7 @@ struct Sending<'a, R> {
     rt: &'a R,
     alloc: Global,
     table: &'a LogTable,
-    boss: Seat,
+    flusher_seat: Seat,
     from: Lsn,
     looker: Seat,
 
@@ -107,8 +107,8 @@ impl<'a, R: Abort> Relief for Sending<'a, R> {
     ghost use Rattle.log_table.specs.Seats.{IsOf, view_of};
     ghost use Rattle.log_rule.specs.Views.{sent_to};
 
-    ghost ready = { λ relief. IsOf relief.table.now relief.boss × ((view_of relief.boss).standing.role ≡ Flusher)
-        × ((view_of relief.boss).sending.read ≡ []) × (sent_to (view_of relief.boss) ≡ relief.from)
+    ghost ready = { λ relief. IsOf relief.table.now relief.flusher_seat × ((view_of relief.flusher_seat).standing.role ≡ Flusher)
+        × ((view_of relief.flusher_seat).sending.read ≡ []) × (sent_to (view_of relief.flusher_seat) ≡ relief.from)
         × IsOf relief.table.now relief.looker × (0 < relief.table.now.accounts) };
 
     ghost later = { λ old new. ⊤ };
@@ -120,7 +120,7 @@ impl<'a, R: Abort> Relief for Sending<'a, R> {
         let word = table.load_account(&mut self.looker, 0);
         self.held = self.held && word.held();
         let from = self.from;
-        let sent = send_all(self.alloc, table, &mut self.boss, from);
+        let sent = send_all(self.alloc, table, &mut self.flusher_seat, from);
         let Ok((_units, to)) = sent else {
             panic!(self.rt; "no memory");
         };
@@ -135,9 +135,9 @@ impl<'a, R: Abort> Relief for Sending<'a, R> {
 #[test]
 fn accounts_are_given_back_at_durable(rt: HostRuntime) -> Result<(), Fail> {
     let alloc = rt.alloc();
-    let (table, mut boss) = table_of(alloc, (100, 0), 4)?;
-    let mut one = worker(&table, &mut boss, 0, 1);
-    let mut two = looker(&table, &mut boss);
+    let (table, mut flusher_seat) = table_of(alloc, (100, 0), 4)?;
+    let mut one = worker(&table, &mut flusher_seat, 0, 1);
+    let mut two = looker(&table, &mut flusher_seat);
     let given: Given = (b"pay 0 1 30\n", 4);
     let Some(mut jobs) = jobs_of(&rt, alloc, given.0, 1) else {
         return Err(Fail::new("no script"));
@@ -148,7 +148,7 @@ fn accounts_are_given_back_at_durable(rt: HostRuntime) -> Result<(), Fail> {
         rt: &rt,
         alloc,
         table: &table,
-        boss,
+        flusher_seat,
         from: Lsn::new(4),
         looker,
         held: true,

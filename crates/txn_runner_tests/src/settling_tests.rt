@@ -36,8 +36,8 @@ fn one_job<R: Wait>(rt: &R, alloc: Global) -> Result<Jobs, NoMemory>
 fn settle_one<R: Wait + Abort>(rt: &R, alloc: Global) -> Result<Closed, NoMemory>
     ensures { IfOk result (SettlesOne 4 ((100, 0) ∷ (0, 0) ∷ []) 1 (record { legs = (0, 1, 30) ∷ []; note = None })) }
 {
-    let (table, mut boss) = table_of(alloc, (100, 0), 4)?;
-    let mut seat = worker(&table, &mut boss, 0, 1);
+    let (table, mut flusher_seat) = table_of(alloc, (100, 0), 4)?;
+    let mut seat = worker(&table, &mut flusher_seat, 0, 1);
     let mut jobs = one_job(rt, alloc)?;
     let mut rows = enlisted(alloc, &mut jobs, 0)?;
     let mut relief = NeverRests { rt };
@@ -54,8 +54,8 @@ fn settle_one<R: Wait + Abort>(rt: &R, alloc: Global) -> Result<Closed, NoMemory
     jobs.dismiss(rows);
     jobs.count_taken();
     table.leave(&mut seat);
-    table.merge(&mut boss, seat);
-    Ok(table.close(boss))
+    table.merge(&mut flusher_seat, seat);
+    Ok(table.close(flusher_seat))
 }
 
 #[test]

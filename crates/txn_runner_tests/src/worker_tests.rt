@@ -115,13 +115,13 @@ fn the_first_of_two_workers_leaves_the_second_its_mark(rt: HostRuntime) -> Resul
 #[test]
 fn a_stopped_log_cuts_the_first_transfer_off(rt: HostRuntime) -> Result<(), Fail> {
     let given: Given = (b"pay 0 1 30\n", GENESIS_END);
-    let (table, mut boss) = table_of(rt.alloc(), (100, 0), given.1)?;
-    let seat = worker(&table, &mut boss, 0, 1);
+    let (table, mut flusher_seat) = table_of(rt.alloc(), (100, 0), given.1)?;
+    let seat = worker(&table, &mut flusher_seat, 0, 1);
     let Some(mut jobs) = jobs_of(&rt, rt.alloc(), given.0, 1) else {
         return Err(Fail::new("no script"));
     };
     let mut rows = enlisted(rt.alloc(), &mut jobs, 0)?;
-    table.store_stop(&mut boss, 2);
+    table.store_stop(&mut flusher_seat, 2);
     let (worked, _) = work_alone(&rt, &table, seat, jobs.queue(), &mut rows);
     has_ended(&rt, given, worked, Worked::Cut(Cause::Stop(2)));
     has_rows(&rt, given, &rows, &[]);

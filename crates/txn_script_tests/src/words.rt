@@ -1,12 +1,12 @@
 //! Which words are a command.
 
-use command_line::{Command, Refused, RunOptions, parse};
+use command_line::{Command, RefusedWords, RunOptions, parse};
 use lsn_space::Word;
 use std::alloc::AllocGlobal;
 use std::process::Abort;
 use std::test::Fail;
 
-fn parsed<R: AllocGlobal>(rt: &R, words: &[&str]) -> Result<Result<Command, Refused>, Fail> {
+fn parsed<R: AllocGlobal>(rt: &R, words: &[&str]) -> Result<Result<Command, RefusedWords>, Fail> {
     let mut line = Vec::new(rt.alloc());
     for text in words {
         let Ok(word) = Word::make(rt.alloc(), text) else {
@@ -22,7 +22,7 @@ fn is_as_wanted(rt: &impl Abort, words: &[&str], as_wanted: bool) {
     assert!(rt; as_wanted, "{words:?}");
 }
 
-fn is_on_log(found: &Result<Command, Refused>, name: &str, place: &str) -> bool {
+fn is_on_log(found: &Result<Command, RefusedWords>, name: &str, place: &str) -> bool {
     match found {
         Ok(Command::New { log }) => name == "new" && log.text() == place,
         Ok(Command::Cut { log }) => name == "cut" && log.text() == place,
@@ -85,7 +85,7 @@ fn takes_commands(rt: HostRuntime) -> Result<(), Fail> {
     takes_dump(&rt, &["", "dump"])
 }
 
-fn is_with_number(found: &Result<Command, Refused>, name: &str, number: u32) -> bool {
+fn is_with_number(found: &Result<Command, RefusedWords>, name: &str, number: u32) -> bool {
     match found {
         Ok(Command::Ship { from }) => name == "ship" && *from == number,
         Ok(Command::AsOf { lsn }) => name == "asof" && *lsn == number,
@@ -190,7 +190,7 @@ const RUNS: &[Case] = &[
     ),
 ];
 
-fn is_run(found: &Result<Command, Refused>, want: RunOptions) -> bool {
+fn is_run(found: &Result<Command, RefusedWords>, want: RunOptions) -> bool {
     match found {
         Ok(Command::Run { log, options }) => log.text() == "log" && *options == want,
         _ => false,
@@ -265,7 +265,7 @@ const DEMOS: &[DemoCase] = &[
     ),
 ];
 
-fn is_demo(found: &Result<Command, Refused>, (n, from): (u32, u32), want: RunOptions) -> bool {
+fn is_demo(found: &Result<Command, RefusedWords>, (n, from): (u32, u32), want: RunOptions) -> bool {
     match found {
         Ok(
             Command::Demo {
@@ -307,7 +307,7 @@ fn takes_demo(rt: HostRuntime) -> Result<(), Fail> {
 
 /// These words are no command.
 fn refuses<R: AllocGlobal + Abort>(rt: &R, words: &[&str]) -> Result<(), Fail> {
-    let is_refused = matches!(parsed(rt, words)?, Err(Refused::Usage));
+    let is_refused = matches!(parsed(rt, words)?, Err(RefusedWords::Usage));
     is_as_wanted(rt, words, is_refused);
     Ok(())
 }

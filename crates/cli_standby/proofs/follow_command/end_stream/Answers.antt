@@ -32,12 +32,12 @@ returns-in-Ok g c = record {
 -- the stream goes on behind the input
 pub returns-in-Err-end : goal.returns-in-Err-end
 returns-in-Err-end g c =
-    let left = g.S.Source.left c.args.script.now in
-    let left_new = g.S.Source.left c.feed_all.new.script in
+    let left = g.S.Source.left c.args.input.now in
+    let left_new = g.S.Source.left c.feed_all.new.input in
     let said = c.in_default.ensures in
     rw c.detail_of_stream.ensures (ends-no-further g.D.LogDisk g.S.Source
-    (λ base lsn. HasFedEnd g.D.LogDisk base left left_new lsn c.end.new.self) c.args.standby.now c.end.new.self c.args.script.now
-    c.feed_all.new.script c.in-Err-end.fault (λ base follows.
+    (λ base lsn. HasFedEnd g.D.LogDisk base left left_new lsn c.end.new.self) c.args.standby.now c.end.new.self c.args.input.now
+    c.feed_all.new.input c.in-Err-end.fault (λ base follows.
     let all = said.ok base follows in
     subst (StopsFeeding g.D.LogDisk base _ _ _) (ap (λ (s : Standby _). s.disk.now) (sym c.end.ensures.unchanged))
     (stops-early g.D.LogDisk base left left_new c.feed_all.new.standby all.has all.all c.in-Err-end.fault

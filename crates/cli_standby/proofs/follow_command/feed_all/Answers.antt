@@ -7,8 +7,8 @@ use Rattle.cli_standby.proofs.follow_command.feed_all.Goals as goal
 pub pieces-init : goal.pieces-init
 pieces-init g c = record {
   ready = (c.requires.0, [], c.requires.1);
-  fed = λ base follows. fed-none g.D.LogDisk base (g.S.Source.left c.args.script.now) (g.S.Source.left c.args.script.now) c.args.standby.now
-      (Consumes-nil (g.S.Source.left c.args.script.now)) follows;
+  fed = λ base follows. fed-none g.D.LogDisk base (g.S.Source.left c.args.input.now) (g.S.Source.left c.args.input.now) c.args.standby.now
+      (Consumes-nil (g.S.Source.left c.args.input.now)) follows;
   no_fault = refl;
   same = refl;
 }
@@ -19,7 +19,7 @@ returns-in-Ok-eq0 g c =
     let said = c.in-Ok-eq0.ensures in
     record {
       ok = λ base follows.
-          fed-end g.D.LogDisk base (g.S.Source.left c.args.script.now) (g.S.Source.left c.pieces.script)
+          fed-end g.D.LogDisk base (g.S.Source.left c.args.input.now) (g.S.Source.left c.pieces.input)
           (g.S.Source.left c.read.new.self) c.pieces.standby c.in-Ok-eq0.field-0 c.read.new.buf (c.pieces.invariant.fed base follows)
           (search rules) said.bytes.0 (said.bytes.1 (search rules) (search rules));
       stops = tt;
@@ -31,12 +31,12 @@ returns-in-Ok-eq0 g c =
 -- a read that failed
 pub returns-in-Err : goal.returns-in-Err
 returns-in-Err g c =
-    let left = g.S.Source.left c.args.script.now in
+    let left = g.S.Source.left c.args.input.now in
     record {
       ok = tt;
       stops = λ base follows.
           stops-unread g.D.LogDisk base left (g.S.Source.left c.read.new.self) c.pieces.standby
-          (fed-kept g.D.LogDisk base left (g.S.Source.left c.pieces.script) (g.S.Source.left c.read.new.self) c.pieces.standby
+          (fed-kept g.D.LogDisk base left (g.S.Source.left c.pieces.input) (g.S.Source.left c.read.new.self) c.pieces.standby
           (c.pieces.invariant.fed base follows) c.in-Err.ensures.bytes);
       range = inl refl;
       read = CountsWhere-after _ _ _ _ c.pieces.invariant.no_fault
@@ -54,7 +54,7 @@ pieces-preserved g c = record {
   );
   fed = λ base follows.
       let has = c.pieces.invariant.fed base follows in
-      fed-more g.D.LogDisk base (g.S.Source.left c.args.script.now) (g.S.Source.left c.pieces.script) (g.S.Source.left c.read.new.self)
+      fed-more g.D.LogDisk base (g.S.Source.left c.args.input.now) (g.S.Source.left c.pieces.input) (g.S.Source.left c.read.new.self)
       c.pieces.standby c.feed.new.self (take c.in-Ok.count c.read.new.buf) has c.in-Ok.ensures.bytes.0
       (c.in-Ok-feed.ensures.follows base has.fed has.follows);
   no_fault = c.in-Ok.ensures.cause.fine ∙ c.pieces.invariant.no_fault;
@@ -66,7 +66,7 @@ pub returns-in-Err-feed : goal.returns-in-Err-feed
 returns-in-Err-feed g c =
     rw c.detail_of_stream.ensures (ends-no-further g.D.LogDisk g.S.Source _ _ _ _ _ c.in-Err-feed.fault (λ base follows.
     let has = c.pieces.invariant.fed base follows in
-    fed-stopped g.D.LogDisk base (g.S.Source.left c.args.script.now) (g.S.Source.left c.pieces.script)
+    fed-stopped g.D.LogDisk base (g.S.Source.left c.args.input.now) (g.S.Source.left c.pieces.input)
     (g.S.Source.left c.read.new.self) c.pieces.standby (take c.in-Ok.count c.read.new.buf) has c.in-Ok.ensures.bytes.0 c.in-Err-feed.fault
     c.feed.new.self.disk.now (c.in-Err-feed.ensures.stops base has.fed has.follows))
     (c.in-Ok.ensures.cause.fine ∙ c.pieces.invariant.no_fault) (c.feed.ensures.same ∙ c.pieces.invariant.same))

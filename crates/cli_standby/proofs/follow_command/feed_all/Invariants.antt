@@ -8,10 +8,10 @@ abbrev pub invariant-pieces : goal.invariant-pieces
 invariant-pieces g l = record {
   ready : (base : Base g.row.D.Denot) × (fed : List ℕ) × Follows g.D.LogDisk base fed l.standby;
   fed : (base : Base g.row.D.Denot) → Follows g.D.LogDisk base [] l.fn.standby
-      → HasFed g.D.LogDisk base (g.S.Source.left l.fn.script) (g.S.Source.left l.script) l.standby;
-  no_fault : g.S.Source.faults l.script ≡ g.S.Source.faults l.fn.script;
+      → HasFed g.D.LogDisk base (g.S.Source.left l.fn.input) (g.S.Source.left l.input) l.standby;
+  no_fault : g.S.Source.faults l.input ≡ g.S.Source.faults l.fn.input;
   same : l.standby.disk.ghost_name ≡ l.fn.standby.disk.ghost_name;
 }
 
 abbrev pub decreases-pieces : goal.decreases-pieces
-decreases-pieces g l = g.S.Source.read_allowance l.script
+decreases-pieces g l = g.S.Source.read_allowance l.input

@@ -8,7 +8,7 @@ use Rattle.cli_standby.proofs.follow_command.follow_stream.Goals as goal
 -- there was no memory for a standby
 pub returns-in-Err-clause-stops : goal.returns-in-Err-clause-stops
 returns-in-Err-clause-stops g c = λ list keeps.
-    let left = g.S.Source.left c.args.script.now in
+    let left = g.S.Source.left c.args.input.now in
     rw c.in-Err.ensures.disk (stops-unmade g.D.LogDisk list c.args.judge c.args.tail c.args.kept.disk.now left left keeps)
 
 pub returns-in-Err-clause-range : goal.returns-in-Err-clause-range
@@ -21,7 +21,7 @@ end_stream-ended-requires g c =
 pub returns-in-Ok-ended-clause-ok : goal.returns-in-Ok-ended-clause-ok
 returns-in-Ok-ended-clause-ok g c = λ list keeps.
     let start = begun list c.args.tail c.args.kept.disk.now in
-    fed-whole g.D.LogDisk start (g.S.Source.left c.args.script.now) (g.S.Source.left c.end_stream-ended.new.script) c.in-Ok-ended.lsn
+    fed-whole g.D.LogDisk start (g.S.Source.left c.args.input.now) (g.S.Source.left c.end_stream-ended.new.input) c.in-Ok-ended.lsn
     c.end_stream-ended.new.standby (c.in-Ok-ended.ensures.ok start (c.in-Ok.ensures.follows list keeps)) c.into_accounts.result.rows
     c.into_accounts.ensures
 

@@ -17,7 +17,7 @@ pub returns-in_default : goal.returns-in_default
 returns-in_default g c =
     reported-none g.S.Source g.K.Sink (AnswersReport (SaysStream c.args.from) (RefusesLsn c.args.from)) IsAnswerAtLsn _ _ _ _ tt
     (read-whole _ _ _ (c.in-Ok.ensures.read.fine (λ is. cc)) (λ tells. tells)) (kept-text _) (λ tells. tells)
-    (ship-refused (g.S.Source.left c.args.script.now) (g.S.Source.left c.read_log.new.source) c.in-Ok.both.0 c.in-Ok.both.1
+    (ship-refused (g.S.Source.left c.args.input.now) (g.S.Source.left c.read_log.new.source) c.in-Ok.both.0 c.in-Ok.both.1
     c.in-Ok.ensures.ok c.args.from _ c.as_slice.ensures (g.K.Sink.held_bytes c.args.out.now) (g.K.Sink.held_bytes c.args.out.now)
     c.in_default.ensures.none)
 
@@ -25,9 +25,9 @@ pub put_stream-requires : goal.put_stream-requires
 put_stream-requires g c =
     let read = c.in-Ok.ensures.ok in
     let same = c.as_slice.ensures in (
-      (goes (g.S.Source.left c.args.script.now) (g.S.Source.left c.read_log.new.source) c.in-Ok.both.0 c.in-Ok.both.1 read c.args.from _
+      (goes (g.S.Source.left c.args.input.now) (g.S.Source.left c.read_log.new.source) c.in-Ok.both.0 c.in-Ok.both.1 read c.args.from _
           same c.in-Some.units.now c.in-Some.ensures.some).later,
-      rest-units (g.S.Source.left c.args.script.now) (g.S.Source.left c.read_log.new.source) c.in-Ok.both.0 c.in-Ok.both.1 read
+      rest-units (g.S.Source.left c.args.input.now) (g.S.Source.left c.read_log.new.source) c.in-Ok.both.0 c.in-Ok.both.1 read
           c.args.from _ same c.in-Some.units.now c.in-Some.ensures.some,
     )
 
@@ -37,10 +37,10 @@ returns-in-Ok-put_stream g c =
     let same = c.as_slice.ensures in
     reported-fine g.S.Source g.K.Sink (AnswersReport (SaysStream c.args.from) (RefusesLsn c.args.from)) IsAnswerAtLsn _ _ _ _ tt
     (c.in-Ok.ensures.read.fine (λ is. cc)) c.in-Ok-put_stream.ensures.cause.fine
-    (ship-fine (g.S.Source.left c.args.script.now) (g.S.Source.left c.read_log.new.source) c.in-Ok.both.0 c.in-Ok.both.1 read c.args.from _
+    (ship-fine (g.S.Source.left c.args.input.now) (g.S.Source.left c.read_log.new.source) c.in-Ok.both.0 c.in-Ok.both.1 read c.args.from _
     same c.in-Some.units.now c.in-Some.ensures.some
     (g.K.Sink.held_bytes c.args.out.now) (g.K.Sink.held_bytes c.put_stream.new.sink)
-    (c.in-Ok-put_stream.ensures.all _ (rest-units (g.S.Source.left c.args.script.now) (g.S.Source.left c.read_log.new.source)
+    (c.in-Ok-put_stream.ensures.all _ (rest-units (g.S.Source.left c.args.input.now) (g.S.Source.left c.read_log.new.source)
     c.in-Ok.both.0 c.in-Ok.both.1 read c.args.from _ same c.in-Some.units.now c.in-Some.ensures.some)))
 
 -- the writing failed
@@ -50,8 +50,8 @@ returns g c =
     let same = c.as_slice.ensures in
     reported-part g.S.Source g.K.Sink (AnswersReport (SaysStream c.args.from) (RefusesLsn c.args.from)) IsAnswerAtLsn _ _ _ _ tt
     (c.in-Ok.ensures.read.fine (λ is. cc)) c.in-Err-put_stream.ensures.cause.failed
-    (ship-cut (g.S.Source.left c.args.script.now) (g.S.Source.left c.read_log.new.source) c.in-Ok.both.0 c.in-Ok.both.1 read c.args.from _
+    (ship-cut (g.S.Source.left c.args.input.now) (g.S.Source.left c.read_log.new.source) c.in-Ok.both.0 c.in-Ok.both.1 read c.args.from _
     same c.in-Some.units.now c.in-Some.ensures.some
     (g.K.Sink.held_bytes c.args.out.now) (g.K.Sink.held_bytes c.put_stream.new.sink)
-    (c.in-Err-put_stream.ensures.prefix _ (rest-units (g.S.Source.left c.args.script.now) (g.S.Source.left c.read_log.new.source)
+    (c.in-Err-put_stream.ensures.prefix _ (rest-units (g.S.Source.left c.args.input.now) (g.S.Source.left c.read_log.new.source)
     c.in-Ok.both.0 c.in-Ok.both.1 read c.args.from _ same c.in-Some.units.now c.in-Some.ensures.some)))

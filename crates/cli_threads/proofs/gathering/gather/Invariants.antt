@@ -10,13 +10,13 @@ use Rattle.cli_threads.proofs.gathering.gather.Given as goal
 abbrev pub invariant-loop-worker : goal.invariant-loop-worker
 invariant-loop-worker l = record {
   left : AllByRecursion (HasLeft l.table l.initial.jobs.queue) l.worker-iterator.rest.items;
-  boss : IsOf l.table l.boss;
-  flusher : (view_of l.boss).standing.role ≡ Flusher;
-  sending : (view_of l.boss).sending ≡ (view_of l.initial.boss).sending;
-  view : takes_all (view_of l.boss) (map view_in l.worker-iterator.rest.items)
-      ≡ takes_all (view_of l.initial.boss) (map view_in l.initial.worker-iterator.rest.items);
-  stops : AllByRecursion (HasReadStop (view_of l.initial.boss).sending.stop) (map view_in l.worker-iterator.rest.items)
-      → AllByRecursion (HasReadStop (view_of l.initial.boss).sending.stop) (map view_in l.initial.worker-iterator.rest.items);
+  flusher_seat : IsOf l.table l.flusher_seat;
+  flusher : (view_of l.flusher_seat).standing.role ≡ Flusher;
+  sending : (view_of l.flusher_seat).sending ≡ (view_of l.initial.flusher_seat).sending;
+  view : takes_all (view_of l.flusher_seat) (map view_in l.worker-iterator.rest.items)
+      ≡ takes_all (view_of l.initial.flusher_seat) (map view_in l.initial.worker-iterator.rest.items);
+  stops : AllByRecursion (HasReadStop (view_of l.initial.flusher_seat).sending.stop) (map view_in l.worker-iterator.rest.items)
+      → AllByRecursion (HasReadStop (view_of l.initial.flusher_seat).sending.stop) (map view_in l.initial.worker-iterator.rest.items);
   jobs : HasFirstPass l.jobs;
   same : IsSameQueue l.initial.jobs l.jobs;
   out : passes_out l.jobs + length l.initial.worker-iterator.rest.items ≡ passes_out l.initial.jobs + length l.worker-iterator.rest.items;

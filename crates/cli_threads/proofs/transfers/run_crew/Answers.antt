@@ -8,11 +8,11 @@ use Rattle.cli_threads.proofs.TransferredLemmas.{MayClose-gathered, some-then}
 use Rattle.cli_threads.proofs.transfers.run_crew.Goals as goal
 
 pub relief_of-relief-requires-clause-seat : goal.relief_of-relief-requires-clause-seat
-relief_of-relief-requires-clause-seat g c = (length c.args.refused.now, c.requires.crew.boss)
+relief_of-relief-requires-clause-seat g c = (length c.args.refused.now, c.requires.crew.flusher_seat)
 
-pub serve_crew-relief-requires-clause-boss : goal.serve_crew-relief-requires-clause-boss
-serve_crew-relief-requires-clause-boss g c = λ κs within. subst (HasHired c.args.table.now (length c.args.refused.now))
-    (sym c.relief_of-relief.ensures.begun.seat_is) c.requires.crew.boss
+pub serve_crew-relief-requires-clause-flusher_seat : goal.serve_crew-relief-requires-clause-flusher_seat
+serve_crew-relief-requires-clause-flusher_seat g c = λ κs within. subst (HasHired c.args.table.now (length c.args.refused.now))
+    (sym c.relief_of-relief.ensures.begun.seat_is) c.requires.crew.flusher_seat
 
 pub take_apart-requires : goal.take_apart-requires
 take_apart-requires g c =
@@ -20,7 +20,7 @@ take_apart-requires g c =
     let closed : MayClose (view_of c.serve_crew-relief.result.now.daemon.flusher.seat) =
     MayClose-gathered g.D.LogDisk g.K.Sink _ _ c.relief_of-relief.ensures.begun served.later (key_of c.args.table.now) c.args.table.now
     c.args.jobs.now.queue c.args.wait served.workers
-    (subst (λ n. KnowsHired (key_of c.args.table.now) n (view_of c.args.crew.boss)) (sym served.count) c.requires.crew.boss.knows)
+    (subst (λ n. KnowsHired (key_of c.args.table.now) n (view_of c.args.crew.flusher_seat)) (sym served.count) c.requires.crew.flusher_seat.knows)
     served.done _ served.view in
     let may : (relief : FlushingRelief g.row.D.Denot g.row.K.Denot g.D.LogDisk g.K.Sink) → relief ≡ c.serve_crew-relief.result.now
     → MayBeTakenApart relief =
@@ -35,11 +35,11 @@ returns-clause-turned g c =
     → c.take_apart.result.disk ≡ relief.daemon.flusher.disk → c.take_apart.result.out ≡ relief.daemon.sink
     → relief ≡ c.serve_crew-relief.result.now
     → IsSomeAnd c.take_apart.new.served (HasTurned g.D.LogDisk g.K.Sink c.args.table.now c.args.jobs.now.queue (length c.args.refused.now)
-    c.args.wait c.args.tail c.args.voice c.args.crew.boss c.args.outside.disk.now c.take_apart.result.disk.now c.args.outside.out.now
+    c.args.wait c.args.tail c.args.voice c.args.crew.flusher_seat c.args.outside.disk.now c.take_apart.result.disk.now c.args.outside.out.now
     c.take_apart.result.out.now) =
     λ relief left disk out same. some-then (IsLeftOf g.D.LogDisk g.K.Sink relief.daemon c.in-Some.ends.items)
     (HasTurned g.D.LogDisk g.K.Sink c.args.table.now c.args.jobs.now.queue (length c.args.refused.now) c.args.wait c.args.tail c.args.voice
-    c.args.crew.boss c.args.outside.disk.now c.take_apart.result.disk.now c.args.outside.out.now c.take_apart.result.out.now)
+    c.args.crew.flusher_seat c.args.outside.disk.now c.take_apart.result.disk.now c.args.outside.out.now c.take_apart.result.out.now)
     c.take_apart.new.served left (λ place is_left. record {
       first = c.relief_of-relief.result.daemon;
       left = c.serve_crew-relief.result.now.daemon;

@@ -34,9 +34,9 @@ run_crew-outside-requires-clause-log g c = λ κs within. let log = c.requires.o
 pub close-requires : goal.close-requires
 close-requires g c = record {
   served = some-then (HasTurned g.D.LogDisk g.K.Sink c.args.prepared.table c.args.prepared.jobs.queue (length c.as_slice.result.now) c.args.wait c.args.tail
-      c.args.voice c.args.prepared.crew.boss c.args.disk.now c.run_crew-outside.result.disk.now c.args.out.now c.run_crew-outside.result.out.now)
+      c.args.voice c.args.prepared.crew.flusher_seat c.args.disk.now c.run_crew-outside.result.disk.now c.args.out.now c.run_crew-outside.result.out.now)
       (IsOver c.args.prepared.table) _ c.run_crew-outside.ensures.turned (λ served turned. record {
-        seat = subst (IsOf c.args.prepared.table) (sym turned.rest.boss) turned.crew.seat;
+        seat = subst (IsOf c.args.prepared.table) (sym turned.rest.flusher_seat) turned.crew.seat;
         over = turned.rest.over;
       });
 }
@@ -47,7 +47,7 @@ returns g c =
     let key = key_of prepared.table in
     let queue = prepared.jobs.queue in
     let came = both-some
-    (HasTurned g.D.LogDisk g.K.Sink prepared.table queue (length c.as_slice.result.now) c.args.wait c.args.tail c.args.voice prepared.crew.boss
+    (HasTurned g.D.LogDisk g.K.Sink prepared.table queue (length c.as_slice.result.now) c.args.wait c.args.tail c.args.voice prepared.crew.flusher_seat
     c.args.disk.now c.run_crew-outside.result.disk.now c.args.out.now c.run_crew-outside.result.out.now) (IsEndOf prepared.table c.close.result)
     c.run_crew-outside.new.served c.run_crew-outside.ensures.turned c.close.ensures in
     let turned = came.1 in
@@ -55,7 +55,7 @@ returns g c =
     let served = turned.crew in
     let flags = c.as_slice.ensures.len ∙ c.requires.prepared.flags in
     let count : length served.workers ≡ workers_of prepared.jobs = served.count ∙ flags in
-    let knows = subst (λ n. KnowsHired key n (view_of prepared.crew.boss)) (sym count) c.requires.prepared.crew.boss.knows in
+    let knows = subst (λ n. KnowsHired key n (view_of prepared.crew.flusher_seat)) (sym count) c.requires.prepared.crew.flusher_seat.knows in
     let view = view_of turned.left.flusher.seat in
     record {
       ended = λ opened log. record {
@@ -68,9 +68,9 @@ returns g c =
         transferred = HasTransferred-gathered g.D.LogDisk g.K.Sink turned.first served.last turned.begun served.later key prepared.table queue c.args.wait
             served.workers knows opened log served.done (omega (arith, count, c.requires.prepared.enlisted.someone)) served.front served.stops
             served.drained view served.view served.seat.ring served.seat.slots c.close.result.closed.tail c.close.result.closed.accounts.rows
-            (subst (λ (s : Seat). IsGathered c.close.result.closed.tail (view_of s)) turned.rest.boss over.gathered)
-            (subst (λ (s : Seat). IsSettled (base_of key) (view_of s) c.close.result.closed.accounts.rows) turned.rest.boss over.settled)
-            (subst (λ (s : Seat). HasHeardOfWorkers (view_of s)) turned.rest.boss over.heard);
+            (subst (λ (s : Seat). IsGathered c.close.result.closed.tail (view_of s)) turned.rest.flusher_seat over.gathered)
+            (subst (λ (s : Seat). IsSettled (base_of key) (view_of s) c.close.result.closed.accounts.rows) turned.rest.flusher_seat over.settled)
+            (subst (λ (s : Seat). HasHeardOfWorkers (view_of s)) turned.rest.flusher_seat over.heard);
         ends = ends-of_shares served.workers ∙ sym served.ends_are ∙ sym turned.rest.ends_are ∙ over.ends_are;
         waited = λ waits. subst (λ (v : View). (worker : ℕ) (share : Share) → get_elem? (map share_of served.workers) worker ≡ some share
             → HaveWaited (jobs_of queue) (made_of share.taken share.worked) v.entries v.books.given) (sym served.view)

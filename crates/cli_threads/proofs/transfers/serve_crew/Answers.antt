@@ -26,7 +26,7 @@ serve_all-relief-requires-clause-hands g c = λ κs within.
     }
 
 pub serve_all-relief-requires-clause-told : goal.serve_all-relief-requires-clause-told
-serve_all-relief-requires-clause-told g c = λ κs within. c.requires.boss.knows.told
+serve_all-relief-requires-clause-told g c = λ κs within. c.requires.flusher_seat.knows.told
 
 pub gather-worked-requires-clause-workers : goal.gather-worked-requires-clause-workers
 gather-worked-requires-clause-workers g c =
@@ -64,7 +64,7 @@ invariant_of-daemon g c =
     let sending = ap (λ (v : View). v.sending) view ∙ takes_all-sending (view_of last.flusher.seat) others in
     record {
       told = ∥∥₁_map last.told (λ told. HasTold-step g.K.Sink last.first.value last.voice (view_of last.begun.value) last.sink.now
-          (view_of last.flusher.seat) (view_of c.gather-worked.new.boss) constants told (ap (λ (s : Sending). s.sent) sending));
+          (view_of last.flusher.seat) (view_of c.gather-worked.new.flusher_seat) constants told (ap (λ (s : Sending). s.sent) sending));
     }
 
 pub returns-clause-turned : goal.returns-clause-turned

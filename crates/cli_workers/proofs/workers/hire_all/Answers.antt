@@ -22,7 +22,7 @@ loop-number-preserved c =
     let next : P (0 + length workers.items) worker = (place, c.in_ok-hire.ensures.unused) in
     let before = AreUnused-same table c.loop-number.jobs c.hire.new.jobs workers.items c.in_ok-hire.ensures.out.same.queue was.unused in
     record {
-      boss = c.in_ok-hire.ensures.boss;
+      flusher_seat = c.in_ok-hire.ensures.flusher_seat;
       jobs = c.hire.ensures.jobs;
       out = HandsOut-next c.loop-number.number c.args.jobs.now c.loop-number.jobs c.hire.new.jobs was.out c.in_ok-hire.ensures.out;
       unused = subst (AreUnused table queue) (sym c.push_reserved.ensures.items) (Numbered-push P 0 workers.items worker before next);

@@ -6,7 +6,7 @@ use Rattle.cli_workers.proofs.workers.hire_all.Given as goal
 
 abbrev pub invariant-loop-number : goal.invariant-loop-number
 invariant-loop-number l = record {
-  boss : HasHired l.table l.number l.boss;
+  flusher_seat : HasHired l.table l.number l.flusher_seat;
   jobs : HasFirstPass l.jobs;
   out : HandsOut l.number l.initial.jobs l.jobs;
   unused : AreUnused l.table l.jobs.queue l.workers.items;

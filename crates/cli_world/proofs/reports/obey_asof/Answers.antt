@@ -8,7 +8,7 @@ use Rattle.cli_world.proofs.reports.obey_asof.Goals as goal
 pub returns : goal.returns
 returns g c =
     let report = subst (λ lsn. HasReported g.S.Source g.K.Sink (AnswersReport (SaysAccounts lsn) (RefusesLsn lsn)) IsAnswerAtLsn
-    c.args.script.now c.asof_command.new.script c.args.out.now c.asof_command.new.out c.asof_command.result) c.new.ensures c.asof_command.ensures in
+    c.args.input.now c.asof_command.new.input c.args.out.now c.asof_command.new.out c.asof_command.result) c.new.ensures c.asof_command.ensures in
     record {
       done = record { report = report; untouched = refl {a = c.args.disk.now} };
       faults = untouched-faults g.D.LogDisk g.S.Source g.K.Sink _ _ c.args.disk.now _ _ _ _ c.asof_command.result (λ disk. subst IsAnswerAtLsn disk report.range) report;

@@ -5,4 +5,4 @@ use Rattle.consol_array_tests.proofs.groups_tests.fill_ring.Goals as goal
 pub returns : goal.returns
 returns g c =
     let all : c.loop-i.i ≡ 256 = omega (arith, c.loop-i-test.false, c.loop-i.auto.i-end) in
-    record { boss = subst (λ (n : ℕ). HasHired c.args.table.now n c.loop-i.boss) all c.loop-i.invariant }
+    record { flusher_seat = subst (λ (n : ℕ). HasHired c.args.table.now n c.loop-i.flusher_seat) all c.loop-i.invariant }

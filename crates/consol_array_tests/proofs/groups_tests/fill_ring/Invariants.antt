@@ -2,4 +2,4 @@ use Rattle.log_table.specs.Hiring.{HasHired}
 use Rattle.consol_array_tests.proofs.groups_tests.fill_ring.Given as goal
 
 abbrev pub invariant-loop-i : goal.invariant-loop-i
-invariant-loop-i g l = HasHired l.table l.i l.boss
+invariant-loop-i g l = HasHired l.table l.i l.flusher_seat

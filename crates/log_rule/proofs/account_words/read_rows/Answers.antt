@@ -1,7 +1,7 @@
 use Rattle.std.proofs.Common.{rules, arith, ◌≡◌, ◌<◌, ◌∙◌, ◌+◌, ℕ, List, get_or, length, sym, ap, subst}
 use Rattle.std.specs.Slots.{slots_items}
 use Rattle.lsn_space.specs.Accounts.{Accounts}
-use Rattle.slot_word.specs.AccountWord.{balance_in, mark_in}
+use Rattle.slot_word.specs.AccountWord.{balance_in, last_commit_in}
 use Rattle.log_rule.specs.Closing.{ReadsRows}
 use Rattle.log_rule.specs.Layout.{Account, index_of}
 use Rattle.log_rule.proofs.Gathering.{at-index}
@@ -21,7 +21,7 @@ loop-account-preserved c =
           (reads-more c.args.ring c.args.slots c.loop-account.account words (c.balance.result, c.mark.result) _ _ below
           (λ i. (
             (c.balance.ensures.balance ∙ (c.unpack-word.ensures.balance ∙ ap balance_in word-is)) i,
-            (c.mark.ensures ∙ (c.unpack-word.ensures.mark ∙ ap mark_in word-is)) i,
+            (c.mark.ensures ∙ (c.unpack-word.ensures.mark ∙ ap last_commit_in word-is)) i,
           )) c.loop-account.invariant.rows);
     }
 

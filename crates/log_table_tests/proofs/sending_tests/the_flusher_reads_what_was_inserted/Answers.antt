@@ -11,17 +11,17 @@ ends_at-requires-clause-leaves g c =
     let worker = c.inserts-2.ensures.worker in
     record { rests = worker.ready.rests; none_held = worker.free.none_held }
 
-pub ends_at-requires-clause-boss : goal.ends_at-requires-clause-boss
-ends_at-requires-clause-boss g c = c.in_ok-sends.ensures.boss
+pub ends_at-requires-clause-flusher_seat : goal.ends_at-requires-clause-flusher_seat
+ends_at-requires-clause-flusher_seat g c = c.in_ok-sends.ensures.flusher_seat
 
 pub ends_at-requires-clause-flusher : goal.ends_at-requires-clause-flusher
 ends_at-requires-clause-flusher g c =
     let read = ap (λ (me : View × _). me.0.standing) c.load_crew.ensures.view.me in
     ap (λ (standing : Standing). standing.role)
-    (c.in_ok-sends.ensures.standing ∙ (c.in_ok-to-2.ensures.standing ∙ (c.in_ok-to.ensures.standing ∙ read))) ∙ c.worker-seat.ensures.boss.knows.flusher
+    (c.in_ok-sends.ensures.standing ∙ (c.in_ok-to-2.ensures.standing ∙ (c.in_ok-to.ensures.standing ∙ read))) ∙ c.worker-seat.ensures.flusher_seat.knows.flusher
 
 pub ends_at-requires-clause-made : goal.ends_at-requires-clause-made
 ends_at-requires-clause-made g c =
     let read = ap (λ (me : View × _). me.0.standing) c.load_crew.ensures.view.me in
     ap (λ (standing : Standing). standing.made)
-    (c.in_ok-sends.ensures.standing ∙ (c.in_ok-to-2.ensures.standing ∙ (c.in_ok-to.ensures.standing ∙ read))) ∙ c.worker-seat.ensures.boss.knows.made
+    (c.in_ok-sends.ensures.standing ∙ (c.in_ok-to-2.ensures.standing ∙ (c.in_ok-to.ensures.standing ∙ read))) ∙ c.worker-seat.ensures.flusher_seat.knows.made

@@ -18,7 +18,7 @@ loop-number-preserved c =
     let grown : c.push.new.self.items ≡ made ++ c.in_ok-hand.hand ∷ [] = search rules in
     let before = subst (λ (queue : Queue). AllByRecursion (IsHand table queue) made) (sym same.queue) was.hands in
     record {
-      boss = c.in_ok-hand.ensures.boss;
+      flusher_seat = c.in_ok-hand.ensures.flusher_seat;
       jobs = c.in_ok-hand.ensures.jobs;
       same = record { queue = same.queue ∙ was.same.queue; workers = same.workers ∙ was.same.workers };
       hands = subst (AllByRecursion IsOne) (sym grown) (all-append IsOne made (c.in_ok-hand.hand ∷ []) before (c.in_ok-hand.ensures.hand, tt));

@@ -6,7 +6,7 @@ use Rattle.run_rig.proofs.crew.hands.Given as goal
 
 abbrev pub invariant-loop-number : goal.invariant-loop-number
 invariant-loop-number l = record {
-  boss : HasHired l.table l.number l.boss;
+  flusher_seat : HasHired l.table l.number l.flusher_seat;
   jobs : HasEnlisted l.number l.jobs;
   same : IsSameQueue l.initial.jobs l.jobs;
   hands : AllByRecursion (IsHand l.table l.jobs.queue) l.hands.items;

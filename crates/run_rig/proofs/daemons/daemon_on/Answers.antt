@@ -11,7 +11,7 @@ returns-clause-ready g c = record {
   fine = c.make.ensures.fine;
   running = ap (λ (f : Flusher _ _). (view_of f.seat).sending.stop) c.make.ensures.flusher
       ∙ ap (λ seat. (view_of seat).sending.stop) c.in_ok-flusher.ensures.seat
-      ∙ ap (λ (sending : Sending). sending.stop) c.requires.boss.1.knows.sending;
+      ∙ ap (λ (sending : Sending). sending.stop) c.requires.flusher_seat.1.knows.sending;
   counted = omega (arith, c.make.ensures.done, c.make.ensures.refused);
   all_told = c.make.ensures.told;
 }

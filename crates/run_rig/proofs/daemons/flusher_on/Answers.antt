@@ -13,13 +13,13 @@ use Rattle.run_rig.proofs.daemons.flusher_on.Goals as goal
 pub make-requires-2 : goal.make-requires-2
 make-requires-2 g c = record {
   log = λ honest. (_, all-log _ _ _ (c.in-Ok.ensures.created (c.create.ensures.honest.1 honest)));
-  unsent = ap (λ (sending : Sending). sending.sent) c.requires.boss.1.knows.sending;
-  unread = ap (λ (sending : Sending). sending.read) c.requires.boss.1.knows.sending;
+  unsent = ap (λ (sending : Sending). sending.sent) c.requires.flusher_seat.1.knows.sending;
+  unread = ap (λ (sending : Sending). sending.read) c.requires.flusher_seat.1.knows.sending;
 }
 
 pub returns-clause-ready : goal.returns-clause-ready
 returns-clause-ready g c =
-    let hired = c.requires.boss.1 in
+    let hired = c.requires.flusher_seat.1 in
     let view = view_of c.args.seat in
     let start = (key_of c.args.table.now).start in
     let starts = ap (λ (constants : Constants). constants.start) hired.knows.constants in

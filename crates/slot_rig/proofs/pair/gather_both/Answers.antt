@@ -11,5 +11,5 @@ take_in-requires-clause-two c =
 
 pub returns-clause-gathered : goal.returns-clause-gathered
 returns-clause-gathered c =
-    has-both c.args.table.now c.args.ours.now c.args.theirs.now c.args.base c.args.one c.args.two c.requires.one c.requires.two c.args.boss.now c.take_in.new.boss
+    has-both c.args.table.now c.args.ours.now c.args.theirs.now c.args.base c.args.one c.args.two c.requires.one c.requires.two c.args.flusher_seat.now c.take_in.new.flusher_seat
     c.requires.behind c.requires.no_entry c.take_in.ensures.gathered

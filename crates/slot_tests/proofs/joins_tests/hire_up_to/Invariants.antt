@@ -2,4 +2,4 @@ use Rattle.log_table.specs.Hiring.{HasHired}
 use Rattle.slot_tests.proofs.joins_tests.hire_up_to.Given as goal
 
 abbrev pub invariant-loop-worker : goal.invariant-loop-worker
-invariant-loop-worker l = HasHired l.table l.worker l.boss
+invariant-loop-worker l = HasHired l.table l.worker l.flusher_seat

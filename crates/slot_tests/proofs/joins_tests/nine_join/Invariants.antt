@@ -2,4 +2,4 @@ use Rattle.log_table.specs.Hiring.{HasHired}
 use Rattle.slot_tests.proofs.joins_tests.nine_join.Given as goal
 
 abbrev pub invariant-loop-i : goal.invariant-loop-i
-invariant-loop-i g l = HasHired l.table l.i l.boss
+invariant-loop-i g l = HasHired l.table l.i l.flusher_seat

@@ -1,7 +1,7 @@
 use Rattle.std.proofs.Common.{◌++◌, [], length, map, ap, sym, subst, ◌∙◌}
 use Rattle.std.proofs.lemmas.Result.{err_from_is_err_and}
 use Rattle.arrayvec.proofs.ArrayVecLemmas.{items-with_items}
-use Rattle.txn_parts.specs.declared.ended.Ended.{Ended}
+use Rattle.txn_parts.specs.declared.ended.TransferEnd.{TransferEnd}
 use Rattle.txn_parts.specs.Desk.{accounts_at, books_at}
 use Rattle.txn_parts.proofs.DeskLemmas.{WorksOn-accounts, WorksOn-trans}
 use Rattle.txn_making.specs.Endings.{EndsTransfer}
@@ -77,7 +77,7 @@ returns-clause-ended g c =
     let legs = c.in_ok-answer.ensures.added in
     let same = items-with_items c.args.holdings.now c.make_legs.new.holdings
     (c.make_legs.auto.holdings ∙ ap length c.as_mut_slice-list.ensures.value) in
-    let ended : Ended = record { answer = c.in_ok-answer.answer; end = c.in_ok-end.end } in
+    let ended : TransferEnd = record { answer = c.in_ok-answer.answer; end = c.in_ok-end.end } in
     subst (λ list. EndsTransfer c.args.numbered.now.number c.args.numbered.now.job ended list c.args.desk.now.seat.now
     c.insert_units.new.desk.seat.now) (sym same)
     (ends-transfer _ _ ended _ _ _ _ _ (adds-trans _ _ _ _ _ noted.adds legs.1) c.in_ok-answer.ensures.ended c.in_ok-end.ensures.put)

@@ -1,13 +1,13 @@
 use Rattle.std.proofs.Common.{◌≢◌, ℕ, ◌<◌, ◌≤◌, ◌∙◌, List, [], ◌∷◌, length, map, Contains, sym, arith}
 use Rattle.std.specs.List.{AllWithin}
 use Rattle.std.proofs.lemmas.List.{length-map, get_or-map}
-use Rattle.txn_parts.specs.declared.holding.Holding.{Holding}
+use Rattle.txn_parts.specs.declared.holding.TakenAccount.{TakenAccount}
 use Rattle.txn_parts.specs.Holdings.{account_of}
 use Rattle.txn_parts.proofs.leg.holding_of.Goals as goal
 
 -- an account that one of the holdings has isn't lacking
-found : (holdings : List Holding) (account n : ℕ) → length holdings ≤ n → Contains (map account_of holdings) account
-    → AllWithin (λ (holding : Holding). holding.taken.account ≢ account) holdings 0 n → ⊥
+found : (holdings : List TakenAccount) (account n : ℕ) → length holdings ≤ n → Contains (map account_of holdings) account
+    → AllWithin (λ (holding : TakenAccount). holding.taken.account ≢ account) holdings 0 n → ⊥
 found [] account n all has none = absurd (omega (arith, has.1))
 found (first ∷ holdings) account n all has none =
     none has.0 first (omega arith) (omega (arith, within))

@@ -1,6 +1,6 @@
 use Rattle.std.proofs.Common.{rules, arith}
 use Rattle.log_rule.proofs.Allowing.{exchange_account-allowed}
-use Rattle.log_rule.proofs.Owing.{FitsWord, account-takes, account-looks}
+use Rattle.log_rule.proofs.AccountSteps.{FitsWord, account-takes, account-looks}
 use Rattle.log_table.proofs.steps.accounts.exchange_account_as.Goals as goal
 
 pub compare_exchange-found-requires : goal.compare_exchange-found-requires

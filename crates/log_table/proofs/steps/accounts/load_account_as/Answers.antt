@@ -1,6 +1,6 @@
 use Rattle.std.proofs.Common.{rules, arith}
 use Rattle.log_rule.proofs.Allowing.{load_account-allowed}
-use Rattle.log_rule.proofs.Owing.{account-looks}
+use Rattle.log_rule.proofs.AccountSteps.{account-looks}
 use Rattle.log_table.proofs.steps.accounts.load_account_as.Goals as goal
 
 pub load-requires : goal.load-requires

@@ -2,7 +2,7 @@ use Rattle.std.proofs.Common.{rules, arith, ap}
 use Rattle.log_rule.specs.AccountViews.{gave_account}
 use Rattle.log_table.specs.Seats.{view_of}
 use Rattle.log_rule.proofs.Allowing.{store_account-allowed}
-use Rattle.log_rule.proofs.Owing.{FitsWord, give-step}
+use Rattle.log_rule.proofs.AccountSteps.{FitsWord, give-step}
 use Rattle.log_table.proofs.Stepping.{becomes_as}
 use Rattle.log_table.proofs.steps.accounts.store_account_as.Goals as goal
 

@@ -3,7 +3,7 @@ use Rattle.log_rule.specs.May.{MayExchangeTail}
 use Rattle.log_table.specs.Seats.{view_of, number_of, key_of}
 use Rattle.log_rule.proofs.Allowing.{exchange_tail-allowed}
 use Rattle.log_rule.proofs.LeaderPlacing.{place-step}
-use Rattle.log_rule.proofs.Looking.{tail-looks_as}
+use Rattle.log_rule.proofs.Loads.{tail-looks_as}
 use Rattle.log_rule.proofs.Reserving.{reserve-step}
 use Rattle.log_rule.proofs.TailMoving.{exchange-made}
 use Rattle.log_rule.specs.SlotViews.{exchanged, reserved_group, contended_losing}

@@ -1,6 +1,6 @@
 use Rattle.std.proofs.Common.{arith}
 use Rattle.log_rule.proofs.Allowing.{load_durable-allowed}
-use Rattle.log_rule.proofs.Looking.{durable-looks}
+use Rattle.log_rule.proofs.Loads.{durable-looks}
 use Rattle.log_table.proofs.table.LogTable.load_durable.Goals as goal
 
 pub load-requires : goal.load-requires

@@ -1,6 +1,6 @@
 use Rattle.std.proofs.Common.{arith}
 use Rattle.log_rule.proofs.Allowing.{load_stop-allowed}
-use Rattle.log_rule.proofs.Looking.{stop-looks}
+use Rattle.log_rule.proofs.Loads.{stop-looks}
 use Rattle.log_table.proofs.Stepping.{becomes}
 use Rattle.log_table.proofs.table.LogTable.load_stop.Goals as goal
 

@@ -1,6 +1,6 @@
 use Rattle.std.proofs.Common.{arith}
 use Rattle.log_rule.proofs.Allowing.{load_tail-allowed}
-use Rattle.log_rule.proofs.Looking.{tail-looks}
+use Rattle.log_rule.proofs.Loads.{tail-looks}
 use Rattle.log_table.proofs.table.LogTable.load_tail.Goals as goal
 
 pub load-requires : goal.load-requires

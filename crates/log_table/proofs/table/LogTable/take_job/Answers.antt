@@ -1,4 +1,4 @@
-use Rattle.log_rule.proofs.Owing.{job-step}
+use Rattle.log_rule.proofs.AccountSteps.{job-step}
 use Rattle.log_table.proofs.table.LogTable.take_job.Goals as goal
 
 pub returns-clause-event : goal.returns-clause-event

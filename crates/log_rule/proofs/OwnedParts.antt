@@ -1,7 +1,7 @@
 -- What the log has of a seat, where its last part changes or one is added.
 use Rattle.std.proofs.Common.{◌≡◌, ◌≢◌, ℕ, cond, Bool, true, false, true≢false, List, [], ◌∷◌, ◌++◌, sym, refl, ap, ◌∙◌, eq-eqb, ne_eqb, eqb-true, append-nil}
 use Rattle.log_rule.specs.declared.view.Entry.{Entry}
-use Rattle.log_rule.specs.Log.{Part, Duty, Shared, Owed, Released, Range, Claim, own, owed, is_by, whole, owes, is_owed_by, claim_of, part_of, parts_of}
+use Rattle.log_rule.specs.Log.{Part, Duty, Shared, Owed, Released, LogRange, Claim, own, owed, is_by, whole, owes, is_owed_by, claim_of, part_of, parts_of}
 use Rattle.log_rule.proofs.Lists.{picked-append, picked-same, picked-last}
 
 -- the seat's last part, which is not released, and what stands around it
@@ -47,11 +47,11 @@ own-push_others me other parts flag entry differ = picked-append (is_by other) w
     ∙ (ap (λ b. own other parts ++ cond {A = List Part} b (part_of me flag entry ∷ []) []) (ne_eqb me other (λ e. differ (sym e)))
     ∙ append-nil (own other parts))
 
-pub owed-push : (me : ℕ) (ranges : List Range) (r : Range) → r.duty ≡ Owed me → owed me (ranges ++ r ∷ []) ≡ owed me ranges ++ claim_of r ∷ []
+pub owed-push : (me : ℕ) (ranges : List LogRange) (r : LogRange) → r.duty ≡ Owed me → owed me (ranges ++ r ∷ []) ≡ owed me ranges ++ claim_of r ∷ []
 owed-push me ranges r duty = picked-append (owes me) claim_of ranges (r ∷ [])
     ∙ ap (λ b. owed me ranges ++ cond {A = List Claim} b (claim_of r ∷ []) []) (ap (is_owed_by me) duty ∙ eq-eqb me me refl)
 
-pub owed-push_others : (me other : ℕ) (ranges : List Range) (r : Range) → r.duty ≡ Owed me → other ≢ me
+pub owed-push_others : (me other : ℕ) (ranges : List LogRange) (r : LogRange) → r.duty ≡ Owed me → other ≢ me
     → owed other (ranges ++ r ∷ []) ≡ owed other ranges
 owed-push_others me other ranges r duty differ = picked-append (owes other) claim_of ranges (r ∷ [])
     ∙ (ap (λ b. owed other ranges ++ cond {A = List Claim} b (claim_of r ∷ []) [])

@@ -17,13 +17,13 @@ use Rattle.log_rule.specs.Sound.{EachView, HasSeenBoundaries, HasContiguousReser
 use Rattle.log_rule.specs.Roles.{is_spent}
 use Rattle.log_rule.specs.Views.{seen_tail, seen_durable, saw_tail, saw_durable, saw_stop}
 use Rattle.log_rule.specs.Words.{Words}
-use Rattle.log_rule.proofs.Keeping.{accounts-stay}
+use Rattle.log_rule.proofs.AccountsKept.{accounts-stay}
 use Rattle.log_rule.proofs.Lifting.{Tells}
 use Rattle.log_rule.proofs.Members.{KeepsSeen, steps-on, tail-on, durable-on, loads-stay, keeps-view}
 use Rattle.log_rule.proofs.Roles.{crew-same, quiet-moves, restands}
 use Rattle.log_rule.proofs.Boundaries.{range_size, part_size, boundary-start, boundary-aligned, boundary-append, boundary-end, boundary-behind}
-use Rattle.log_rule.proofs.Ranging.{tiles-le, tiles-append}
-use Rattle.log_rule.proofs.Viewing.{each_set}
+use Rattle.log_rule.proofs.RangeLists.{tiles-le, tiles-append}
+use Rattle.log_rule.proofs.ViewChanges.{each_set}
 
 -- durable, exposed and the tail are boundaries of reservations
 module _ (start ring tail exposed durable : ℕ) (log : Log) (c : HasContiguousReservations start ring tail exposed durable log) where

@@ -1,6 +1,6 @@
 use Rattle.std.proofs.Common.{◌∙◌, ap, sym, eq-eqb}
 use Rattle.ring_core.specs.RingLog.{Reservation, size_of}
-use Rattle.ring_core.proofs.range.Range.mark.Goals as goal
+use Rattle.ring_core.proofs.range.RingRange.mark.Goals as goal
 
 pub returns-then-is_full-clause-full : goal.returns-then-is_full-clause-full
 returns-then-is_full-clause-full c =

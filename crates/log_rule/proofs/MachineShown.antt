@@ -6,9 +6,9 @@ use lib.ListN.{get_elem?}
 use Rattle.ring_core.specs.RingLog.{Reservation, is_at, filled_at, released_at}
 use Rattle.slot_core.specs.State.{Hand, task_of, with_task}
 use Rattle.log_rule.specs.declared.view.View.{View}
-use Rattle.log_rule.specs.Log.{Part, Range, Tiles, filled_in, is_released}
+use Rattle.log_rule.specs.Log.{Part, LogRange, Tiles, filled_in, is_released}
 use Rattle.log_rule.specs.Events.{reservation_of, task_in, hands_of}
-use Rattle.log_rule.proofs.Ranging.{RangesApart, tiles-le, tiles-mid}
+use Rattle.log_rule.proofs.RangeLists.{RangesApart, tiles-le, tiles-mid}
 
 -- a seat whose call shows the same changes nothing
 pub hands_of-set_same : (first me : ℕ) (views : List View) (v new : View) → get_elem? views me ≡ some v → task_in new.call ≡ task_in v.call
@@ -45,7 +45,7 @@ task_of-hands_of first (suc me) actor (x ∷ xs) v is at =
     ∙ task_of-hands_of (first + 1) me actor xs v (omega arith) at
 
 -- the reservation at a range's base is that range's
-pub find-range : (parts : List Part) (most from to : ℕ) (ls rs : List Range) (r : Range) → Tiles most from (ls ++ r ∷ rs) to
+pub find-range : (parts : List Part) (most from to : ℕ) (ls rs : List LogRange) (r : LogRange) → Tiles most from (ls ++ r ∷ rs) to
     → find (is_at r.base) (map (reservation_of parts) (ls ++ r ∷ rs)) ≡ Some (reservation_of parts r)
 find-range parts most from to [] rs r t =
     ap (λ b. cond b (Some (reservation_of parts r)) (find (is_at r.base) (map (reservation_of parts) rs))) (eq-eqb r.base r.base refl)
@@ -55,7 +55,7 @@ find-range parts most from to (q ∷ ls) rs r t = let h = tiles-mid most (from +
     ∙ find-range parts most (from + q.size) to ls rs r t.3
 
 -- no range begins where the last one ends
-pub find-no_range : (parts : List Part) (most from to : ℕ) (rs : List Range) → Tiles most from rs to
+pub find-no_range : (parts : List Part) (most from to : ℕ) (rs : List LogRange) → Tiles most from rs to
     → find (is_at to) (map (reservation_of parts) rs) ≡ None
 find-no_range parts most from to [] t = refl
 find-no_range parts most from to (r ∷ rs) t =
@@ -68,30 +68,30 @@ abbrev pub LeavesOthers : ℕ → (Reservation → Reservation) → Type 0
 LeavesOthers base change = (r : Reservation) → (r.base == base) ≡ false → change r ≡ r
 
 -- parts change, but no units that are filled
-pub same-shown : (parts parts' : List Part) (ranges : List Range) → ((base size : ℕ) → filled_in base size parts' ≡ filled_in base size parts)
+pub same-shown : (parts parts' : List Part) (ranges : List LogRange) → ((base size : ℕ) → filled_in base size parts' ≡ filled_in base size parts)
     → map (reservation_of parts') ranges ≡ map (reservation_of parts) ranges
 same-shown parts parts' [] same = refl
 same-shown parts parts' (r ∷ rs) same =
     λ i. record { base = r.base; size = r.size; filled = same r.base r.size i; released = is_released r.duty } ∷ same-shown parts parts' rs same i
 
 -- the units of one range alone change, and it is shown as the change of what it was
-module _ (parts parts' : List Part) (change : Reservation → Reservation) (r r' : Range) (leaves : LeavesOthers r.base change)
-    (others : (q : Range) → RangesApart q r → filled_in q.base q.size parts' ≡ filled_in q.base q.size parts)
+module _ (parts parts' : List Part) (change : Reservation → Reservation) (r r' : LogRange) (leaves : LeavesOthers r.base change)
+    (others : (q : LogRange) → RangesApart q r → filled_in q.base q.size parts' ≡ filled_in q.base q.size parts)
     (is : reservation_of parts' r' ≡ change (reservation_of parts r)) where
-  other-shown : (q : Range) → 1 ≤ q.size → 1 ≤ r.size → RangesApart q r → reservation_of parts' q ≡ change (reservation_of parts q)
+  other-shown : (q : LogRange) → 1 ≤ q.size → 1 ≤ r.size → RangesApart q r → reservation_of parts' q ≡ change (reservation_of parts q)
   other-shown q least positive apart =
       (λ i. record { base = q.base; size = q.size; filled = others q apart i; released = is_released q.duty })
       ∙ sym (leaves (reservation_of parts q)
       (ne_eqb q.base r.base (λ e. ⊎_elim (λ before. omega (arith, before, e, least)) (λ behind. omega (arith, behind, e, positive)) apart)))
 
-  others-shown : (most from to : ℕ) (rs : List Range) → Tiles most from rs to → r.base + r.size ≤ from → 1 ≤ r.size
+  others-shown : (most from to : ℕ) (rs : List LogRange) → Tiles most from rs to → r.base + r.size ≤ from → 1 ≤ r.size
       → map (reservation_of parts') rs ≡ map change (map (reservation_of parts) rs)
   others-shown most from to [] t below positive = refl
   others-shown most from to (q ∷ qs) t below positive =
       λ i. other-shown q t.1 positive (inr (omega (arith, below, t.0))) i
       ∷ others-shown most (from + q.size) to qs t.3 (omega (arith, below)) positive i
 
-  pub changed-range : (most from to : ℕ) (ls rs : List Range) → Tiles most from (ls ++ r ∷ rs) to
+  pub changed-range : (most from to : ℕ) (ls rs : List LogRange) → Tiles most from (ls ++ r ∷ rs) to
       → map (reservation_of parts') (ls ++ r' ∷ rs) ≡ map change (map (reservation_of parts) (ls ++ r ∷ rs))
   changed-range most from to [] rs t =
       λ i. is i ∷ others-shown most (from + r.size) to rs t.3 (omega (arith, t.0)) t.1 i

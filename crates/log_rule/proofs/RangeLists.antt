@@ -2,31 +2,31 @@
 use Rattle.std.proofs.Common.{◌≡◌, ◌⊎◌, inl, inr, ⊎_elim, ℕ, ◌+◌, ◌<◌, ◌≤◌, cond, Bool, true, false, List, [], ◌∷◌, ◌++◌, length, sym, refl, ap, ◌∙◌, subst, le_refl, arith, append_assoc}
 use Rattle.std.specs.List.{AllByRecursion}
 use Rattle.log_rule.specs.declared.view.Entry.{Entry}
-use Rattle.log_rule.specs.Log.{Part, Range, inside, unreleased_in, filled_inside, filled_in, Tiles, Laid}
+use Rattle.log_rule.specs.Log.{Part, LogRange, inside, unreleased_in, filled_inside, filled_in, Tiles, Laid}
 
-pub tiles-le : (most from to : ℕ) (ranges : List Range) → Tiles most from ranges to → from ≤ to
+pub tiles-le : (most from to : ℕ) (ranges : List LogRange) → Tiles most from ranges to → from ≤ to
 tiles-le most from to [] t = omega arith
 tiles-le most from to (r ∷ rs) t = omega (arith, tiles-le most (from + r.size) to rs t.3)
 
-pub tiles-push : (most from to end : ℕ) (ranges : List Range) (r : Range) → Tiles most from ranges to → r.base ≡ to → 1 ≤ r.size → r.size ≤ most
+pub tiles-push : (most from to end : ℕ) (ranges : List LogRange) (r : LogRange) → Tiles most from ranges to → r.base ≡ to → 1 ≤ r.size → r.size ≤ most
     → to + r.size ≡ end → Tiles most from (ranges ++ r ∷ []) end
 tiles-push most from to end [] r t base least few is = (base ∙ sym t, least, few, ap (λ z. z + r.size) t ∙ is)
 tiles-push most from to end (q ∷ qs) r t base least few is = (t.0, t.1, t.2, tiles-push most (from + q.size) to end qs r t.3 base least few is)
 
-pub tiles-mid : (most from to : ℕ) (ls rs : List Range) (r : Range) → Tiles most from (ls ++ r ∷ rs) to
+pub tiles-mid : (most from to : ℕ) (ls rs : List LogRange) (r : LogRange) → Tiles most from (ls ++ r ∷ rs) to
     → Tiles most from ls r.base × (1 ≤ r.size) × (r.size ≤ most) × Tiles most (r.base + r.size) rs to
 tiles-mid most from to [] rs r t = (sym t.0, t.1, t.2, subst (λ z. Tiles most (z + r.size) rs to) (sym t.0) t.3)
 tiles-mid most from to (l ∷ ls) rs r t = let h = tiles-mid most (from + l.size) to ls rs r t.3 in ((t.0, t.1, t.2, h.0), h.1, h.2, h.3)
 
 -- the range that starts where the tiling does is the first
-pub tiles-first : (most from to : ℕ) (ls rs : List Range) (r : Range) → Tiles most from (ls ++ r ∷ rs) to → r.base ≡ from → ls ≡ []
+pub tiles-first : (most from to : ℕ) (ls rs : List LogRange) (r : LogRange) → Tiles most from (ls ++ r ∷ rs) to → r.base ≡ from → ls ≡ []
 tiles-first most from to [] rs r t e = refl
 tiles-first most from to (l ∷ ls) rs r t e = let h =
     tiles-mid most (from + l.size) to ls rs r t.3 in absurd (omega (arith, tiles-le most (from + l.size) r.base ls h.0, t.1, e))
 
 -- each range of a tiling lies between its ends
-pub tiles-within : (P Q : Range → Type 0) (most from to : ℕ) (ranges : List Range) → Tiles most from ranges to → AllByRecursion P ranges
-    → ((q : Range) → P q → 1 ≤ q.size → from ≤ q.base → q.base + q.size ≤ to → Q q) → AllByRecursion Q ranges
+pub tiles-within : (P Q : LogRange → Type 0) (most from to : ℕ) (ranges : List LogRange) → Tiles most from ranges to → AllByRecursion P ranges
+    → ((q : LogRange) → P q → 1 ≤ q.size → from ≤ q.base → q.base + q.size ≤ to → Q q) → AllByRecursion Q ranges
 tiles-within P Q most from to [] t all f = tt
 tiles-within P Q most from to (r ∷ rs) t all f = (
   f r all.0 t.1 (omega (arith, t.0)) (omega (arith, t.0, tiles-le most (from + r.size) to rs t.3)),
@@ -34,20 +34,20 @@ tiles-within P Q most from to (r ∷ rs) t all f = (
 )
 
 -- a range is exchanged for another of its base and size
-pub tiles-same : (most from to : ℕ) (ls rs : List Range) (r r' : Range) → r'.base ≡ r.base → r'.size ≡ r.size → Tiles most from (ls ++ r ∷ rs) to
+pub tiles-same : (most from to : ℕ) (ls rs : List LogRange) (r r' : LogRange) → r'.base ≡ r.base → r'.size ≡ r.size → Tiles most from (ls ++ r ∷ rs) to
     → Tiles most from (ls ++ r' ∷ rs) to
 tiles-same most from to [] rs r r' base size t =
     (base ∙ t.0, subst (λ z. 1 ≤ z) (sym size) t.1, subst (λ z. z ≤ most) (sym size) t.2, subst (λ z. Tiles most (from + z) rs to) (sym size) t.3)
 tiles-same most from to (q ∷ ls) rs r r' base size t = (t.0, t.1, t.2, tiles-same most (from + q.size) to ls rs r r' base size t.3)
 
 -- the two ranges have no unit in common
-abbrev pub RangesApart : Range → Range → Type 0
+abbrev pub RangesApart : LogRange → LogRange → Type 0
 RangesApart q r = (q.base + q.size ≤ r.base) ⊎ (r.base + r.size ≤ q.base)
 
 -- what holds of the one that changes, and of the others
-pub tiles-replaced : (P Q : Range → Type 0) (most from to : ℕ) (ls rs : List Range) (r r' : Range) → Tiles most from (ls ++ r ∷ rs) to
+pub tiles-replaced : (P Q : LogRange → Type 0) (most from to : ℕ) (ls rs : List LogRange) (r r' : LogRange) → Tiles most from (ls ++ r ∷ rs) to
     → AllByRecursion P (ls ++ r ∷ rs) → Q r'
-    → ((q : Range) → P q → 1 ≤ q.size → from ≤ q.base → q.base + q.size ≤ to → RangesApart q r → Q q)
+    → ((q : LogRange) → P q → 1 ≤ q.size → from ≤ q.base → q.base + q.size ≤ to → RangesApart q r → Q q)
     → AllByRecursion Q (ls ++ r' ∷ rs)
 tiles-replaced P Q most from to [] rs r r' t all now others = (
   now,
@@ -63,10 +63,10 @@ tiles-replaced P Q most from to (l ∷ ls) rs r r' t all now others =
     )
 
 -- three lists, of which the last is in two
-pub last-in_two : (fs es ls rs : List Range) → fs ++ (es ++ (ls ++ rs)) ≡ (fs ++ (es ++ ls)) ++ rs
+pub last-in_two : (fs es ls rs : List LogRange) → fs ++ (es ++ (ls ++ rs)) ≡ (fs ++ (es ++ ls)) ++ rs
 last-in_two fs es ls rs = ap (λ l. fs ++ l) (sym (append_assoc es ls rs)) ∙ sym (append_assoc fs (es ++ ls) rs)
 
-pub tiles-append : (most from mid to : ℕ) (xs ys : List Range) → Tiles most from xs mid → Tiles most mid ys to → Tiles most from (xs ++ ys) to
+pub tiles-append : (most from mid to : ℕ) (xs ys : List LogRange) → Tiles most from xs mid → Tiles most mid ys to → Tiles most from (xs ++ ys) to
 tiles-append most from mid to [] ys t u = subst (λ z. Tiles most z ys to) (sym t) u
 tiles-append most from mid to (x ∷ xs) ys t u = (t.0, t.1, t.2, tiles-append most (from + x.size) mid to xs ys t.3 u)
 

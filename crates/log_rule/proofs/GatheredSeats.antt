@@ -4,12 +4,12 @@ use Rattle.std.specs.List.{AllByRecursion}
 use mathlib.Core.Option.{some}
 use lib.ListN.{get_elem?}
 use Rattle.atomic_table.proofs.Lists.{set_else}
-use Rattle.slot_word.specs.AccountWord.{held_in, balance_in, mark_in}
+use Rattle.slot_word.specs.AccountWord.{held_in, balance_in, last_commit_in}
 use Rattle.log_record.specs.declared.limits.TheConstants.{MOST_ACCOUNTS}
 use Rattle.log_record.specs.declared.rec.Placed.{Placed}
 use Rattle.log_record.specs.Spelling.{IsBalance}
 use Rattle.lock_core.specs.Sums.{BaseState}
-use Rattle.lock_core.specs.Serial.{Task, IsRunWhole, IsCutShort, IsPartlySerialAfter}
+use Rattle.lock_core.specs.Serial.{NumberedTransfer, IsRunWhole, IsCutShort, IsPartlySerialAfter}
 use Rattle.log_rule.specs.declared.view.TakenJob.{TakenJob}
 use Rattle.log_rule.specs.declared.view.Books.{Books}
 use Rattle.log_rule.specs.Books.{no_books, task_of, times_held, times_taken, merging}
@@ -97,7 +97,7 @@ module _ (base : BaseState) (words : ℕ → ℕ) (h : List Placed) (all : List 
 -- at first nothing is held or taken, and the words are those of the base state
 pub starts-free : (base : BaseState) (words : ℕ → ℕ) → base.accounts ≤ MOST_ACCOUNTS
     → ((account : ℕ) → account < base.accounts → (held_in (words account) ≡ false) × (balance_in (words account) ≡ base.balance account)
-    × (mark_in (words account) ≡ base.last_commit account) × IsBalance (base.balance account))
+    × (last_commit_in (words account) ≡ base.last_commit account) × IsBalance (base.balance account))
     → KeepsAccounts base words [] (no_books ∷ [])
 starts-free base words few first = record {
   holder = record {
@@ -130,10 +130,10 @@ all-jobs_run base words h all jobs runs whole s = record {
 }
   where
     along : (jobs : List TakenJob) → AllByRecursion (λ (taken : TakenJob). IsRunWhole base h (task_of taken) ⊎ IsCutShort h (task_of taken)) jobs
-        → AllByRecursion (λ (task : Task). IsRunWhole base h task ⊎ IsCutShort h task) (map task_of jobs)
+        → AllByRecursion (λ (task : NumberedTransfer). IsRunWhole base h task ⊎ IsCutShort h task) (map task_of jobs)
     along [] runs = tt
     along (job ∷ jobs) runs = (runs.0, along jobs runs.1)
 
-    untaken : (txn : ℕ) (jobs : List TakenJob) → AllByRecursion (λ (task : Task). task.number ≢ txn) (map task_of jobs) → times_taken txn jobs ≡ 0
+    untaken : (txn : ℕ) (jobs : List TakenJob) → AllByRecursion (λ (task : NumberedTransfer). task.number ≢ txn) (map task_of jobs) → times_taken txn jobs ≡ 0
     untaken txn [] none = refl
     untaken txn (job ∷ jobs) none = let zero' = none-if job.number txn none.0 in let more = untaken txn jobs none.1 in omega arith

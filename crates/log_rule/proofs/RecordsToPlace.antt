@@ -6,7 +6,7 @@ use Rattle.log_record.specs.declared.rec.Placed.{Placed}
 use Rattle.lock_core.specs.Alone.{planned_from, with_note}
 use Rattle.lock_core.specs.Transactions.{recs_of, in_order}
 use Rattle.log_rule.specs.declared.view.Books.{Books}
-use Rattle.log_rule.specs.Books.{balance_taken, mark_taken, next_of, IsNext, IsNote, HoldsAccounts, MayEnter}
+use Rattle.log_rule.specs.Books.{balance_taken, last_commit_taken, next_of, IsNext, IsNote, HoldsAccounts, MayEnter}
 use Rattle.lock_core.specs.Transfers.{note_of}
 
 get_or-in_order : (placed : List Placed) (records : List Rec) (other : Rec) → get_or (in_order (recs_of placed) records) (length placed) other ≡ get_or records 0 other
@@ -30,7 +30,7 @@ may-enter rec books some_job next accounts = subst (λ r. MayEnter r books) (sym
 pub note-next : (books : Books) (text : List ℕ) → books.placed ≡ [] → books.last.job.note ≡ Some text → 1 ≤ length text → IsNext (Note books.last.number text) books
 note-next books [] none noted has = absurd (omega arith)
 note-next books (byte ∷ bytes) none noted has = record {
-  rest = planned_from books.last.number (mark_taken books.held) (balance_taken books.held) 0 books.last.job.legs;
-  plan = ap (λ placed. in_order (recs_of placed) (Note books.last.number (byte ∷ bytes) ∷ planned_from books.last.number (mark_taken books.held) (balance_taken books.held) 0 books.last.job.legs)) none
-      ∙ sym (ap (λ (o : Option (List ℕ)). with_note books.last.number (note_of o) (planned_from books.last.number (mark_taken books.held) (balance_taken books.held) 0 books.last.job.legs)) noted);
+  rest = planned_from books.last.number (last_commit_taken books.held) (balance_taken books.held) 0 books.last.job.legs;
+  plan = ap (λ placed. in_order (recs_of placed) (Note books.last.number (byte ∷ bytes) ∷ planned_from books.last.number (last_commit_taken books.held) (balance_taken books.held) 0 books.last.job.legs)) none
+      ∙ sym (ap (λ (o : Option (List ℕ)). with_note books.last.number (note_of o) (planned_from books.last.number (last_commit_taken books.held) (balance_taken books.held) 0 books.last.job.legs)) noted);
 }

@@ -23,11 +23,11 @@ use Rattle.log_rule.specs.Slots.{own_pieces, pieces_at, led_phase, phase_led, ph
 use Rattle.log_rule.specs.Sound.{EachSeat, HasSeenBoundaries, SendsIfFlusher, StoresStop, HasReadStop, LookedIfQuiet, HasWorkingOwner, HasConstants, RestsUnlessActive, OwnsIfWorker, HoldsIfActive, base_of, history_in, books_of, IsSound}
 use Rattle.log_rule.specs.Views.{entries_in, books_in, claims_in}
 use Rattle.log_rule.specs.Words.{Words}
-use Rattle.log_rule.proofs.Carrying.{carrier-set, ends-move}
+use Rattle.log_rule.proofs.Carriers.{carrier-set, ends-move}
 use Rattle.log_rule.proofs.Groups.{Others, HasAsBefore, as-before, group-here, group-at, group-other, put-keeps, members-some, work-stays, told-same}
 use Rattle.log_rule.proofs.Members.{KeepsMembers, loads-put}
 use Rattle.log_rule.proofs.Roles.{crew-same, quiet-moves}
-use Rattle.log_rule.proofs.Viewing.{each_moves, each_set, seats_move, seat_at, pairs_move}
+use Rattle.log_rule.proofs.ViewChanges.{each_moves, each_set, seats_move, seat_at, pairs_move}
 
 -- what the seat makes of its view
 pub record Mine (groups : ℕ → Group) (seat slot : ℕ) (g : Group) (old new : Call) : Type 0 where

@@ -8,9 +8,9 @@ use Rattle.atomic_table.proofs.Lists.{set_here, set_else, at_longer}
 use Rattle.log_rule.specs.declared.view.Call.{Call}
 use Rattle.log_rule.specs.declared.view.Call.TheVariants.{Idle, Filling, Joined, Emptying, Marked, Holding, Raising, Reopening}
 use Rattle.log_rule.specs.declared.view.View.{View}
-use Rattle.log_rule.specs.Log.{Range, Log, ranges_of, IsRangeBoundary, IsReleased}
+use Rattle.log_rule.specs.Log.{LogRange, Log, ranges_of, IsRangeBoundary, IsReleased}
 use Rattle.log_rule.specs.Marks.{IsFirstReleased, FirstEnds, Carries, HasCarrier, HasTrueEnds}
-use Rattle.log_rule.proofs.Viewing.{at_below}
+use Rattle.log_rule.proofs.ViewChanges.{at_below}
 
 module _ (place : ℕ) where
   -- a seat's call changes, and carries no less
@@ -36,16 +36,16 @@ module _ (place : ℕ) where
       record { seat = c.seat; view = c.view; there = at_longer views (new ∷ []) c.seat c.view c.there; carries = c.carries }
 
 -- a range that is not released, behind others, is not the first released
-pub first-push : (ranges : List Range) (r : Range) → (IsReleased r → ⊥) → IsFirstReleased (ranges ++ r ∷ []) → IsFirstReleased ranges
+pub first-push : (ranges : List LogRange) (r : LogRange) → (IsReleased r → ⊥) → IsFirstReleased (ranges ++ r ∷ []) → IsFirstReleased ranges
 first-push [] r unreleased first = absurd (unreleased first)
 first-push (q ∷ qs) r unreleased first = first
 
-pub ends-push : (ranges more : List Range) (to : ℕ) → FirstEnds ranges to → FirstEnds (ranges ++ more) to
+pub ends-push : (ranges more : List LogRange) (to : ℕ) → FirstEnds ranges to → FirstEnds (ranges ++ more) to
 ends-push [] more to ends = absurd ends
 ends-push (q ∷ qs) more to ends = ends
 
 -- a range that is not released is exchanged for another
-pub ends-mid : (ls rs : List Range) (r r' : Range) (to : ℕ) → (IsReleased r → ⊥) → FirstEnds (ls ++ r ∷ rs) to → FirstEnds (ls ++ r' ∷ rs) to
+pub ends-mid : (ls rs : List LogRange) (r r' : LogRange) (to : ℕ) → (IsReleased r → ⊥) → FirstEnds (ls ++ r ∷ rs) to → FirstEnds (ls ++ r' ∷ rs) to
 ends-mid [] rs r r' to unreleased ends = absurd (unreleased ends.0)
 ends-mid (l ∷ ls) rs r r' to unreleased ends = ends
 

@@ -8,7 +8,7 @@ use lib.ListN.{get_elem?}
 use prog.Atomic.{either}
 use Rattle.atomic_table.proofs.Lists.{at_map}
 use Rattle.slot_word.specs.declared.account_word.AccountWord.{AccountWord}
-use Rattle.slot_word.specs.AccountWord.{word_of, held_in, balance_in, mark_in}
+use Rattle.slot_word.specs.AccountWord.{word_of, held_in, balance_in, last_commit_in}
 use Rattle.slot_word.proofs.AccountWordLemmas.{held_back, balance_back, mark_back}
 use Rattle.log_record.specs.declared.rec.Rec.{Rec}
 use Rattle.log_record.specs.declared.rec.Rec.TheVariants as rec
@@ -37,13 +37,13 @@ use Rattle.log_rule.specs.Views.{counted}
 use Rattle.log_rule.specs.Words.{Words, put}
 use Rattle.log_rule.proofs.Bookings.{found}
 use Rattle.log_rule.proofs.Lifting.{Tells}
-use Rattle.log_rule.proofs.Looking.{sees-word}
+use Rattle.log_rule.proofs.Loads.{sees-word}
 use Rattle.log_rule.proofs.Members.{KeepsSeen, steps-on, loads-stay, keeps-view}
 use Rattle.log_rule.proofs.Roles.{crew-same, quiet-moves, restands}
-use Rattle.log_rule.proofs.Viewing.{each_set}
+use Rattle.log_rule.proofs.ViewChanges.{each_set}
 use Rattle.log_rule.proofs.Taking.{takes-job, takes-account}
 use Rattle.log_rule.proofs.Giving.{gives}
-use Rattle.log_rule.proofs.Keeping.{books-at, books-set, history-end}
+use Rattle.log_rule.proofs.AccountsKept.{books-at, books-set, history-end}
 use Rattle.log_rule.proofs.MemberBooks.{held-books_in}
 
 -- the seat's books change, and the accounts' words with them
@@ -128,7 +128,7 @@ module _ (key : Start) (me : ℕ) (v : View) where
       let is = sym own.is in (
         ap (λ a. held_in (words.account a)) is ∙ own.known.taken,
         ap (λ a. balance_in (words.account a)) is ∙ (own.known.balance ∙ sym own.balance),
-        ap (λ a. mark_in (words.account a)) is ∙ (own.known.mark ∙ sym own.mark),
+        ap (λ a. last_commit_in (words.account a)) is ∙ (own.known.mark ∙ sym own.mark),
       )
 
   pub account-takes : (accounts account : ℕ) → length key.accounts.rows ≡ accounts → account < accounts → (from to : AccountWord) → FitsWord from → FitsWord to → MayTake account from to v
@@ -143,7 +143,7 @@ module _ (key : Start) (me : ℕ) (v : View) where
         ((λ off. absurd (true≢false (sym (ap is_active may.rests.active) ∙ off))), (λ off. absurd (true≢false (sym (ap may_own may.rests.active) ∙ off))))
         (takes-account (base_of key) words.account (history_in key log.parts) (map (books_of log.groups) views) me v.books
         (books-at log.groups views me v may.rests.idle at)
-        (held_as account (word_of from)) (word_of to) (subst (λ c. account < c) (sym same) below) free (ap balance_in is) (ap mark_in is)
+        (held_as account (word_of from)) (word_of to) (subst (λ c. account < c) (sym same) below) free (ap balance_in is) (ap last_commit_in is)
         (held_back to.held to.balance to.mark to-fits.0 to-fits.1 ∙ may.taken)
         (balance_back to.held to.balance to.mark to-fits.0 to-fits.1 ∙ (may.balance ∙ sym (balance_back from.held from.balance from.mark from-fits.0 from-fits.1)))
         (mark_back to.held to.balance to.mark to-fits.0 to-fits.1 ∙ (may.mark ∙ sym (mark_back from.held from.balance from.mark from-fits.0 from-fits.1)))
