@@ -1,6 +1,6 @@
 -- What calls do to a disk, one call after another.
 use Rattle.std.proofs.Common.{◌≡◌, ◌≤◌, ◌∙◌, ℕ, ◌+◌, Result, subst, arith}
-use Rattle.log_disk.specs.Calls.{OnlyLooks, Uses}
+use Rattle.log_disk.specs.Calls.{Uses}
 use Rattle.log_disk.specs.Faults.{HasCause}
 use Rattle.log_disk.specs.declared.disk.LogDisk.{Ghosts}
 use Rattle.log_disk.proofs.Counting.{Costs-then}
@@ -10,16 +10,6 @@ pub HasCause-then : {T E : Type 0} (before mid now : ℕ) (result : Result T E) 
 HasCause-then before mid now result same cause = subst (λ n. HasCause n now result) same cause
 
 module _ {D T E : Type 0} (g : Ghosts D) (result : Result T E) where
-  -- a call that only looks uses the disk so much
-  pub Uses-looks : (most_calls : ℕ) (old new : D) → OnlyLooks g most_calls old new result → Uses g 0 most_calls old new result
-  Uses-looks most_calls old new looks = record {
-    count = λ honest. record { successes = omega (arith, looks.keeps.count honest); calls = looks.calls honest };
-    later = looks.time.later;
-    honest = looks.honest;
-    attached = looks.attached;
-    cause = looks.cause;
-  }
-
   -- after calls that succeeded
   pub Uses-then : {S F : Type 0} (done : Result S F) (first second first_calls second_calls : ℕ) (old mid new : D) → g.faults mid ≡ g.faults old
       → Uses g first first_calls old mid done → Uses g second second_calls mid new result

@@ -1,7 +1,7 @@
 -- What calls do to a disk besides what each is for. `g` is what a disk shows; `old` and `new` are the disk before and after.
-use Rattle.std.specs.Prelude.{◌≡◌, ◌≤◌, ◌+◌, ◌↔◌, ℕ, List, Result, OnOk}
+use Rattle.std.specs.Prelude.{◌≡◌, ◌≤◌, ◌↔◌, ℕ, List, Result, OnOk}
 use Rattle.log_disk.specs.Costs.{Costs}
-use Rattle.log_disk.specs.Disk.{Elapses, IsOnlyImage, Keeps, Leaves}
+use Rattle.log_disk.specs.Disk.{IsOnlyImage, Leaves}
 use Rattle.log_disk.specs.Faults.{HasCause}
 use Rattle.log_disk.specs.declared.disk.LogDisk.{Ghosts}
 
@@ -9,15 +9,6 @@ use Rattle.log_disk.specs.declared.disk.LogDisk.{Ghosts}
 pub record Uses {D T E : Type 0} (g : Ghosts D) (most most_calls : ℕ) (old new : D) (result : Result T E) : Type 0 where
   pub count : g.honest old → Costs g most most_calls old new
   pub later : g.moment old ≤ g.moment new
-  pub honest : g.honest old ↔ g.honest new
-  pub attached : g.attached new ≡ g.attached old
-  pub cause : HasCause (g.faults old) (g.faults new) result
-
--- at most so many calls that only read
-pub record OnlyLooks {D T E : Type 0} (g : Ghosts D) (most_calls : ℕ) (old new : D) (result : Result T E) : Type 0 where
-  pub keeps : Keeps g.honest g.reads g.images g.written_count old new
-  pub time : Elapses g.moment g.images g.images_since old new
-  pub calls : g.honest old → g.calls new ≤ g.calls old + most_calls
   pub honest : g.honest old ↔ g.honest new
   pub attached : g.attached new ≡ g.attached old
   pub cause : HasCause (g.faults old) (g.faults new) result
