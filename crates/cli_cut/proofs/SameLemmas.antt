@@ -4,7 +4,7 @@ use Rattle.std.specs.List.{slice_get}
 use Rattle.log_record.specs.declared.rec.Placed.{Placed}
 use Rattle.lsn_space.specs.Opening.{Opening}
 use Rattle.lock_core.specs.Lawful.{base_with, opening_after}
-use Rattle.lock_core.specs.Settling.{row, opening_of}
+use Rattle.lock_core.specs.AccountRows.{row, opening_of}
 use Rattle.lock_core.specs.Sums.{BaseState, ShowsAccounts, balance_of}
 use Rattle.segment_file.specs.Log.{cut_log, HoldsLog}
 use Rattle.log_recovery.specs.Opened.{OpenedList, list_end, placed}

@@ -10,7 +10,7 @@ use Rattle.lock_core.specs.Sums.{BaseState, Opening, ShowsAccounts, balance_of, 
 use Rattle.lock_core.specs.Tests.{IsGenesis, HasNoGenesis, AreAbove}
 use Rattle.lock_core.specs.Transactions.{ShareNoTransaction}
 use Rattle.lock_core.proofs.Appending.{state_after}
-use Rattle.lock_core.proofs.GoingOn.{accounts-go_on, balance-goes_on, mark-goes_on, txn-goes_on}
+use Rattle.lock_core.proofs.GoingOn.{accounts-go_on, balance-goes_on, last_commit-goes_on, txn-goes_on}
 use Rattle.lock_core.proofs.ListLemmas.{all-split}
 use Rattle.lock_core.proofs.Splitting.{above-all_spelled, apart-genesis, greatest-genesis, lawful-split}
 use Rattle.segment_file.specs.Log.{HoldsLog}
@@ -106,7 +106,7 @@ module _ (list made : OpenedList) (spellable : AllByRecursion IsSpellable list.r
 
   same-mark : (account : ℕ) → last_commit_of (base_in list) (placed list) account ≡ last_commit_of (base_in made) (placed made) account
   same-mark account = ap (λ h. last_commit_of (base_with (opening_before list) h) h account) placed-split
-      ∙ mark-goes_on (opening_before list) later (placed front) first-lawful some_before account behind
+      ∙ last_commit-goes_on (opening_before list) later (placed front) first-lawful some_before account behind
       ∙ sym (λ i. last_commit_of (base_with (same-opening i) (placed-made i)) (placed-made i) account)
 
   same-count : (base_in list).accounts ≡ (base_in made).accounts

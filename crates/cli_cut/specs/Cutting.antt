@@ -4,7 +4,7 @@ use Rattle.log_disk.specs.Lengths.{GrowsAtMostTo}
 use Rattle.log_disk.specs.declared.disk.LogDisk.{Ghosts}
 use Rattle.lsn_space.specs.Opening.{Opening}
 use Rattle.lock_core.specs.Lawful.{base_with, opening_after}
-use Rattle.lock_core.specs.Settling.{opening_of}
+use Rattle.lock_core.specs.AccountRows.{opening_of}
 use Rattle.lock_core.specs.Sums.{ShowsAccounts}
 use Rattle.log_recovery.specs.Opened.{OpenedList, list_end, placed}
 use Rattle.log_recovery.specs.Recovery.{HoldsLawful}

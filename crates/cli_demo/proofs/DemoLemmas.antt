@@ -18,7 +18,7 @@ use Rattle.log_record.specs.LogList.{units_of, end_of}
 use Rattle.log_record.specs.Spelling.{IsBalance}
 use Rattle.lock_core.specs.History.{history_from}
 use Rattle.lock_core.specs.Serial.{numbered, IsPartlySerialAfter, IsSerialAfter}
-use Rattle.lock_core.specs.Settling.{row, KeepsRows}
+use Rattle.lock_core.specs.AccountRows.{row, KeepsRows}
 use Rattle.lock_core.specs.Sums.{BaseState, greatest_txn}
 use Rattle.lock_core.proofs.JudgingLemmas.{shows-kept}
 use Rattle.log_recovery.specs.Recovery.{HoldsLawful}
@@ -111,7 +111,7 @@ accounts-generated key same = record {
   some_accounts = omega (arith, few-generated key.accounts.rows same);
   few = omega (arith, few-generated key.accounts.rows same);
   balances = (kept-opening key.accounts.rows same).range;
-  marks = λ account inside. let none = ap (λ rs. (row rs account).1) same ∙ marks-none 64 1000000 account in omega arith;
+  last_commits = λ account inside. let none = ap (λ rs. (row rs account).1) same ∙ last_commits-none 64 1000000 account in omega arith;
 }
 
 -- what holds its units holds it

@@ -9,7 +9,7 @@ use Rattle.lock_core.specs.History.{history_from}
 use Rattle.lock_core.specs.Sums.{BaseState, sum_below}
 use Rattle.lock_core.specs.Alone.{Done, outcome_records}
 use Rattle.lock_core.specs.Serial.{numbered, IsSerialAfter}
-use Rattle.lock_core.specs.Settling.{row, KeepsRows}
+use Rattle.lock_core.specs.AccountRows.{row, KeepsRows}
 use Rattle.lock_core.specs.AnyOrder.{done_records, weight_of}
 use Rattle.lock_core.proofs.Conserving.{sum_below-same}
 use Rattle.lock_core.proofs.Doing.{records-done}

@@ -13,7 +13,7 @@ use Rattle.log_record.specs.Spelling.{spelling, IsSpellable, IsBalance, IsPrinta
 use Rattle.lock_core.specs.History.{end_from, entry_at, history_from, history}
 use Rattle.lock_core.specs.Lawful.{IsLawful, base_with}
 use Rattle.lock_core.specs.Records.{gain, loss}
-use Rattle.lock_core.specs.Settling.{row}
+use Rattle.lock_core.specs.AccountRows.{row}
 use Rattle.lock_core.specs.Sums.{no_opening, ShowsAccounts, balance_of, last_commit_of, greatest_txn, total}
 use Rattle.lock_core.specs.Transactions.{own_records_of, has_end}
 use Rattle.lock_core.specs.Witness.{genesis_log}
@@ -34,7 +34,7 @@ use Rattle.log_rule.specs.declared.start.Start.{Start}
 use Rattle.log_rule.specs.declared.view.Given.{Given}
 use Rattle.log_rule.specs.declared.view.View.{View}
 use Rattle.log_rule.specs.Accounts.{IsOfFront}
-use Rattle.log_rule.specs.Closing.{IsGathered, IsSettled}
+use Rattle.log_rule.specs.Closing.{IsGathered, HasLedger}
 use Rattle.log_rule.specs.Sound.{base_of}
 use Rattle.log_rule.specs.Views.{flusher}
 use Rattle.log_table.specs.declared.table.Seat.{Seat}
@@ -77,7 +77,7 @@ record Stays (h : List Placed) : Type 0 where
   count : (base_with no_opening h).accounts ≡ 2
   balance : (account : ℕ) → (base_with no_opening h).balance account ≡ (base_with no_opening (history genesis_log)).balance account
   totals : (account : ℕ) → (total gain account h ≡ 0) × (total loss account h ≡ 0)
-  marks : (account : ℕ) → last_commit_of (base_with no_opening h) h account ≡ 0
+  last_commits : (account : ℕ) → last_commit_of (base_with no_opening h) h account ≡ 0
 
 stays-note : (end : ℕ) (h : List Placed) → Stays h → Stays (record { end = end; rec = note } ∷ h)
 stays-note end h before = record {
@@ -91,7 +91,7 @@ stays-note end h before = record {
     total-empty gain account (record { end = end; rec = note }) h refl refl ∙ (before.totals account).0,
     total-empty loss account (record { end = end; rec = note }) h refl refl ∙ (before.totals account).1,
   );
-  marks = before.marks;
+  last_commits = before.last_commits;
 }
 
 stays-notes : (n : ℕ) (h : List Placed) → Stays h → Stays (history_from 0 h (notes n))
@@ -107,7 +107,7 @@ stays-genesis = record {
   count = refl;
   balance = λ account. refl;
   totals = λ account. (refl, refl);
-  marks = λ account. refl;
+  last_commits = λ account. refl;
 }
 
 notes-spellable : (n : ℕ) → AllByRecursion IsSpellable (notes n)
@@ -128,10 +128,10 @@ rows-shown h stays = record { count = sym stays.count; each = each }
         ≡ Some (balance_of (base_with no_opening h) h account, last_commit_of (base_with no_opening h) h account)
     each zero inside =
         let is : 100 ≡ balance_of (base_with no_opening h) h 0 = omega (arith, stays.balance 0, (stays.totals 0).0, (stays.totals 0).1) in
-        λ i. Some (is i, sym (stays.marks 0) i)
+        λ i. Some (is i, sym (stays.last_commits 0) i)
     each (suc zero) inside =
         let is : 0 ≡ balance_of (base_with no_opening h) h 1 = omega (arith, stays.balance 1, (stays.totals 1).0, (stays.totals 1).1) in
-        λ i. Some (is i, sym (stays.marks 1) i)
+        λ i. Some (is i, sym (stays.last_commits 1) i)
     each (suc (suc n)) inside = absurd (omega (arith, stays.count))
 
 -- ---- its file
@@ -254,8 +254,8 @@ module _ (n slots : ℕ) (full : 4 + 2 * n ≤ LAST) (near : LAST < 4 + 2 * n + 
     spelled = tt;
   }
 
-  settled : IsSettled (base_of key) view key.accounts.rows
-  settled = record {
+  accounts : HasLedger (base_of key) view key.accounts.rows
+  accounts = record {
     count = refl;
     ledger = λ once. record {
       lawful = tt;
@@ -300,7 +300,7 @@ module _ (n slots : ℕ) (full : 4 + 2 * n ≤ LAST) (near : LAST < 4 + 2 * n + 
       → EndsLogAt jobs 2 place (4 + 2 * n) 2 view
   ends-at place is gave = record {
     balances = balance_at;
-    marks = λ account. 0;
+    last_commits = λ account. 0;
     gave = subst (λ (job : Job). AllByRecursion (AreGivenUncommitted (number_at jobs place) (4 + 2 * n) balance_at view.books.given) job.legs)
         (sym is) (gave, tt);
     next = Update (number_at jobs place) 0 (negsuc 29) 0;
@@ -414,7 +414,7 @@ module _ (n slots : ℕ) (full : 4 + 2 * n ≤ LAST) (near : LAST < 4 + 2 * n + 
         drained = λ fine. record { quiet = refl; looked = refl; all = omega arith };
         workers = workers;
         gathered = gathered;
-        settled = settled;
+        accounts = accounts;
         heard = tt;
       };
       slots_are = refl;

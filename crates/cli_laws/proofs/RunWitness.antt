@@ -13,7 +13,7 @@ use Rattle.lock_core.specs.Records.{txn_of}
 use Rattle.log_recovery.specs.Opened.{OpenedList, whole_list, log_of, placed, opening_before, base_in, base_left}
 use Rattle.lock_core.specs.Lawful.{IsLawful}
 use Rattle.lock_core.specs.Serial.{numbered}
-use Rattle.lock_core.specs.Settling.{row, KeepsRows}
+use Rattle.lock_core.specs.AccountRows.{row, KeepsRows}
 use Rattle.lock_core.specs.Sums.{no_opening, BaseState, BeginsInRange, ShowsAccounts, IsBalanceOf, balance_of, last_commit_of}
 use Rattle.lock_core.specs.Witness.{genesis_log, transfer, transfer_records, transfer_history}
 use Rattle.lock_core.proofs.KindLemmas.{passes-genesis}
@@ -32,7 +32,7 @@ use Rattle.log_table.specs.declared.table.Seat.{Seat}
 use Rattle.log_rule.specs.declared.start.Start.{Start}
 use Rattle.log_rule.specs.declared.view.Entry.{Entry}
 use Rattle.log_rule.specs.declared.view.View.{View}
-use Rattle.log_rule.specs.Closing.{IsGathered, IsSettled, IsLedger}
+use Rattle.log_rule.specs.Closing.{IsGathered, HasLedger, IsLedger}
 use Rattle.log_table.specs.Seats.{IsOf}
 use Rattle.log_rule.specs.Sound.{base_of}
 use Rattle.log_rule.specs.Views.{flusher}
@@ -274,8 +274,8 @@ module _ (d : Daemon ℕ (List ℕ) (plain_disk file_at) plain_sink) (of : IsOf 
   base-is : base_of key ≡ base_left first_list
   base-is = base-opened first_list key genesis-lawful refl genesis-shown
 
-  settled : IsSettled (base_of key) view rows
-  settled = record {
+  accounts : HasLedger (base_of key) view rows
+  accounts = record {
     count = refl;
     ledger = λ once. subst (λ (base : BaseState). IsLedger base transfer_history (numbered 1 (transfer ∷ [])) rows) (sym base-is) (record {
       lawful = transfer-lawful;
@@ -517,7 +517,7 @@ module _ (d : Daemon ℕ (List ℕ) (plain_disk file_at) plain_sink) (of : IsOf 
       drained = λ fine. record { quiet = refl; looked = refl; all = refl };
       workers = workers;
       gathered = gathered;
-      settled = settled;
+      accounts = accounts;
       heard = tt;
     };
     table = refl;

@@ -20,7 +20,7 @@ ghost use Rattle.txn_jobs.specs.declared.cause.Worked.{Worked};
 ghost use Rattle.commit_pipeline.specs.EndLines.{done_in, done_line, refused_in};
 ghost use Rattle.lock_core.specs.History.{history_from};
 ghost use Rattle.lock_core.specs.Serial.{numbered, IsSerialAfter};
-ghost use Rattle.lock_core.specs.Settling.{KeepsRows};
+ghost use Rattle.lock_core.specs.AccountRows.{KeepsRows};
 ghost use Rattle.lock_core.specs.Sums.{BaseState};
 ghost use Rattle.lock_core.specs.Transactions.{own_records_of};
 ghost use Rattle.log_record.specs.LogList.{end_of};

@@ -2,7 +2,7 @@
 use Rattle.std.proofs.Common.{◌≡◌, ◌<◌, ap, sym, ◌∙◌, subst, ℕ, List, length, arith}
 use Rattle.std.proofs.lemmas.Option.{get_or_from_slice_get}
 use Rattle.log_record.specs.Spelling.{IsBalance}
-use Rattle.lock_core.specs.Settling.{row}
+use Rattle.lock_core.specs.AccountRows.{row}
 use Rattle.lock_core.specs.Sums.{balance_of, last_commit_of}
 use Rattle.log_recovery.specs.declared.recovery.Recovered.{Recovered}
 use Rattle.log_recovery.specs.Opened.{placed, base_in}
@@ -34,7 +34,7 @@ module _ (bytes : List ℕ) (opened : Recovered) (recovers : Recovers opened byt
     few = omega (arith, count-same, few-held bytes recovers.list recovers.held);
     balances = λ account inside. let below : account < (base_in recovers.list).accounts = omega (arith, count-same, inside) in
         subst (λ r. IsBalance r.0) (sym (row-shown account below)) (balance-held bytes recovers.list recovers.held account below);
-    marks = λ account inside. let below : account < (base_in recovers.list).accounts = omega (arith, count-same, inside) in
+    last_commits = λ account inside. let below : account < (base_in recovers.list).accounts = omega (arith, count-same, inside) in
         let last = ap (λ r. r.1) (row-shown account below) in
         omega (arith, last, start, recovers.lsn, last-held bytes recovers.list recovers.held account);
   }

@@ -15,7 +15,7 @@ use Rattle.lock_core.specs.Lawful.{IsLawful, base_with}
 use Rattle.log_recovery.specs.Recovery.{HoldsLawful}
 use Rattle.segment_file.specs.File.{HoldsUnits}
 use Rattle.segment_file.proofs.FirstFormat.{units-log}
-use Rattle.lock_core.specs.Settling.{KeepsRows}
+use Rattle.lock_core.specs.AccountRows.{KeepsRows}
 use Rattle.lock_core.specs.Tests.{IsGenesis}
 use Rattle.log_recovery.specs.Text.{rows_text, accounts_text}
 use Rattle.lock_core.proofs.JudgingLemmas.{shows-kept}

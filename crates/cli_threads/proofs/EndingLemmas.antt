@@ -12,7 +12,7 @@ use Rattle.log_disk.specs.Streams.{AppendsPrefix, AppendsPart}
 use Rattle.log_record.specs.declared.rec.Rec.{Rec}
 use Rattle.log_recovery.specs.Opened.{OpenedList, list_end, base_left}
 use Rattle.lock_core.specs.Serial.{IsPartlySerialAfter, IsSerialAfter}
-use Rattle.lock_core.specs.Settling.{KeepsRows}
+use Rattle.lock_core.specs.AccountRows.{KeepsRows}
 use Rattle.segment_file.specs.declared.scan_result.Tail.{Tail}
 use Rattle.log_rule.specs.Closing.{records_of}
 use Rattle.log_table.specs.Seats.{key_of}

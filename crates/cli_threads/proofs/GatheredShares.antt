@@ -123,7 +123,7 @@ module _ (queue : Queue) (crew : ℕ) where
       WasCutBy-keeps place (Stop word) has was = was
       WasCutBy-keeps place (LogEnd tail total) has was = record {
         balances = was.balances;
-        marks = was.marks;
+        last_commits = was.last_commits;
         gave = all-weaker (AreGivenUncommitted (number_at jobs place) tail was.balances view.books.given)
             (AreGivenUncommitted (number_at jobs place) tail was.balances after.books.given) (job_at jobs place).legs
             (λ leg both. (gave-keeps _ _ _ _ both.0, gave-keeps _ _ _ _ both.1)) was.gave;
@@ -224,7 +224,7 @@ module _ (queue : Queue) (crew : ℕ) where
         by_stop (inr same) = sym same ∙ cut.2
     WasCutBy-taken place (LogEnd tail total) has cut = record {
       balances = cut.balances;
-      marks = cut.marks;
+      last_commits = cut.last_commits;
       gave = recursion_from_All (AreGivenUncommitted (number_at jobs place) tail cut.balances taken_in'.books.given)
           (job_at jobs place).legs
           (λ i d within. let both = cut.given.each i d within in

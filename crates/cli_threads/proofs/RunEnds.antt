@@ -106,7 +106,7 @@ module _ (opened : OpenedList) (jobs : NumberedJobs) (view : View) (below : (ope
         rest = all_without_prev ends.rest;
         plan = ap (λ records. in_order (all_without_prev records) (without_prev ends.next ∷ all_without_prev ends.rest))
             (own-later n (omega arith))
-            ∙ planned-next n transfer ends.marks ends.balances (own_records_of n later) ends.rest ends.next (plan ∙ ends.plan);
+            ∙ planned-next n transfer ends.last_commits ends.balances (own_records_of n later) ends.rest ends.next (plan ∙ ends.plan);
         size = sym (size-without_prev ends.next);
       }
 

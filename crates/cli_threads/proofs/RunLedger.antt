@@ -7,7 +7,7 @@ use Rattle.log_record.specs.Spelling.{IsSpellable}
 use Rattle.lock_core.specs.Lawful.{IsLawful, base_with}
 use Rattle.lock_core.specs.Records.{txn_of}
 use Rattle.lock_core.specs.Serial.{NumberedTransfer, IsPartlySerialAfter}
-use Rattle.lock_core.specs.Settling.{KeepsRows}
+use Rattle.lock_core.specs.AccountRows.{KeepsRows}
 use Rattle.lock_core.specs.Soundness.{IsSoundAfter}
 use Rattle.lock_core.specs.Sums.{as_opening, BaseState, BeginsInRange, ShowsAccounts, balance_of, last_commit_of}
 use Rattle.lock_core.specs.Transactions.{own_records_of, has_end, ShareNoTransaction}

@@ -17,7 +17,7 @@ use Rattle.log_record.proofs.SpellingLemmas.{units_of-injective}
 use Rattle.lock_core.specs.History.{history_from}
 use Rattle.lock_core.specs.Lawful.{IsLawful}
 use Rattle.lock_core.specs.Serial.{NumberedTransfer, IsPartlySerialAfter, IsSerialAfter}
-use Rattle.lock_core.specs.Settling.{KeepsRows}
+use Rattle.lock_core.specs.AccountRows.{KeepsRows}
 use Rattle.lock_core.specs.Sums.{as_opening, BaseState}
 use Rattle.lock_core.proofs.ListLemmas.{all-append, all-split}
 use Rattle.lock_core.proofs.SerialFronts.{partly-serial}
@@ -102,7 +102,7 @@ module _ {D : Type 0} {K : Type 0} (g : Ghosts D) (h : SinkGhosts K) (opened : O
       subst (λ from. IsLedger from (later_of opened list) taken rows) same
       (subst (λ end. IsLedger (base_of key) (history_from end [] list) taken rows) known.log.start
       (subst (λ jobs. IsLedger (base_of key) (history_from key.start [] list) (map task_of jobs) rows) known.workers.taken
-      (known.settled.ledger once)))
+      (known.accounts.ledger once)))
 
   -- each account that was given back uncommitted went back with the balance of a front
   went-back : AllByRecursion (WentBack base (later_of opened list)) view.books.given
@@ -110,7 +110,7 @@ module _ {D : Type 0} {K : Type 0} (g : Ghosts D) (h : SinkGhosts K) (opened : O
       let same = base-opened opened key known.log.lawful known.log.start known.log.accounts in
       subst (λ from. AllByRecursion (WentBack from (later_of opened list)) view.books.given) same
       (subst (λ end. AllByRecursion (WentBack (base_of key) (history_from end [] list)) view.books.given) known.log.start
-      (known.settled.given once))
+      (known.accounts.given once))
 
   pub serial : IsPartlySerialAfter base (tasks_of jobs) (later_of opened list)
   serial = partly_serial-more base taken (tasks_of jobs) (later_of opened list)

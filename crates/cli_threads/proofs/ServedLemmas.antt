@@ -64,7 +64,7 @@ module _ (jobs : NumberedJobs) where
   IsCutBy-retired place (Stop word) view is = is
   IsCutBy-retired place (LogEnd tail total) view is = record {
     balances = is.balances;
-    marks = is.marks;
+    last_commits = is.last_commits;
     before = is.before;
     given = record {
       back = is.given.back;

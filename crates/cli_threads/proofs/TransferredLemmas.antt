@@ -16,7 +16,7 @@ use Rattle.log_rule.specs.declared.view.Role.TheVariants.{Flusher}
 use Rattle.log_rule.specs.declared.view.Sending.{Sending}
 use Rattle.log_rule.specs.declared.view.Standing.{Standing}
 use Rattle.log_rule.specs.declared.view.View.{View}
-use Rattle.log_rule.specs.Closing.{HasHeardOfWorkers, IsGathered, IsSettled}
+use Rattle.log_rule.specs.Closing.{HasHeardOfWorkers, IsGathered, HasLedger}
 use Rattle.log_rule.specs.May.{MayClose}
 use Rattle.log_rule.specs.Members.{IsRefusalOf}
 use Rattle.log_table.specs.Seats.{view_of}
@@ -171,10 +171,10 @@ module _ {D : Type 0} {K : Type 0} (g : Ghosts D) (h : SinkGhosts K) {tail : Tai
       → (last.fault ≡ None → IsDrained (view_of last.flusher.seat))
       → (view : View) → view ≡ takes_all (view_of last.flusher.seat) (map view_in workers)
       → view.constants.ring ≡ table.ring → view.constants.slots ≡ table.slots
-      → (lsn : ℕ) (rows : List (ℕ × ℕ)) → IsGathered lsn view → IsSettled (base_of key) view rows → HasHeardOfWorkers view
+      → (lsn : ℕ) (rows : List (ℕ × ℕ)) → IsGathered lsn view → HasLedger (base_of key) view rows → HasHeardOfWorkers view
       → HasTransferred g h opened (jobs_of queue) front.front (map share_of workers) key first last view lsn rows
   HasTransferred-gathered key table queue wait workers knows opened log done someone front stops drained view is ring slots lsn rows gathered
-      settled heard =
+      accounts heard =
       let others = map view_in workers in
       let shares = map share_of workers in
       let taken = HasTaken-turned key (length workers) knows in
@@ -196,7 +196,7 @@ module _ {D : Type 0} {K : Type 0} (g : Ghosts D) (h : SinkGhosts K) {tail : Tai
         drained = λ fine. IsDrained-same view (view_of last.flusher.seat) sending constants (drained fine);
         workers = subst (HasGathered (jobs_of queue) front.front shares) (sym is) has;
         gathered = gathered;
-        settled = settled;
+        accounts = accounts;
         heard = subst (λ (n : ℕ). AllByRecursion (IsRefusalOf n) view.seen.refusals) as_many heard;
       }
 

@@ -11,7 +11,7 @@ use Rattle.log_table.specs.declared.table.LogTable.{LogTable}
 use Rattle.log_table.specs.declared.table.Seat.{Seat}
 use Rattle.log_table.specs.Hiring.{HasHired}
 use Rattle.log_table.specs.Seats.{IsOf, key_of, view_of}
-use Rattle.log_rule.specs.Closing.{HasHeardOfWorkers, IsGathered, IsSettled}
+use Rattle.log_rule.specs.Closing.{HasHeardOfWorkers, IsGathered, HasLedger}
 use Rattle.log_rule.specs.May.{MayClose}
 use Rattle.log_rule.specs.Sends.{IsDrained}
 use Rattle.log_rule.specs.Sound.{HasReadStop, base_of}
@@ -152,5 +152,5 @@ pub record IsEndOf (table : LogTable) (ended : RunEnd) (served : Served) : Type 
   pub refused : served.refused ≡ ended.refused
   pub ends_are : served.ends.items ≡ ended.ends.items
   pub gathered : IsGathered ended.closed.tail (view_of served.flusher_seat)
-  pub settled : IsSettled (base_of (key_of table)) (view_of served.flusher_seat) ended.closed.accounts.rows
+  pub accounts : HasLedger (base_of (key_of table)) (view_of served.flusher_seat) ended.closed.accounts.rows
   pub heard : HasHeardOfWorkers (view_of served.flusher_seat)

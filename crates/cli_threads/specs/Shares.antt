@@ -51,12 +51,12 @@ AreGivenUncommitted number tail balances given leg =
 -- tail, uncommitted, it is that record.
 pub record EndsLogAt (jobs : NumberedJobs) (workers place tail total : ℕ) (view : View) : Type 0 where
   pub balances : ℕ → ℕ
-  pub marks : ℕ → ℕ
+  pub last_commits : ℕ → ℕ
   pub gave : AllByRecursion (AreGivenUncommitted (number_at jobs place) tail balances view.books.given) (job_at jobs place).legs
   pub next : Rec
   pub rest : List Rec
   pub plan : own_records (number_at jobs place) view.entries ++ next ∷ rest
-      ≡ planned_records (number_at jobs place) (transfer_of (job_at jobs place)) marks balances
+      ≡ planned_records (number_at jobs place) (transfer_of (job_at jobs place)) last_commits balances
   pub asked : IsTotalOfSeat view (size_of next) total
   pub too_long : LAST < tail + total
   pub seen : Contains view.seen.lsns tail

@@ -11,7 +11,7 @@ use Rattle.segment_file.specs.Standing.{LogStands, IsShut}
 use Rattle.segment_file.specs.declared.scan_result.Tail.{Tail}
 use Rattle.log_rule.specs.declared.start.Start.{Start}
 use Rattle.log_rule.specs.declared.view.View.{View}
-use Rattle.log_rule.specs.Closing.{IsGathered, IsSettled}
+use Rattle.log_rule.specs.Closing.{IsGathered, HasLedger}
 use Rattle.log_rule.specs.Members.{IsRefusalOf}
 use Rattle.log_table.specs.Seats.{view_of}
 use Rattle.log_rule.specs.Sends.{IsDrained}
@@ -58,5 +58,5 @@ pub record HasTransferred {D : Type 0} {K : Type 0} (g : Ghosts D) (h : SinkGhos
   pub drained : new.fault ≡ None → IsDrained view
   pub workers : HasGathered jobs front shares view
   pub gathered : IsGathered lsn view
-  pub settled : IsSettled (base_of key) view rows
+  pub accounts : HasLedger (base_of key) view rows
   pub heard : AllByRecursion (IsRefusalOf (length shares)) view.seen.refusals

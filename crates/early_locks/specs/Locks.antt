@@ -18,7 +18,7 @@ use Rattle.early_locks.specs.declared.taking.Held.{Held}
 
 -- the account as it was taken
 abbrev pub held_of : Taken → TakenHere
-held_of taken = record { account = taken.account; balance = taken.balance; mark = taken.mark }
+held_of taken = record { account = taken.account; balance = taken.balance; last_commit = taken.mark }
 
 -- the account as a seat with this view gives it back
 abbrev pub given_at : View → Taken → Given
@@ -37,9 +37,9 @@ pub record HasTaken (old new : Seat) (account : ℕ) (taken : Taken) : Type 0 wh
   pub word : AccountWord
   pub free : word.held ≡ false
   pub balance : taken.balance ≡ word.balance
-  pub mark : taken.mark ≡ word.mark
+  pub last_commit : taken.mark ≡ word.mark
   pub becomes : Becomes old new (took_account account (word_of word) (saw_account account (word_of word) (view_of old)))
-  pub books : (view_of new).books ≡ taking (record { account = account; balance = taken.balance; mark = taken.mark }) (view_of old).books
+  pub books : (view_of new).books ≡ taking (record { account = account; balance = taken.balance; last_commit = taken.mark }) (view_of old).books
 
 -- The seat loaded the account's word; where that was held, it was found so, and else its exchange found another word. It made no other
 -- step.
@@ -53,11 +53,12 @@ WasHeld old new account held = MatchBool held.loaded.held
 pub record HoldsTaken (taken : Taken) (books : Books) : Type 0 where
   pub has : 1 ≤ times_held taken.account books.held
   pub balance : balance_taken books.held taken.account ≡ taken.balance
-  pub mark : last_commit_taken books.held taken.account ≡ taken.mark
+  pub last_commit : last_commit_taken books.held taken.account ≡ taken.mark
 
 -- these are the balance and the last Commit with which the account has to go back
-abbrev pub GivesBack : Taken → ℕ → ℕ → Books → Type 0
-GivesBack taken balance mark books = FollowsJob taken.account balance mark taken.balance taken.mark books.placed
+abbrev pub GivesBack : Taken → ℕ → ℕ → Seat → Type 0
+GivesBack taken balance last_commit seat =
+    FollowsJob taken.account balance last_commit taken.balance taken.mark (view_of seat).books.placed
 
 -- the account is among those given back, and the seat is else as it was
 abbrev pub HasGivenBack : Taken → Seat → Seat → Type 0

@@ -17,7 +17,7 @@ pub fn give(table: &LogTable, seat: &mut Seat, taken: Taken, balance: u32, mark:
     requires rests { IsAtRest (view_of seat.old) }
     requires holds { HoldsTaken taken (view_of seat.old).books }
     requires balance { balance ≤ MOST_BALANCE }
-    requires values { GivesBack taken balance mark (view_of seat.old).books }
+    requires values { GivesBack taken balance mark seat.old }
     ensures { HasGivenBack taken seat.old seat.new }
 {
     table.store_account(seat, taken.account, AccountWord::free(balance, mark));
@@ -30,7 +30,7 @@ pub fn give_durable(table: &LogTable, seat: &mut Seat, taken: Taken, balance: u3
     requires rests { IsAtRest (view_of seat.old) }
     requires holds { HoldsTaken taken (view_of seat.old).books }
     requires balance { balance ≤ MOST_BALANCE }
-    requires values { GivesBack taken balance mark (view_of seat.old).books }
+    requires values { GivesBack taken balance mark seat.old }
     requires durable { HasSeenDurable (view_of seat.old) }
     ensures { HasGivenBack taken seat.old seat.new }
 {

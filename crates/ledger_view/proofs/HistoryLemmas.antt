@@ -13,10 +13,10 @@ use Rattle.lock_core.specs.Transactions.{own_records_of, updates_of, has_end}
 use Rattle.lock_core.specs.Sums.{Opening, moved, total, IsBalanceOf}
 use Rattle.lock_core.specs.Tests.{IsGenesis}
 use Rattle.lock_core.specs.Lawful.{tests, Passes, base_with, with_genesis}
-use Rattle.lock_core.specs.Settling.{row}
+use Rattle.lock_core.specs.AccountRows.{row}
 use Rattle.lock_core.specs.Taking.{HasJudged}
 use Rattle.lock_core.proofs.OneMore.{has_commit-unended, total-plain, total-empty, total-commit}
-use Rattle.lock_core.proofs.SettlingLemmas.{moved-untouched}
+use Rattle.lock_core.proofs.ChangesLemmas.{moved-untouched}
 use Rattle.lock_core.proofs.Meeting.{meets-passes}
 use Rattle.lock_core.proofs.Ranging.{balance_of-is}
 use Rattle.lock_core.proofs.KindLemmas.{accounts-genesis}

@@ -5,7 +5,7 @@ ghost use Rattle.lsn_space.specs.declared.lsn.TheConstants.{LAST};
 ghost use Rattle.log_record.specs.declared.rec.Rec.{Rec};
 ghost use Rattle.log_record.specs.LogList.{prefix_to};
 ghost use Rattle.lock_core.specs.History.{history_from};
-ghost use Rattle.lock_core.specs.Settling.{opening_of};
+ghost use Rattle.lock_core.specs.AccountRows.{opening_of};
 ghost use Rattle.ledger_view.specs.Entries.{front_to, balance_up_to, entries_if_known};
 ghost use Rattle.ledger_view.specs.Viewing.{HasViewed};
 

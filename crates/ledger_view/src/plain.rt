@@ -6,7 +6,7 @@ ghost use Rattle.lock_core.specs.Records.{txn_of, commits, gain, loss, changes_o
 ghost use Rattle.lock_core.specs.Transactions.{touches, is_committed};
 ghost use Rattle.lock_core.specs.Sums.{BaseState, moved, total};
 ghost use Rattle.lock_core.specs.Lawful.{base_with, with_genesis};
-ghost use Rattle.lock_core.specs.Settling.{opening_of};
+ghost use Rattle.lock_core.specs.AccountRows.{opening_of};
 ghost use Rattle.ledger_view.specs.Entries.{net_of, front_to, balance_after, balance_if_known, balance_up_to, entries_if_known};
 ghost use Rattle.ledger_view.specs.Plain.{own_changes, IsNetOf, IsEntryOf, KeepsRange};
 

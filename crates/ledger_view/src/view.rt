@@ -12,7 +12,7 @@ ghost use Rattle.lock_core.specs.declared.update.TheConstants.{MOST_UPDATES};
 ghost use Rattle.lock_core.specs.History.{end_from, entry_at};
 ghost use Rattle.lock_core.specs.Sums.{Opening};
 ghost use Rattle.lock_core.specs.Lawful.{base_with};
-ghost use Rattle.lock_core.specs.Settling.{opening_of};
+ghost use Rattle.lock_core.specs.AccountRows.{opening_of};
 ghost use Rattle.lock_core.specs.Taking.{IsTakeFault, HasJudged, count_of};
 ghost use Rattle.ledger_view.specs.Entries.{entries_of, balance_up_to, EndsAt};
 ghost use Rattle.ledger_view.specs.Viewing.{account_at, HasViewed};

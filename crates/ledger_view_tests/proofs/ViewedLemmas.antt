@@ -9,7 +9,7 @@ use Rattle.log_record.specs.Spelling.{spelling, BeginsWith}
 use Rattle.log_record.proofs.Fronts.{spelling-parts_of}
 use Rattle.lock_core.specs.History.{end_from, entry_at}
 use Rattle.lock_core.specs.Sums.{Opening}
-use Rattle.lock_core.specs.Settling.{opening_of}
+use Rattle.lock_core.specs.AccountRows.{opening_of}
 use Rattle.log_recovery.specs.declared.list_result.Listed.{Listed}
 use Rattle.log_recovery.specs.Opened.{log_of}
 use Rattle.log_recovery.specs.Recovery.{TakesBytes, list_of}

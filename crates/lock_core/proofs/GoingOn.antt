@@ -55,9 +55,9 @@ module _ (opening : Opening) (h l : List Placed) (before : IsLawful opening l) w
       ∙ balance_of-append (base_with opening l) l (met-lawful opening l before) h account inside (apart-behind some lawful)
       ∙ sym (ap (λ (base : BaseState). balance_of base h account) (same-after opening h l some lawful))
 
-  pub mark-goes_on : 0 < (base_with opening l).accounts → (account : ℕ) → IsLawful (opening_after opening l) h
+  pub last_commit-goes_on : 0 < (base_with opening l).accounts → (account : ℕ) → IsLawful (opening_after opening l) h
       → (opening_after opening (h ++ l)).state.last_commit account ≡ (opening_after (opening_after opening l) h).state.last_commit account
-  mark-goes_on some account lawful = ap (λ (base : BaseState). last_commit_of base (h ++ l) account) (same-base opening h l some lawful)
+  last_commit-goes_on some account lawful = ap (λ (base : BaseState). last_commit_of base (h ++ l) account) (same-base opening h l some lawful)
       ∙ last_commit_of-append (base_with opening l) (base_state_of opening l) h l account refl (none-shared h l (apart-behind some lawful))
       ∙ sym (ap (λ (base : BaseState). last_commit_of base h account) (same-after opening h l some lawful))
 

@@ -15,7 +15,7 @@ use Rattle.lock_core.specs.Sums.{BaseState, Opening, no_opening, ShowsAccounts}
 use Rattle.lock_core.specs.Tests.{IsGenesis}
 use Rattle.lock_core.specs.Lawful.{tests, Passes, IsLawful, base_with}
 use Rattle.lock_core.specs.Faults.{IsFirstFailing}
-use Rattle.lock_core.specs.Settling.{row, KeepsRows}
+use Rattle.lock_core.specs.AccountRows.{row, KeepsRows}
 use Rattle.lock_core.specs.Judging.{IsJudged, Judges}
 use Rattle.lock_core.proofs.OneMore.{has_commit-unended, total-plain, total-empty}
 use Rattle.lock_core.proofs.Meeting.{meets-passes}

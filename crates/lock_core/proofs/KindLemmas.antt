@@ -16,7 +16,7 @@ use Rattle.lock_core.specs.Tests.{IsGenesis, IsCurrent}
 use Rattle.lock_core.specs.declared.reason.Why.TheVariants as why
 use Rattle.lock_core.specs.Lawful.{IsLawful, base_with, with_genesis, tests, Passes}
 use Rattle.lock_core.specs.Faults.{IsFirstFailing}
-use Rattle.lock_core.specs.Settling.{row, Settles, LeavesSome, KeepsRows}
+use Rattle.lock_core.specs.AccountRows.{row, AppliesChanges, LeavesSome, KeepsRows}
 use Rattle.lock_core.specs.Judging.{IsCommitting}
 use Rattle.lock_core.proofs.OneMore.{has_commit-unended, total-empty, total-commit, last_commit_of-commit}
 use Rattle.lock_core.proofs.Meeting.{met-lawful}
@@ -58,17 +58,17 @@ module _ (rows : List (ℕ × ℕ)) (base : BaseState) (h : List Placed) (txn le
   moves : (side : ℤ → ℕ) (a : ℕ) → total side a (commit ∷ h) ≡ total side a h + moved side a changes
   moves side a = total-commit side a commit h refl (has_commit-unended (own_records_of txn h) unended) ∙ ap (λ l. total side a h + moved side a l) (sym are)
 
-  pub keeps-commit : (new : List (ℕ × ℕ)) → Settles changes end rows new → KeepsRows new base (commit ∷ h)
-  keeps-commit new settles = let count = settles.count in let counted = kept.count in record {
+  pub keeps-commit : (new : List (ℕ × ℕ)) → AppliesChanges changes end rows new → KeepsRows new base (commit ∷ h)
+  keeps-commit new applies = let count = applies.count in let counted = kept.count in record {
     count = omega arith;
-    range = λ a inside. (settles.each a (omega arith)).range;
+    range = λ a inside. (applies.each a (omega arith)).range;
     balance = λ a inside.
         let old-inside : a < length rows = omega arith in
-        let before = kept.balance a old-inside in let step = (settles.each a old-inside).balance in
+        let before = kept.balance a old-inside in let step = (applies.each a old-inside).balance in
         let gains = moves gain a in let losses = moves loss a in omega arith;
     last = λ a inside.
         let old-inside : a < length rows = omega arith in
-        (settles.each a old-inside).last
+        (applies.each a old-inside).last
         ∙ (λ i. cond (touches a (are i)) end (kept.last a old-inside i))
         ∙ sym (last_commit_of-commit base commit h a refl);
   }
@@ -236,11 +236,11 @@ module _ (opening : Opening) where
       fails = λ keeps. leaves-commit rows (base_with opening h) h txn legs end changes kept on.unended on.are leaves (keeps refl);
     }
 
-    pub keeps-settled : (new : List (ℕ × ℕ)) → Settles changes end rows new → KeepsRows new (base_with opening h) (entry ∷ h)
-    keeps-settled new settles = keeps-commit rows (base_with opening h) h txn legs end changes kept on.unended on.are new settles
+    pub keeps-applied : (new : List (ℕ × ℕ)) → AppliesChanges changes end rows new → KeepsRows new (base_with opening h) (entry ∷ h)
+    keeps-applied new applies = keeps-commit rows (base_with opening h) h txn legs end changes kept on.unended on.are new applies
 
-    pub passes-commit : AreCurrentRows → (new : List (ℕ × ℕ)) → Settles changes end rows new → AllByRecursion (Passes opening h entry) tests
-    passes-commit all new settles = (
+    pub passes-commit : AreCurrentRows → (new : List (ℕ × ℕ)) → AppliesChanges changes end rows new → AllByRecursion (Passes opening h entry) tests
+    passes-commit all new applies = (
       on.some,
       (
         tt,
@@ -254,7 +254,7 @@ module _ (opening : Opening) where
                 tt,
                 (
                   current all,
-                  ((λ is. in_range-rows new (base_with opening h) (entry ∷ h) (keeps-settled new settles)), tt),
+                  ((λ is. in_range-rows new (base_with opening h) (entry ∷ h) (keeps-applied new applies)), tt),
                 ),
               ),
             ),

@@ -1,6 +1,7 @@
 pub mod Apart
 pub mod Appending
 pub mod ChainLemmas
+pub mod ChangesLemmas
 pub mod Conserving
 pub mod Doing
 pub mod Fronts
@@ -23,7 +24,6 @@ pub mod Ranging
 pub mod Running
 pub mod SerialFronts
 pub mod SerialTasks
-pub mod SettlingLemmas
 pub mod SoundLemmas
 pub mod Splitting
 pub mod TakingLemmas

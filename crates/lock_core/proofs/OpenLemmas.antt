@@ -19,7 +19,7 @@ use Rattle.lock_core.specs.Sums.{Opening}
 use Rattle.lock_core.specs.Tests.{IsPaired}
 use Rattle.lock_core.specs.Lawful.{Passes}
 use Rattle.lock_core.specs.Faults.{IsFirstFailing}
-use Rattle.lock_core.specs.Settling.{row, LeavesSome}
+use Rattle.lock_core.specs.AccountRows.{row, LeavesSome}
 use Rattle.lock_core.specs.Judging.{IsCommitting}
 use Rattle.lock_core.specs.Keeping.{update_at, no_link, link_at, IsOpenAt, IsEndFault, KeepsTransactions, KeepsLedger}
 use Rattle.lock_core.specs.Taking.{IsTakeFault}

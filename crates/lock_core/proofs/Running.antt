@@ -52,7 +52,7 @@ planned_from-without_prev txn last_commit balance k (leg ∷ legs) =
     by_case (lacks leg balance) (overfills leg balance) (planned_from-without_prev txn last_commit (after_leg leg balance) (k + 1) legs)
   where
     rest : (ℕ → ℕ) → List Rec
-    rest mark = planned_from txn mark (after_leg leg balance) (k + 1) legs
+    rest last_commit = planned_from txn last_commit (after_leg leg balance) (k + 1) legs
 
     by_case : (short over : Bool) → all_without_prev (planned_from txn last_commit (after_leg leg balance) (k + 1) legs) ≡ planned_from txn no_commit (after_leg leg balance) (k + 1) legs
         → all_without_prev (cond short (Short txn (k + 1) ∷ []) (cond over (Over txn (k + 1) ∷ [])

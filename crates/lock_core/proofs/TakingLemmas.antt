@@ -22,10 +22,10 @@ use Rattle.lock_core.specs.Sums.{Opening}
 use Rattle.lock_core.specs.Tests.{IsGenesis, OpensLedger, IsAbove, IsPaired}
 use Rattle.lock_core.specs.Lawful.{tests, Passes, IsLawful, base_with, with_genesis}
 use Rattle.lock_core.specs.Faults.{IsFirstFailing}
-use Rattle.lock_core.specs.Settling.{row, opening_of, Settles, LeavesSome, KeepsRows, AreRowsInRange}
+use Rattle.lock_core.specs.AccountRows.{row, opening_of, AppliesChanges, LeavesSome, KeepsRows, AreRowsInRange}
 use Rattle.lock_core.specs.Judging.{IsCommitting}
 use Rattle.lock_core.specs.Keeping.{IsEndFault, KeepsTransactions, KeepsLedger}
-use Rattle.lock_core.proofs.KindLemmas.{accounts-genesis, accounts-most, keeps-genesis, passes-genesis, fails-stale, fails-balance, keeps-settled, passes-commit}
+use Rattle.lock_core.proofs.KindLemmas.{accounts-genesis, accounts-most, keeps-genesis, passes-genesis, fails-stale, fails-balance, keeps-applied, passes-commit}
 use Rattle.lock_core.proofs.JudgingLemmas.{judged-plain}
 use Rattle.lock_core.proofs.KeepingLemmas.{keeps-idle}
 
@@ -202,13 +202,13 @@ module _ (opening : Opening) where
       pub fails-commit-balance : AreCurrentRows → LeavesSome changes ledger.accounts.rows → IsFirstFailing (Passes opening h commit) why.Balance
       fails-commit-balance all leaves = fails-balance opening ledger.accounts.rows h txn legs end changes kept.judged.lawful kept.judged.rows on all leaves
 
-      pub takes-commit : (accounts : Accounts) (txns : Transactions) → AreCurrentRows → accounts.room ≡ ledger.accounts.room → Settles changes end ledger.accounts.rows accounts.rows
+      pub takes-commit : (accounts : Accounts) (txns : Transactions) → AreCurrentRows → accounts.room ≡ ledger.accounts.room → AppliesChanges changes end ledger.accounts.rows accounts.rows
           → KeepsTransactions txns (commit ∷ h) → KeepsLedger opening (record { accounts = accounts; is_opening = false; txns = txns; least = ledger.least }) (commit ∷ h)
-      takes-commit accounts txns all room settles keeps = record {
+      takes-commit accounts txns all room applies keeps = record {
         judged = record {
-          lawful = (passes-commit opening ledger.accounts.rows h txn legs end changes kept.judged.lawful kept.judged.rows on all accounts.rows settles, kept.judged.lawful);
+          lawful = (passes-commit opening ledger.accounts.rows h txn legs end changes kept.judged.lawful kept.judged.rows on all accounts.rows applies, kept.judged.lawful);
           room = room ∙ kept.judged.room;
-          rows = keeps-settled opening ledger.accounts.rows h txn legs end changes kept.judged.lawful kept.judged.rows on accounts.rows settles;
+          rows = keeps-applied opening ledger.accounts.rows h txn legs end changes kept.judged.lawful kept.judged.rows on accounts.rows applies;
         };
         begins = opening-over commit (λ never. never);
         transactions = keeps;

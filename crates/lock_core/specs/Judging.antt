@@ -12,7 +12,7 @@ use Rattle.lock_core.specs.Lawful.{tests, Passes, IsLawful, base_with}
 use Rattle.lock_core.specs.declared.plain.judging.PlainFault.{PlainFault}
 use Rattle.lock_core.specs.declared.plain.judging.PlainFault.TheVariants as plain
 use Rattle.lock_core.specs.Faults.{IsFirstFailing, IsUnlawfulAt}
-use Rattle.lock_core.specs.Settling.{KeepsRows}
+use Rattle.lock_core.specs.AccountRows.{KeepsRows}
 
 -- the history is lawful behind the opening, and the accounts kept are its accounts
 pub record IsJudged (opening : Opening) (accounts : Accounts) (h : List Placed) : Type 0 where

@@ -1,3 +1,4 @@
+pub mod AccountRows
 pub mod Alone
 pub mod AnyOrder
 pub mod Faults
@@ -9,7 +10,6 @@ pub mod Packing
 pub mod Plain
 pub mod Records
 pub mod Serial
-pub mod Settling
 pub mod Soundness
 pub mod Sums
 pub mod Taking

@@ -90,7 +90,7 @@ greatest_txn [] = 0
 greatest_txn (entry ∷ h) = max (txn_of entry.rec) (greatest_txn h)
 
 -- The rows have the balance and the last Commit of each account, as the numbers that a reader computes from the list. `KeepsRows` of
--- Settling.antt implies it, and says more: each is the balance by its equation, and in its range, which here only a lawful list gives.
+-- AccountRows.antt implies it, and says more: each is the balance by its equation, and in its range, which here only a lawful list gives.
 pub record ShowsAccounts (rows : List (ℕ × ℕ)) (base : BaseState) (h : List Placed) : Type 0 where
   pub count : length rows ≡ base.accounts
   pub each : (account : ℕ) → account < base.accounts

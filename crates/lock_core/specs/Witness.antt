@@ -6,7 +6,7 @@ use Rattle.log_record.specs.declared.rec.Placed.{Placed}
 use Rattle.lock_core.specs.History.{history_from}
 use Rattle.lsn_space.specs.Opening as space
 use Rattle.lock_core.specs.Sums.{Opening}
-use Rattle.lock_core.specs.Settling.{opening_of}
+use Rattle.lock_core.specs.AccountRows.{opening_of}
 use Rattle.lock_core.specs.Alone.{PlainTransfer}
 
 -- two accounts, of balances 100 and 0

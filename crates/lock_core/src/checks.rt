@@ -3,7 +3,7 @@
 ghost use Rattle.std.specs.Prelude.{◌≡◌, ◌<◌, ◌↔◌, length, IsTrue};
 ghost use Rattle.std.specs.List.{AllByRecursion};
 ghost use Rattle.lock_core.specs.Tests.{IsPaired};
-ghost use Rattle.lock_core.specs.Settling.{row};
+ghost use Rattle.lock_core.specs.AccountRows.{row};
 
 use crate::update::Change;
 use lsn_space::Balances;

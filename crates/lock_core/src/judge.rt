@@ -9,7 +9,7 @@ ghost use Rattle.lock_core.specs.History.{end_from, entry_at};
 ghost use Rattle.lsn_space.specs.Opening.{IsSnapshot};
 ghost use Rattle.lock_core.specs.Sums.{Opening, no_opening, balance_of, last_commit_of, ShowsAccounts};
 ghost use Rattle.lock_core.specs.Lawful.{base_with, opening_after};
-ghost use Rattle.lock_core.specs.Settling.{opening_of};
+ghost use Rattle.lock_core.specs.AccountRows.{opening_of};
 ghost use Rattle.lock_core.specs.Taking.{IsTakeFault, HasJudged, count_of};
 ghost use Rattle.lock_core.specs.Transactions.{open_changes_of};
 

@@ -81,7 +81,7 @@ pub fn opening_goes_on()
     ensures balance { (opening : Opening) (h l : List Placed) (account : ℕ) → IsLawful opening l → account < (base_with opening l).accounts
         → IsLawful (opening_after opening l) h
         → (opening_after opening (h ++ l)).state.balance account ≡ (opening_after (opening_after opening l) h).state.balance account }
-    ensures mark { (opening : Opening) (h l : List Placed) (account : ℕ) → IsLawful opening l → 0 < (base_with opening l).accounts
+    ensures last_commit { (opening : Opening) (h l : List Placed) (account : ℕ) → IsLawful opening l → 0 < (base_with opening l).accounts
         → IsLawful (opening_after opening l) h
         → (opening_after opening (h ++ l)).state.last_commit account
         ≡ (opening_after (opening_after opening l) h).state.last_commit account }

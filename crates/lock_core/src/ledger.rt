@@ -10,13 +10,13 @@ ghost use Rattle.lsn_space.specs.Opening.{IsSnapshot};
 ghost use Rattle.lock_core.specs.Records.{txn_of, ends};
 ghost use Rattle.lock_core.specs.Transactions.{own_records_of, has_end, open_changes_of};
 ghost use Rattle.lock_core.specs.Sums.{Opening, no_opening};
-ghost use Rattle.lock_core.specs.Settling.{opening_of};
+ghost use Rattle.lock_core.specs.AccountRows.{opening_of};
 ghost use Rattle.lock_core.specs.Keeping.{IsOpenAt, IsEndFault, KeepsTransactions, KeepsLedger};
 ghost use Rattle.lock_core.specs.Taking.{TakesEntry};
 
+use crate::account_changes::apply_changes;
 use crate::checks::{are_current, is_current, is_paired};
 use crate::reason::{JudgeFault, Why};
-use crate::settling::settle;
 use crate::transactions::Transactions;
 use crate::update::{Change, MOST_UPDATES};
 use arrayvec::ArrayVec;
@@ -207,7 +207,7 @@ impl Ledger {
         if !are_current(&self.accounts, changes) {
             return Err(JudgeFault::Why(Why::Stale));
         }
-        if !settle(&mut self.accounts, changes, end) {
+        if !apply_changes(&mut self.accounts, changes, end) {
             return Err(JudgeFault::Why(Why::Balance));
         }
         Ok(())

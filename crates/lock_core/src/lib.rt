@@ -2,6 +2,7 @@
 //! answers alone, and the judge that takes a list record by record.
 #![tactic(auto)]
 
+mod account_changes;
 mod checks;
 mod job;
 mod judge;
@@ -9,7 +10,6 @@ mod laws;
 mod ledger;
 mod plain;
 mod reason;
-mod settling;
 mod taker;
 mod transactions;
 mod update;

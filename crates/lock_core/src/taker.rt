@@ -7,7 +7,7 @@ ghost use Rattle.lsn_space.specs.declared.lsn.TheConstants.{LAST};
 ghost use Rattle.lsn_space.specs.Opening.{IsSnapshot};
 ghost use Rattle.lock_core.specs.History.{end_from, entry_at};
 ghost use Rattle.lock_core.specs.Lawful.{IsLawful};
-ghost use Rattle.lock_core.specs.Settling.{opening_of};
+ghost use Rattle.lock_core.specs.AccountRows.{opening_of};
 ghost use Rattle.lock_core.specs.Sums.{Opening};
 ghost use Rattle.lock_core.specs.Taking.{IsTakeFault};
 

@@ -17,7 +17,7 @@ use Rattle.log_record.specs.Spelling.{spelling, IsSpellable, IsBalance}
 use Rattle.lock_core.specs.History.{end_from, entry_at, history_from}
 use Rattle.lock_core.specs.Lawful.{IsLawful, base_with, with_genesis}
 use Rattle.lock_core.specs.Records.{commits, txn_of}
-use Rattle.lock_core.specs.Settling.{row}
+use Rattle.lock_core.specs.AccountRows.{row}
 use Rattle.lock_core.specs.Sums.{BaseState, Opening, BeginsInRange, ShowsAccounts, balance_of, last_commit_of}
 use Rattle.lock_core.specs.Tests.{OpensLedger}
 use Rattle.lock_core.specs.Transactions.{touches, updates_of}

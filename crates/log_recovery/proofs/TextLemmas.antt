@@ -11,7 +11,7 @@ use Rattle.log_disk.proofs.Blocks.{AppendsBut-more, AppendsBut-part, AppendsPart
 use Rattle.lsn_space.specs.Number.{number_text}
 use Rattle.lock_core.specs.Lawful.{base_with}
 use Rattle.lock_core.specs.Sums.{ShowsAccounts, balance_of, last_commit_of}
-use Rattle.lock_core.specs.Settling.{opening_of}
+use Rattle.lock_core.specs.AccountRows.{opening_of}
 use Rattle.log_recovery.specs.Opened.{OpenedList, list_end, placed}
 use Rattle.log_recovery.specs.Text.{account_line, numbers_below, account_lines, lsn_line, rows_text, accounts_text}
 

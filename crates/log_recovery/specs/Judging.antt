@@ -10,7 +10,7 @@ use Rattle.lock_core.specs.declared.reason.Why.{Why}
 use Rattle.lock_core.specs.History.{end_from, entry_at, history_from}
 use Rattle.lock_core.specs.Lawful.{Passes, IsLawful}
 use Rattle.lock_core.specs.Faults.{IsFirstFailing, IsUnlawfulAt}
-use Rattle.lock_core.specs.Settling.{opening_of}
+use Rattle.lock_core.specs.AccountRows.{opening_of}
 use Rattle.lock_core.specs.Sums as sums
 use Rattle.log_recovery.specs.declared.judging.UnitsFault.{UnitsFault}
 use Rattle.log_recovery.specs.declared.judging.UnitsFault.TheVariants as fault

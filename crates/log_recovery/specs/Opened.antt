@@ -6,7 +6,7 @@ use Rattle.log_record.specs.LogList.{units_of, IsBoundary}
 use Rattle.lsn_space.specs.Opening.{Opening, no_opening}
 use Rattle.lock_core.specs.History.{history_from}
 use Rattle.lock_core.specs.Lawful.{base_with, base_state_of, opening_after}
-use Rattle.lock_core.specs.Settling.{opening_of}
+use Rattle.lock_core.specs.AccountRows.{opening_of}
 use Rattle.lock_core.specs.Sums as sums
 use Rattle.segment_file.specs.Log.{Log, log_end}
 

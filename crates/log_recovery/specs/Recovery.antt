@@ -17,7 +17,7 @@ use Rattle.lock_core.specs.declared.judge.Judge.{Judge}
 use Rattle.lock_core.specs.Sums.{Opening, ShowsAccounts}
 use Rattle.lock_core.specs.Lawful.{IsLawful, base_with, opening_after}
 use Rattle.lock_core.specs.Faults.{IsUnlawfulAt}
-use Rattle.lock_core.specs.Settling.{opening_of}
+use Rattle.lock_core.specs.AccountRows.{opening_of}
 use Rattle.lock_core.specs.Taking.{HasJudged}
 use Rattle.log_recovery.specs.Listing.{IsBadRecAt}
 use Rattle.log_recovery.specs.Opened.{OpenedList, log_of, list_end, placed}

@@ -4,7 +4,7 @@ use Rattle.std.specs.List.{flat_map}
 use Rattle.lsn_space.specs.Number.{number_text}
 use Rattle.lock_core.specs.Sums.{balance_of}
 use Rattle.lock_core.specs.Lawful.{base_with}
-use Rattle.lock_core.specs.Settling.{opening_of}
+use Rattle.lock_core.specs.AccountRows.{opening_of}
 use Rattle.log_recovery.specs.Opened.{OpenedList, list_end, placed}
 
 unfoldable pub lsn_line : ℕ → List ℕ

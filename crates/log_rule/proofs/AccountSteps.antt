@@ -9,7 +9,7 @@ use prog.Atomic.{either}
 use Rattle.atomic_table.proofs.Lists.{at_map}
 use Rattle.slot_word.specs.declared.account_word.AccountWord.{AccountWord}
 use Rattle.slot_word.specs.AccountWord.{word_of, held_in, balance_in, last_commit_in}
-use Rattle.slot_word.proofs.AccountWordLemmas.{held_back, balance_back, mark_back}
+use Rattle.slot_word.proofs.AccountWordLemmas.{held_back, balance_back, last_commit_back}
 use Rattle.log_record.specs.declared.rec.Rec.{Rec}
 use Rattle.log_record.specs.declared.rec.Rec.TheVariants as rec
 use Rattle.log_record.specs.declared.rec.Placed.{Placed}
@@ -128,7 +128,7 @@ module _ (key : Start) (me : ℕ) (v : View) where
       let is = sym own.is in (
         ap (λ a. held_in (words.account a)) is ∙ own.known.taken,
         ap (λ a. balance_in (words.account a)) is ∙ (own.known.balance ∙ sym own.balance),
-        ap (λ a. last_commit_in (words.account a)) is ∙ (own.known.mark ∙ sym own.mark),
+        ap (λ a. last_commit_in (words.account a)) is ∙ (own.known.last_commit ∙ sym own.last_commit),
       )
 
   pub account-takes : (accounts account : ℕ) → length key.accounts.rows ≡ accounts → account < accounts → (from to : AccountWord) → FitsWord from → FitsWord to → MayTake account from to v
@@ -146,7 +146,7 @@ module _ (key : Start) (me : ℕ) (v : View) where
         (held_as account (word_of from)) (word_of to) (subst (λ c. account < c) (sym same) below) free (ap balance_in is) (ap last_commit_in is)
         (held_back to.held to.balance to.mark to-fits.0 to-fits.1 ∙ may.taken)
         (balance_back to.held to.balance to.mark to-fits.0 to-fits.1 ∙ (may.balance ∙ sym (balance_back from.held from.balance from.mark from-fits.0 from-fits.1)))
-        (mark_back to.held to.balance to.mark to-fits.0 to-fits.1 ∙ (may.mark ∙ sym (mark_back from.held from.balance from.mark from-fits.0 from-fits.1)))
+        (last_commit_back to.held to.balance to.mark to-fits.0 to-fits.1 ∙ (may.last_commit ∙ sym (last_commit_back from.held from.balance from.mark from-fits.0 from-fits.1)))
         (only_note-uncommitted v.books.placed may.begins.only_note) s.accounts);
   }
 

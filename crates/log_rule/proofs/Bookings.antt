@@ -93,7 +93,7 @@ pub record Found (P : Taken → Type 0) (list : List Taken) (account : ℕ) : Ty
   pub is : held.account ≡ account
   pub known : P held
   pub balance : balance_taken list account ≡ held.balance
-  pub mark : last_commit_taken list account ≡ held.mark
+  pub last_commit : last_commit_taken list account ≡ held.last_commit
 
 pub found : (P : Taken → Type 0) (account : ℕ) (list : List Taken) → 1 ≤ times_held account list → AllByRecursion P list → Found P list account
 found P account [] has all = absurd (omega arith)
@@ -103,7 +103,7 @@ found P account (x ∷ xs) has all = dite (ℕ_discrete x.account account)
       is = same;
       known = all.0;
       balance = ap (λ b. cond b x.balance (balance_taken xs account)) here;
-      mark = ap (λ b. cond b x.mark (last_commit_taken xs account)) here;
+      last_commit = ap (λ b. cond b x.last_commit (last_commit_taken xs account)) here;
     })
     (λ differ. let other = ne_eqb x.account account differ in let none = none-if x.account account differ in
     let more = found P account xs (omega arith) all.1 in record {
@@ -111,7 +111,7 @@ found P account (x ∷ xs) has all = dite (ℕ_discrete x.account account)
       is = more.is;
       known = more.known;
       balance = ap (λ b. cond b x.balance (balance_taken xs account)) other ∙ more.balance;
-      mark = ap (λ b. cond b x.mark (last_commit_taken xs account)) other ∙ more.mark;
+      last_commit = ap (λ b. cond b x.last_commit (last_commit_taken xs account)) other ∙ more.last_commit;
     })
 
 pub balance_taken-none : (account : ℕ) (list : List Taken) → times_held account list ≡ 0 → balance_taken list account ≡ 0
@@ -120,12 +120,12 @@ balance_taken-none account (x ∷ xs) none = dite (ℕ_discrete x.account accoun
     (λ same. let one = one-if x.account account same in absurd (omega arith))
     (λ differ. ap (λ b. cond b x.balance (balance_taken xs account)) (ne_eqb x.account account differ) ∙ balance_taken-none account xs (omega arith))
 
--- a mark as taken, of whatever account, is one of them or 0
-pub last_commit_taken-all : (P : ℕ → Type 0) (account : ℕ) (list : List Taken) → P 0 → AllByRecursion (λ (held : Taken). P held.mark) list → P (last_commit_taken list account)
+-- a last_commit as taken, of whatever account, is one of them or 0
+pub last_commit_taken-all : (P : ℕ → Type 0) (account : ℕ) (list : List Taken) → P 0 → AllByRecursion (λ (held : Taken). P held.last_commit) list → P (last_commit_taken list account)
 last_commit_taken-all P account [] none all = none
 last_commit_taken-all P account (x ∷ xs) none all = by_test (x.account == account) (last_commit_taken-all P account xs none all.1)
   where
-    by_test : (b : Bool) → P (last_commit_taken xs account) → P (cond b x.mark (last_commit_taken xs account))
+    by_test : (b : Bool) → P (last_commit_taken xs account) → P (cond b x.last_commit (last_commit_taken xs account))
     by_test true more = all.0
     by_test false more = more
 
@@ -169,9 +169,9 @@ pub last_commit_taken-without_other : (account other : ℕ) (list : List Taken) 
 last_commit_taken-without_other account other [] differ = refl
 last_commit_taken-without_other account other (x ∷ xs) differ = dite (ℕ_discrete x.account account)
     (λ same. ap (λ b. last_commit_taken (cond b xs (x ∷ without account xs)) other) (eq-eqb x.account account same)
-    ∙ sym (ap (λ b. cond b x.mark (last_commit_taken xs other)) (ne_eqb x.account other (λ e. differ (sym e ∙ same)))))
+    ∙ sym (ap (λ b. cond b x.last_commit (last_commit_taken xs other)) (ne_eqb x.account other (λ e. differ (sym e ∙ same)))))
     (λ apart. ap (λ b. last_commit_taken (cond b xs (x ∷ without account xs)) other) (ne_eqb x.account account apart)
-    ∙ ap (λ n. cond (x.account == other) x.mark n) (last_commit_taken-without_other account other xs differ))
+    ∙ ap (λ n. cond (x.account == other) x.last_commit n) (last_commit_taken-without_other account other xs differ))
 
 pub length-without : (account : ℕ) (list : List Taken) → 1 ≤ times_held account list → length (without account list) + 1 ≡ length list
 length-without account [] has = absurd (omega arith)

@@ -23,7 +23,7 @@ use Rattle.lock_core.proofs.Meeting.{MeetsTests}
 use Rattle.lock_core.proofs.OneMore.{of_transaction-same, has_commit-unended, total-plain, total-commit, last_commit_of-plain, last_commit_of-commit}
 use Rattle.lock_core.proofs.Running.{AgreesOn, planned_from-agrees, planned_records-without_prev, planned_records-outcome, all_without_prev-in_order, no_commit}
 use Rattle.lock_core.proofs.SerialFronts.{IsRunPartly}
-use Rattle.lock_core.proofs.SettlingLemmas.{moved-untouched}
+use Rattle.lock_core.proofs.ChangesLemmas.{moved-untouched}
 use Rattle.log_rule.specs.declared.view.Taken.{Taken}
 use Rattle.log_rule.specs.declared.view.Books.{Books}
 use Rattle.log_rule.specs.Books.{task_of, times_held, balance_taken, last_commit_taken, plan_of, IsNext, HoldsLeg, HoldsAccounts, IsNote, MayEnter, placing}
@@ -98,8 +98,8 @@ module _ (base : BaseState) (words : ℕ → ℕ) (h : List Placed) (all : List 
     last_commit-taken account has =
         let f = found (Follows base h mine.placed) account mine.held has (s.held me mine at) in
         let old : Follows base h mine.placed f.held = f.known in
-        f.mark ∙ (sym (ap (λ b. cond (b && touches f.held.account (changes_in before)) (end_from 0 mine.placed) f.held.mark) uncommitted)
-        ∙ (sym old.mark ∙ ap (last_commit_of base h) f.is))
+        f.last_commit ∙ (sym (ap (λ b. cond (b && touches f.held.account (changes_in before)) (end_from 0 mine.placed) f.held.last_commit) uncommitted)
+        ∙ (sym old.last_commit ∙ ap (last_commit_of base h) f.is))
 
     in-range : (account : ℕ) → balance_taken mine.held account ≤ MOST_BALANCE
     in-range account = dite (dec_le 1 (times_held account mine.held))
@@ -115,7 +115,7 @@ module _ (base : BaseState) (words : ℕ → ℕ) (h : List Placed) (all : List 
       same-plain account = record {
         added = total-plain gain account entry h plain uncommitted-here;
         taken = total-plain loss account entry h plain uncommitted-here;
-        mark = last_commit_of-plain base entry h account plain;
+        last_commit = last_commit_of-plain base entry h account plain;
       }
 
       range-plain : AreInRange base (entry ∷ h)
@@ -131,8 +131,8 @@ module _ (base : BaseState) (words : ℕ → ℕ) (h : List Placed) (all : List 
           let down' : moved_if_committed loss held.account (entry ∷ mine.placed) ≡ 0 = ap (λ b. cond b (moved loss held.account (changes_in (recs_of (entry ∷ mine.placed)))) 0) none in
           record {
             balance = omega arith;
-            mark = same.mark ∙ (old.mark ∙ (ap (λ b. cond (b && touches held.account (changes_in before)) (end_from 0 mine.placed) held.mark) uncommitted
-                ∙ sym (ap (λ b. cond (b && touches held.account (changes_in (recs_of (entry ∷ mine.placed)))) entry.end held.mark) none)));
+            last_commit = same.last_commit ∙ (old.last_commit ∙ (ap (λ b. cond (b && touches held.account (changes_in before)) (end_from 0 mine.placed) held.last_commit) uncommitted
+                ∙ sym (ap (λ b. cond (b && touches held.account (changes_in (recs_of (entry ∷ mine.placed)))) entry.end held.last_commit) none)));
           }) (s.held me mine at)
 
       passes-plain : MeetsTests base h entry → (IsGenesis entry.rec → ⊥) → IsRunPartly base (entry ∷ h) task
@@ -229,7 +229,7 @@ module _ (base : BaseState) (words : ℕ → ℕ) (h : List Placed) (all : List 
         let off = untouched Mine (last_commit_taken mine.held) (changes_in before) account none all-marked in
         let added = sums gain account in let taken = sums loss account in
         let up = moved-untouched gain account (changes_in before) off in let down = moved-untouched loss account (changes_in before) off in
-        record { added = omega arith; taken = omega arith; mark = last-is account ∙ ap (λ b. cond b end (last_commit_of base h account)) off }
+        record { added = omega arith; taken = omega arith; last_commit = last-is account ∙ ap (λ b. cond b end (last_commit_of base h account)) off }
 
     range-commit : AreInRange base (commit ∷ h)
     range-commit account below = dite (dec_le 1 (times_held account mine.held))
@@ -243,8 +243,8 @@ module _ (base : BaseState) (words : ℕ → ℕ) (h : List Placed) (all : List 
         (λ held old. let added = sums gain held.account in let taken = sums loss held.account in let balance = old.balance in
         let up = nothing unended gain held.account in let down = nothing unended loss held.account in record {
           balance = omega arith;
-          mark = last-is held.account ∙ ap (λ n. cond (touches held.account (changes_in before)) end n)
-              (old.mark ∙ ap (λ b. cond (b && touches held.account (changes_in before)) (end_from 0 mine.placed) held.mark) (uncommitted unended));
+          last_commit = last-is held.account ∙ ap (λ n. cond (touches held.account (changes_in before)) end n)
+              (old.last_commit ∙ ap (λ b. cond (b && touches held.account (changes_in before)) (end_from 0 mine.placed) held.last_commit) (uncommitted unended));
         }) (s.held me mine at)
 
     pub commit-enters : AccountsFollowList base words (commit ∷ h) (set all me (placing end (Commit txn legs) mine))
@@ -318,11 +318,11 @@ module _ (base : BaseState) (words : ℕ → ℕ) (all : List Books) (me : ℕ) 
     (at : get_elem? all me ≡ some mine) where
   marks-fit : (account : ℕ) → last_commit_taken mine.held account ≤ LAST
   marks-fit account = last_commit_taken-all (λ m. m ≤ LAST) account mine.held (omega arith)
-      (all-weaker (IsAsTaken base.accounts words) (λ (held : Taken). held.mark ≤ LAST) mine.held
-      (λ held t. subst (λ m. m ≤ LAST) t.mark (mark-fits (words held.account))) (holder.taken me mine at))
+      (all-weaker (IsAsTaken base.accounts words) (λ (held : Taken). held.last_commit ≤ LAST) mine.held
+      (λ held t. subst (λ m. m ≤ LAST) t.last_commit (last_commit-fits (words held.account))) (holder.taken me mine at))
     where
-      mark-fits : (word : ℕ) → last_commit_in word ≤ LAST
-      mark-fits word = grind (arith)
+      last_commit-fits : (word : ℕ) → last_commit_in word ≤ LAST
+      last_commit-fits word = grind (arith)
 
   module _ (some_job : 1 ≤ mine.last.number) where
     allowed : MayBeTaken base.accounts mine.last

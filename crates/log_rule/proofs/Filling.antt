@@ -174,7 +174,7 @@ module _ (key : Start) (words : Words) (views : List View) (me : ℕ) (v : View)
   below_tail : entry.start + entry.size ≤ words.tail
   below_tail = laid-le _ _ last.behind (laid-mid _ _ last.before last.behind old_part laid).2
 
-  -- a run that is not released is not below exposed
+  -- a range that is not released is not below exposed
   above_exposed : words.exposed ≤ entry.start
   above_exposed = elim
       (dec_le words.exposed entry.start) [
@@ -365,7 +365,7 @@ module _ (key : Start) (words : Words) (views : List View) (me : ℕ) (v : View)
         (subst (λ l. Tiles (key.ring / 4) key.start l words.tail) split (all-tile _ _ _ _ _ log s.contiguous))
         ∙ (λ i. map (filled_at (base-is i)) (map (reservation_of log.parts) (sym split i))))
 
--- a run that the seat alone has reserved
+-- a range that the seat alone has reserved
 run-fills : (groups : ℕ → Group) (seat : ℕ) (entry : Entry) (unit : ℕ) (old : Call) → old ≡ Filling entry
     → FillsEntry groups seat entry unit old (Filling (with_unit unit entry))
 run-fills groups seat entry unit old is =

@@ -111,7 +111,7 @@ starts-free base words few first = record {
     range = λ account below. (base.balance account, (first account below).3, refl);
     placed = everywhere-one (Ties []) no_books (λ some_job. absurd (omega arith));
     last = everywhere-one Lasts no_books (λ some_job. absurd (omega arith));
-    free = λ account below free. let f = first account below in let is = f.1 in record { balance = omega arith; mark = sym f.2 };
+    free = λ account below free. let f = first account below in let is = f.1 in record { balance = omega arith; last_commit = sym f.2 };
     held = everywhere-one (FollowsAll base []) no_books tt;
     given = everywhere-one (AllWentBack base []) no_books tt;
     runs = everywhere-one (RunsPartly base []) no_books tt;

@@ -21,12 +21,12 @@ use Rattle.log_record.specs.declared.rec.Placed.{Placed}
 use Rattle.log_record.specs.Spelling.{IsBalance}
 use Rattle.lock_core.specs.History.{history_from}
 use Rattle.lock_core.specs.Records.{loss}
-use Rattle.lock_core.specs.Settling.{row}
+use Rattle.lock_core.specs.AccountRows.{row}
 use Rattle.lock_core.specs.Sums.{BaseState, IsBalanceOf, last_commit_of, total}
 use Rattle.log_rule.specs.declared.view.Books.{Books}
 use Rattle.log_rule.specs.Accounts.{summed, holders, takers, HasDistinctJobs, WentBack, AccountsFollowList}
 use Rattle.log_rule.specs.Books.{task_of, times_held, times_taken}
-use Rattle.log_rule.specs.Closing.{HasHeardOfWorkers, IsGathered, IsLedger, IsSettled, ReadsRows, records_of, history_of, in_use}
+use Rattle.log_rule.specs.Closing.{HasHeardOfWorkers, IsGathered, IsLedger, HasLedger, ReadsRows, records_of, history_of, in_use}
 use Rattle.log_rule.specs.Layout.{Account, Slot, index_of}
 use Rattle.log_rule.proofs.GatheredSeats.{all-jobs_run}
 use Rattle.log_rule.specs.Log.{Part, Log, own, part_of, parts_of, IsSpelled, ranges_of, Laid, IsFull, IsFullIfReleased, AgreesFrom, IsRangeBoundary, IsEntryBoundary, SpellsRecord, records_in}
@@ -125,7 +125,7 @@ summed-only amount tell (z ∷ zs) (suc me) v at none =
 -- the row has what the list says of the account
 record IsRow (base : BaseState) (h : List Placed) (account : ℕ) (values : ℕ × ℕ) : Type 0 where
   balance : IsBalanceOf base h account values.0
-  mark : last_commit_of base h account ≡ values.1
+  last_commit : last_commit_of base h account ≡ values.1
 
 module _ (key : Start) (words : Words) (views : List View) (me : ℕ) (v : View) (log : Log) (s : IsSound key words views log)
     (at : get_elem? views me ≡ some v) (may : MayClose v) where
@@ -251,9 +251,9 @@ module _ (key : Start) (words : Words) (views : List View) (me : ℕ) (v : View)
   records-are : history_in key log.parts ≡ history_of (base_of key) v.entries
   records-are = ap (history_from key.start []) (ap records_in parts-are ∙ records-entries me v.entries)
 
-  pub settles : (ws : List ℕ) (old rows : List (ℕ × ℕ)) → words ≡ words_in key ws → length old ≡ length key.accounts.rows → ReadsRows key.ring key.slots (length old) ws old rows
-      → IsSettled (base_of key) v rows
-  settles ws old rows words-are same reads = record {
+  pub has-ledger : (ws : List ℕ) (old rows : List (ℕ × ℕ)) → words ≡ words_in key ws → length old ≡ length key.accounts.rows → ReadsRows key.ring key.slots (length old) ws old rows
+      → HasLedger (base_of key) v rows
+  has-ledger ws old rows words-are same reads = record {
     count = reads.count ∙ same;
     ledger = λ distinct. let f = s.accounts.follows (no-job-twice distinct) in
         subst (λ h. IsLedger (base_of key) h (map task_of v.books.jobs) rows) records-are record {
@@ -265,7 +265,7 @@ module _ (key : Start) (words : Words) (views : List View) (me : ℕ) (v : View)
                 let r = f.range account (omega (arith, reads.count, same)) in let is = up.balance in let sum = r.2 in
                 subst IsBalance (same-balance r.0 (row rows account).0 (total loss account (history_in key log.parts)) _ sum is) r.1;
             balance = λ account below. (up-to-date f account (omega (arith, reads.count, same))).balance;
-            last = λ account below. sym (up-to-date f account (omega (arith, reads.count, same))).mark;
+            last = λ account below. sym (up-to-date f account (omega (arith, reads.count, same))).last_commit;
           };
         };
     given = λ distinct. subst (λ h. AllByRecursion (WentBack (base_of key) h) v.books.given) records-are
@@ -288,7 +288,7 @@ module _ (key : Start) (words : Words) (views : List View) (me : ℕ) (v : View)
           let row-is = reads.each account (subst (λ n. account < n) (sym same) below) in
           record {
             balance = subst (IsBalanceOf (base_of key) (history_in key log.parts) account) (ap balance_in word-is ∙ sym (ap (λ (r : ℕ × ℕ). r.0) row-is)) old'.balance;
-            mark = old'.mark ∙ (ap last_commit_in word-is ∙ sym (ap (λ (r : ℕ × ℕ). r.1) row-is));
+            last_commit = old'.last_commit ∙ (ap last_commit_in word-is ∙ sym (ap (λ (r : ℕ × ℕ). r.1) row-is));
           }
 
 -- what the words of a closed table held
@@ -296,7 +296,7 @@ pub record IsClosed (key : Start) (ws : List ℕ) (tail exposed : ℕ) (v : View
   pub small : tail ≤ LAST
   pub released : exposed ≡ tail
   pub gathered : IsGathered tail v
-  pub settled : (old rows : List (ℕ × ℕ)) → length old ≡ length key.accounts.rows → ReadsRows key.ring key.slots (length old) ws old rows → IsSettled (base_of key) v rows
+  pub accounts : (old rows : List (ℕ × ℕ)) → length old ≡ length key.accounts.rows → ReadsRows key.ring key.slots (length old) ws old rows → HasLedger (base_of key) v rows
   pub heard : HasHeardOfWorkers v
   pub empty : in_use key.ring key.slots ws ≡ 0
 
@@ -314,7 +314,7 @@ closes key me v ws xs tail exposed final may tail-at exposed-at =
       small = subst (λ n. n ≤ LAST) tail-is s.ordered.within_log;
       released = sym exposed-is ∙ (all_exposed key words state.views me v log s at may ∙ tail-is);
       gathered = subst (λ n. IsGathered n v) tail-is (gathers key words state.views me v log s at may);
-      settled = λ old rows same reads. settles key words state.views me v log s at may ws old rows (ap (words_in key) final.2) same reads;
+      accounts = λ old rows same reads. has-ledger key words state.views me v log s at may ws old rows (ap (words_in key) final.2) same reads;
       heard = s.heard me v at me v at may.flusher;
       empty = none-in_use key.ring key.slots ws (λ slot below.
           sym (ap (λ l. (words_in key l).slot slot) final.2

@@ -93,8 +93,8 @@ module _ (base : BaseState) (words : ℕ → ℕ) (h : List Placed) (all : List 
         let old : Follows base h mine.placed f.held = f.known in
         let is = follows-balance in let gives = may.values.balance_is in record {
           balance = omega arith;
-          mark = subst (λ a. last_commit_of base h a ≡ commit_in mine.placed a f.held.mark) f.is old.mark
-              ∙ (ap (commit_in mine.placed account) (sym f.mark) ∙ sym may.values.last_commit_is);
+          last_commit = subst (λ a. last_commit_of base h a ≡ commit_in mine.placed a f.held.last_commit) f.is old.last_commit
+              ∙ (ap (commit_in mine.placed account) (sym f.last_commit) ∙ sym may.values.last_commit_is);
         }
 
     -- with no Commit of the job in the log, the balance as it was taken is that of the whole list

@@ -27,12 +27,12 @@ use Rattle.log_rule.proofs.Lists.{all-both, all-weaker}
 pub record IsSameAt (base : BaseState) (h : List Placed) (entry : Placed) (account : ℕ) : Type 0 where
   pub added : total gain account (entry ∷ h) ≡ total gain account h
   pub taken : total loss account (entry ∷ h) ≡ total loss account h
-  pub mark : last_commit_of base (entry ∷ h) account ≡ last_commit_of base h account
+  pub last_commit : last_commit_of base (entry ∷ h) account ≡ last_commit_of base h account
 
 follows-same : (base : BaseState) (h placed : List Placed) (entry : Placed) (held : Taken) → IsSameAt base h entry held.account → Follows base h placed held
     → Follows base (entry ∷ h) placed held
 follows-same base h placed entry held same old =
-    let added = same.added in let taken = same.taken in let balance = old.balance in record { balance = omega arith; mark = same.mark ∙ old.mark }
+    let added = same.added in let taken = same.taken in let balance = old.balance in record { balance = omega arith; last_commit = same.last_commit ∙ old.last_commit }
 
 -- a front of the list stays one
 still-back : (base : BaseState) (h : List Placed) (entry : Placed) (given : Given) → WentBack base h given → WentBack base (entry ∷ h) given
@@ -105,7 +105,7 @@ module _ (base : BaseState) (words : ℕ → ℕ) (h : List Placed) (all : List 
     last = everywhere-set Lasts all me new s.last (s.last me mine at);
     free = λ account below free. let old = s.free account below free in
         let now = same account (free-unheld base.accounts words all holder me mine at account below free) in
-        let added = now.added in let taken = now.taken in let balance = old.balance in record { balance = omega arith; mark = now.mark ∙ old.mark };
+        let added = now.added in let taken = now.taken in let balance = old.balance in record { balance = omega arith; last_commit = now.last_commit ∙ old.last_commit };
     held = everywhere-moves (λ (b : Books). AllByRecursion (Follows base h b.placed) b.held)
         (λ (b : Books). AllByRecursion (Follows base (entry ∷ h) b.placed) b.held) all me new s.held
         follows

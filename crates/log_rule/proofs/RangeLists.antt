@@ -190,7 +190,7 @@ filled_in-apart from to base size (p ∷ ps) l h =
     filled-none base size p.entry (⊎_elim (λ low. inl (omega (arith, l.0, l.1, end, low))) (λ high. inr (omega (arith, l.0, high))) h) in
     omega (arith, none, filled_in-apart (from + p.entry.size) to base size ps l.2 (⊎_elim (λ low. inl low) (λ high. inr (omega (arith, high))) h))
 
--- in the run of one part, its units alone are counted
+-- in the range of one part, its units alone are counted
 pub filled_in-one : (from to : ℕ) (ls rs : List Part) (p : Part) → Laid from (ls ++ p ∷ rs) to
     → filled_in p.entry.start p.entry.size (ls ++ p ∷ rs) ≡ length p.entry.units
 filled_in-one from to ls rs p l =

@@ -15,9 +15,9 @@ use Rattle.log_rule.specs.Sound.{EachView, HasSeenBoundaries, SendsIfFlusher, St
 use Rattle.log_rule.specs.Views.{flusher, nobody}
 use Rattle.log_rule.specs.Words.{Words, words_in}
 use Rattle.slot_word.specs.AccountWord.{packed, held_in, balance_in, last_commit_in}
-use Rattle.slot_word.proofs.AccountWordLemmas.{held_back, balance_back, mark_back}
+use Rattle.slot_word.proofs.AccountWordLemmas.{held_back, balance_back, last_commit_back}
 use Rattle.log_record.specs.Spelling.{IsBalance}
-use Rattle.lock_core.specs.Settling.{row}
+use Rattle.lock_core.specs.AccountRows.{row}
 use Rattle.log_rule.specs.Accounts.{KeepsAccounts}
 use Rattle.log_rule.specs.Books.{no_books}
 use Rattle.log_rule.specs.Layout.{Mark, Slot, Account, index_of, word_count}
@@ -190,11 +190,11 @@ start-allowed key ws zeros least most small has zero-is puts = (
     first : (account : ℕ) → account < count → (held_in ((words_in key ws).account account) ≡ false)
         × (balance_in ((words_in key ws).account account) ≡ (base_of key).balance account)
         × (last_commit_in ((words_in key ws).account account) ≡ (base_of key).last_commit account) × IsBalance ((base_of key).balance account)
-    first account below = let range = has.balances account below in let mark = has.marks account below in
+    first account below = let range = has.balances account below in let last = has.last_commits account below in
         let is : (words_in key ws).account account ≡ packed false (row key.accounts.rows account).0 (row key.accounts.rows account).1 =
         ap (λ (t : Bool). cond t (get_or ws (index_of key.ring key.slots (Account account)) 0) 0) (lt-ltb account count below) ∙ puts.each account below in (
           ap held_in is ∙ held_back false _ _ (omega arith) (omega arith),
           ap balance_in is ∙ balance_back false _ _ (omega arith) (omega arith),
-          ap last_commit_in is ∙ mark_back false _ _ (omega arith) (omega arith),
+          ap last_commit_in is ∙ last_commit_back false _ _ (omega arith) (omega arith),
           range,
         )

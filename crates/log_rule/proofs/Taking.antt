@@ -34,7 +34,7 @@ as_taken-else accounts words account word held differ old = let same = put-else 
   known = old.known;
   taken = ap held_in same ∙ old.taken;
   balance = ap balance_in same ∙ old.balance;
-  mark = ap last_commit_in same ∙ old.mark;
+  last_commit = ap last_commit_in same ∙ old.last_commit;
 }
 
 pub free-else : (base : BaseState) (h : List Placed) (words : ℕ → ℕ) (account word other : ℕ) → other ≢ account
@@ -119,8 +119,8 @@ module _ (base : BaseState) (words : ℕ → ℕ) (h : List Placed) (all : List 
 
   -- a free account, whose word is then held with the same values
   module _ (held : Taken) (word : ℕ) (known : held.account < base.accounts) (free : held_in (words held.account) ≡ false)
-      (balance : balance_in (words held.account) ≡ held.balance) (mark : last_commit_in (words held.account) ≡ held.mark)
-      (is-held : held_in word ≡ true) (balance' : balance_in word ≡ held.balance) (mark' : last_commit_in word ≡ held.mark) where
+      (balance : balance_in (words held.account) ≡ held.balance) (last_commit : last_commit_in (words held.account) ≡ held.last_commit)
+      (is-held : held_in word ≡ true) (balance' : balance_in word ≡ held.balance) (last_commit' : last_commit_in word ≡ held.last_commit) where
     abbrev new' : Books
     new' = taking held mine
 
@@ -148,7 +148,7 @@ module _ (base : BaseState) (words : ℕ → ℕ) (h : List Placed) (all : List 
               known = known;
               taken = ap held_in (put-same words held.account word held.account refl) ∙ is-held;
               balance = ap balance_in (put-same words held.account word held.account refl) ∙ balance';
-              mark = ap last_commit_in (put-same words held.account word held.account refl) ∙ mark';
+              last_commit = ap last_commit_in (put-same words held.account word held.account refl) ∙ last_commit';
             },
             others-taken mine (s.taken me mine at),
           ) others-taken;
@@ -165,7 +165,7 @@ module _ (base : BaseState) (words : ℕ → ℕ) (h : List Placed) (all : List 
           let down : moved_if_committed loss held.account mine.placed ≡ 0 = ap (λ b. cond b (moved loss held.account (changes_in (recs_of mine.placed))) 0) uncommitted in
           record {
             balance = omega arith;
-            mark = old.mark ∙ (mark ∙ sym (ap (λ b. cond (b && touches held.account (changes_in (recs_of mine.placed))) (end_from 0 mine.placed) held.mark) uncommitted));
+            last_commit = old.last_commit ∙ (last_commit ∙ sym (ap (λ b. cond (b && touches held.account (changes_in (recs_of mine.placed))) (end_from 0 mine.placed) held.last_commit) uncommitted));
           }
 
       account-follows : AccountsFollowList base words' h (set all me new')

@@ -27,7 +27,7 @@ saw_account account word view = record view { seen = seen_account account word v
 
 -- the account with the values of the word
 abbrev pub held_as : ℕ → ℕ → Taken
-held_as account word = record { account = account; balance = balance_in word; mark = last_commit_in word }
+held_as account word = record { account = account; balance = balance_in word; last_commit = last_commit_in word }
 
 -- after an exchange of an account's word that took the account
 abbrev pub took_account : ℕ → ℕ → View → View

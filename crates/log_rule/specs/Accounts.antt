@@ -42,7 +42,7 @@ pub record IsAsTaken (accounts : ℕ) (words : ℕ → ℕ) (held : Taken) : Typ
   pub known : held.account < accounts
   pub taken : held_in (words held.account) ≡ true
   pub balance : balance_in (words held.account) ≡ held.balance
-  pub mark : last_commit_in (words held.account) ≡ held.mark
+  pub last_commit : last_commit_in (words held.account) ≡ held.last_commit
 
 -- a job that may be taken
 pub record MayBeTaken (accounts : ℕ) (taken : TakenJob) : Type 0 where
@@ -68,20 +68,20 @@ moved_if_committed side account entries =
 
 -- the end of the last Commit on an account, where one of these records is it, else this
 abbrev pub commit_in : List Placed → ℕ → ℕ → ℕ
-commit_in entries account mark =
-    if has_commit (recs_of entries) && touches account (changes_in (recs_of entries)) then end_from 0 entries else mark
+commit_in entries account last_commit =
+    if has_commit (recs_of entries) && touches account (changes_in (recs_of entries)) then end_from 0 entries else last_commit
 
 -- With what the seat's last job made of it by its Commit, the balance as it was taken is the balance of the whole list, and so is the
 -- last Commit.
 pub record Follows (base : BaseState) (h placed : List Placed) (held : Taken) : Type 0 where
   pub balance : held.balance + moved_if_committed gain held.account placed + total loss held.account h
       ≡ base.balance held.account + total gain held.account h + moved_if_committed loss held.account placed
-  pub mark : last_commit_of base h held.account ≡ commit_in placed held.account held.mark
+  pub last_commit : last_commit_of base h held.account ≡ commit_in placed held.account held.last_commit
 
 -- the values of a free account's word are those of the whole list
 pub record IsUpToDate (base : BaseState) (h : List Placed) (account word : ℕ) : Type 0 where
   pub balance : IsBalanceOf base h account (balance_in word)
-  pub mark : last_commit_of base h account ≡ last_commit_in word
+  pub last_commit : last_commit_of base h account ≡ last_commit_in word
 
 -- The account's balance as it was taken is that of some front of the list, which ends at or above the tail as the seat had seen it when
 -- it gave the account back.
@@ -118,9 +118,9 @@ pub record KeepsAccounts (base : BaseState) (words : ℕ → ℕ) (h : List Plac
 
 -- An account goes back as the job that placed these records left it: where the job has no Commit, with the balance and the last Commit
 -- as they were taken, and else with the balance as the job changed it, and with the end of its Commit if it has a change of the account.
-pub record FollowsJob (account balance mark taken_balance taken_last_commit : ℕ) (placed : List Placed) : Type 0 where
+pub record FollowsJob (account balance last_commit taken_balance taken_last_commit : ℕ) (placed : List Placed) : Type 0 where
   pub balance_is : balance + moved_if_committed loss account placed ≡ taken_balance + moved_if_committed gain account placed
-  pub last_commit_is : mark ≡ commit_in placed account taken_last_commit
+  pub last_commit_is : last_commit ≡ commit_in placed account taken_last_commit
 
 -- the seat holds the account, and may give it back with the values of the word
 pub record MayGive (account word : ℕ) (books : Books) : Type 0 where

@@ -41,7 +41,7 @@ balance_taken (held ∷ more) account = if held.account == account then held.bal
 -- the end of its last Commit as it was taken
 abbrev pub last_commit_taken : List Taken → ℕ → ℕ
 last_commit_taken [] account = 0
-last_commit_taken (held ∷ more) account = if held.account == account then held.mark else last_commit_taken more account
+last_commit_taken (held ∷ more) account = if held.account == account then held.last_commit else last_commit_taken more account
 
 -- all records of the seat's last job, run alone on the balances and last Commits as they were taken
 abbrev pub plan_of : Books → List Rec

@@ -12,7 +12,7 @@ use Rattle.log_record.specs.declared.rec.Placed.{Placed}
 use Rattle.lock_core.specs.History.{history_from}
 use Rattle.lock_core.specs.Lawful.{IsLawful}
 use Rattle.lock_core.specs.Serial.{NumberedTransfer, IsPartlySerialAfter}
-use Rattle.lock_core.specs.Settling.{row, KeepsRows}
+use Rattle.lock_core.specs.AccountRows.{row, KeepsRows}
 use Rattle.lock_core.specs.Sums.{BaseState, as_opening}
 use Rattle.log_rule.specs.Accounts.{WentBack}
 use Rattle.log_rule.specs.Books.{task_of, times_taken}
@@ -49,7 +49,7 @@ pub record IsLedger (base : BaseState) (h : List Placed) (tasks : List NumberedT
 
 -- There is a row for each account. Where no number of the gathered jobs stands twice, the gathered list is their ledger, and each account
 -- that was given back uncommitted had the balance of a front of that list.
-pub record IsSettled (base : BaseState) (view : View) (rows : List (ℕ × ℕ)) : Type 0 where
+pub record HasLedger (base : BaseState) (view : View) (rows : List (ℕ × ℕ)) : Type 0 where
   pub count : length rows ≡ base.accounts
   pub ledger : ((number : ℕ) → times_taken number view.books.jobs ≤ 1)
       → IsLedger base (history_of base view.entries) (map task_of view.books.jobs) rows

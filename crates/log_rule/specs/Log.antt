@@ -8,7 +8,7 @@ use Rattle.log_record.specs.Spelling.{spelling, IsSpellable}
 use Rattle.log_rule.specs.declared.view.Entry.{Entry}
 use Rattle.log_rule.specs.Groups.{Group}
 
--- a run of units, the number of the seat that owns it, and whether that seat has released it
+-- a range of units, the number of the seat that owns it, and whether that seat has released it
 pub record Part : Type 0 where
   pub owner : ℕ
   pub entry : Entry

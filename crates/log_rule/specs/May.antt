@@ -65,7 +65,7 @@ pub record MayTake (account : ℕ) (from to : AccountWord) (view : View) : Type 
   pub free : from.held ≡ false
   pub taken : to.held ≡ true
   pub balance : to.balance ≡ from.balance
-  pub mark : to.mark ≡ from.mark
+  pub last_commit : to.mark ≡ from.mark
 
 -- where the seat holds the account, the word is held, with the values as it took them
 abbrev pub IsOwnWord : ℕ → ℕ → Books → Type 0
@@ -115,7 +115,7 @@ pub record MayPlaceGroup (from to : ℕ) (view : View) : Type 0 where
 abbrev pub MayExchangeTail : ℕ → ℕ → View → Type 0
 MayExchangeTail from to view = MayReserve from to view ⊎ MayPlaceGroup from to view
 
--- the unit at this LSN is the next to be filled of the run that the seat has reserved, and this is the record's
+-- the unit at this LSN is the next to be filled of the range that the seat has reserved, and this is the record's
 pub record MayFillRun (at unit : ℕ) (view : View) : Type 0 where
   pub entry : Entry
   pub filling : view.call ≡ Filling entry
@@ -138,7 +138,7 @@ pub record MayFillPiece (slots at unit : ℕ) (view : View) : Type 0 where
 abbrev pub MayFill : ℕ → ℕ → ℕ → View → Type 0
 MayFill slots at unit view = MayFillRun at unit view ⊎ MayFillPiece slots at unit view
 
--- the run that the seat has reserved is full, begins at the one LSN and ends at the other
+-- the range that the seat has reserved is full, begins at the one LSN and ends at the other
 pub record MayMarkRun (base end : ℕ) (view : View) : Type 0 where
   pub entry : Entry
   pub filling : view.call ≡ Filling entry

@@ -2,7 +2,7 @@
 use Rattle.std.specs.Prelude.{◌≡◌, ℕ, ◌+◌, ◌*◌, ◌<◌, ◌≤◌, false, List, length, slice_index}
 use Rattle.slot_word.specs.AccountWord.{packed}
 use Rattle.log_record.specs.declared.limits.TheConstants.{MOST_ACCOUNTS}
-use Rattle.lock_core.specs.Settling.{row, AreRowsInRange}
+use Rattle.lock_core.specs.AccountRows.{row, AreRowsInRange}
 use Rattle.log_rule.specs.declared.layout.TheConstants.{STRIDE, RING}
 use Rattle.log_rule.specs.declared.start.Start.{Start}
 use Rattle.log_rule.specs.Layout.{Account, index_of}
@@ -12,7 +12,7 @@ pub record HasAccounts (key : Start) : Type 0 where
   pub some_accounts : 1 ≤ length key.accounts.rows
   pub few : length key.accounts.rows ≤ MOST_ACCOUNTS
   pub balances : AreRowsInRange key.accounts.rows
-  pub marks : (account : ℕ) → account < length key.accounts.rows → (row key.accounts.rows account).1 ≤ key.start
+  pub last_commits : (account : ℕ) → account < length key.accounts.rows → (row key.accounts.rows account).1 ≤ key.start
 
 -- the words of the first n accounts are free with their balances and last commits, and the words before the accounts are as they were
 pub record PutsAccounts (key : Start) (n : ℕ) (old new : List ℕ) : Type 0 where

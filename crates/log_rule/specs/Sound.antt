@@ -14,7 +14,7 @@ use Rattle.log_rule.specs.declared.view.Standing.{Standing}
 use Rattle.log_rule.specs.declared.view.View.{View}
 use Rattle.log_record.specs.declared.rec.Placed.{Placed}
 use Rattle.lock_core.specs.History.{history_from}
-use Rattle.lock_core.specs.Settling.{row}
+use Rattle.lock_core.specs.AccountRows.{row}
 use Rattle.lock_core.specs.Sums.{BaseState}
 use Rattle.log_rule.specs.declared.view.Books.{Books}
 use Rattle.log_rule.specs.Accounts.{KeepsAccounts}

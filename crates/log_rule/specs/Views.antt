@@ -77,7 +77,7 @@ nobody = record {
   books = no_books;
 }
 
--- the run that the call under way fills
+-- the range that the call under way fills
 abbrev pub run_in : Call → List Entry
 run_in Idle = []
 run_in (Filling entry) = entry ∷ []
@@ -138,7 +138,7 @@ seen_exposed n seen = record seen { steps = seen.steps + 1; exposed = n; exposed
 abbrev pub seen_durable : ℕ → Seen → Seen
 seen_durable n seen = record seen { steps = seen.steps + 1; durable = n; durable_step = seen.steps + 1; lsns = n ∷ seen.lsns }
 
--- a run for the record with no unit filled
+-- a range for the record with no unit filled
 abbrev pub empty_entry : ℕ → ℕ → Rec → Entry
 empty_entry start size rec = record { start = start; size = size; units = []; rec = rec }
 

@@ -5,7 +5,7 @@ use lock_core::Job;
 use log_record::Rec;
 use std::collections::LinkedList;
 
-/// A record for which one seat reserved a run of units: from `start` on, `size` of them, of which
+/// A record for which one seat reserved a range: from `start` on, `size` of them, of which
 /// `units` are copied into the ring so far.
 pub struct Entry {
     pub start: u64,
@@ -17,7 +17,7 @@ pub struct Entry {
 /// The call that a seat has under way.
 pub enum Call {
     Idle,
-    /// A run is reserved, and being copied into the ring.
+    /// A range is reserved, and being copied into the ring.
     Filling(Entry),
     /// The seat has joined the group at a slot, and not released its piece.
     Joined {
@@ -31,7 +31,7 @@ pub enum Call {
         base: u64,
         total: u64,
     },
-    /// A run or a group's range was marked as released, and exposed was not looked at since.
+    /// The seat's range or a group's was marked as released, and exposed was not looked at since.
     Marked(After),
     /// Exposed as it was found or written last, where the mark there was not looked at since.
     Holding {
@@ -125,7 +125,7 @@ pub struct TakenJob {
 pub struct Taken {
     pub account: u64,
     pub balance: u64,
-    pub mark: u64,
+    pub last_commit: u64,
 }
 
 /// An account that a seat gave back: the number of the seat's last job then, the account with its balance
@@ -155,7 +155,7 @@ pub struct View {
     pub constants: Constants,
     pub standing: Standing,
     pub seen: Seen,
-    /// The runs that the seat reserved, filled and released, in order.
+    /// The ranges that the seat reserved, filled and released, in order.
     pub entries: LinkedList<Entry>,
     pub call: Call,
     /// Whether the seat, in a table with slots, has lost an exchange of the tail that it made alone, and has

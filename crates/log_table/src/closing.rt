@@ -1,8 +1,8 @@
 //! The end of a table, when all workers have ended and were merged.
 ghost use Rattle.std.specs.Prelude.{◌≡◌, ◌<◌, ◌≤◌, length};
 ghost use Rattle.lsn_space.specs.declared.lsn.TheConstants.{GREATEST_RING};
-ghost use Rattle.lock_core.specs.Settling.{row};
-ghost use Rattle.log_rule.specs.Closing.{HasHeardOfWorkers, IsGathered, IsSettled, in_use};
+ghost use Rattle.lock_core.specs.AccountRows.{row};
+ghost use Rattle.log_rule.specs.Closing.{HasHeardOfWorkers, IsGathered, HasLedger, in_use};
 ghost use Rattle.log_rule.specs.May.{MayClose};
 ghost use Rattle.log_table.specs.Seats.{IsOf, view_of, key_of};
 ghost use Rattle.log_rule.specs.Sound.{base_of};
@@ -98,7 +98,7 @@ impl LogTable {
         ensures gathered { IsGathered result.tail (view_of seat) }
         ensures released { result.exposed ≡ result.tail }
         ensures empty { result.in_use ≡ 0 }
-        ensures settled { IsSettled (base_of (key_of self)) (view_of seat) result.accounts.rows }
+        ensures accounts { HasLedger (base_of (key_of self)) (view_of seat) result.accounts.rows }
         ensures heard { HasHeardOfWorkers (view_of seat) }
     {
         let LogTable {

@@ -1,7 +1,7 @@
 -- The summary of a run: six lines, each a word and a number. A line ends with LF.
 use Rattle.std.specs.Prelude.{ℕ, ◌+◌, ◌*◌, List, ◌++◌, codes, length}
 use Rattle.lsn_space.specs.Number.{number_text}
-use Rattle.lock_core.specs.Settling.{row}
+use Rattle.lock_core.specs.AccountRows.{row}
 use Rattle.lock_core.specs.Sums.{sum_below}
 use Rattle.run_summary.specs.declared.summary.Counts.{Counts}
 

@@ -3,7 +3,7 @@ use Rattle.std.specs.Prelude.{ℕ, Bool, ◌+◌, ◌*◌, ◌/◌, ◌%◌, ◌
 use Rattle.slot_word.specs.declared.account_word.AccountWord.{AccountWord}
 
 abbrev pub packed : Bool → ℕ → ℕ → ℕ
-packed held balance mark = (if held then 2 ^ 63 else 0) + balance * 2 ^ 32 + mark
+packed held balance last_commit = (if held then 2 ^ 63 else 0) + balance * 2 ^ 32 + last_commit
 
 abbrev pub word_of : AccountWord → ℕ
 word_of account = packed account.held account.balance account.mark

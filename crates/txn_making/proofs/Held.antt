@@ -57,7 +57,7 @@ taken-behind books (holding ∷ holdings) held taken lacks holds = taken-behind 
     (held_of holding.taken ∷ held) taken lacks.1 record {
       has = omega (arith, holds.has);
       balance = (λ i. cond (other i) holding.taken.balance (balance_taken held taken.account)) ∙ holds.balance;
-      mark = (λ i. cond (other i) holding.taken.mark (last_commit_taken held taken.account)) ∙ holds.mark;
+      last_commit = (λ i. cond (other i) holding.taken.mark (last_commit_taken held taken.account)) ∙ holds.last_commit;
     }
   where
     other : (holding.taken.account == taken.account) ≡ false
@@ -69,7 +69,7 @@ pub taken-first : (books : Books) (holding : TakenAccount) (held : List TakenHer
 taken-first books holding held = record {
   has = subst (λ b. 1 ≤ cond b 1 0 + times_held holding.taken.account held) (sym same) (omega arith);
   balance = λ i. cond (same i) holding.taken.balance (balance_taken held holding.taken.account);
-  mark = λ i. cond (same i) holding.taken.mark (last_commit_taken held holding.taken.account);
+  last_commit = λ i. cond (same i) holding.taken.mark (last_commit_taken held holding.taken.account);
 }
   where
     same : (holding.taken.account == holding.taken.account) ≡ true

@@ -38,10 +38,10 @@ module _ (accounts number : ℕ) (leg : ℕ × ℕ × ℕ) (holdings : List Take
   marked : (units : List ℕ) (delta : ℤ) (account : ℕ) (holding : TakenAccount)
       → units ≡ spelling (Update number holding.taken.account delta holding.taken.mark) → Contains holdings holding
       → holding.taken.account ≡ account → units ≡ spelling (Update number account delta (last_commit_taken books.held account))
-  marked units delta account holding is has same = is ∙ (λ i. spelling (Update number (same i) delta (mark i)))
+  marked units delta account holding is has same = is ∙ (λ i. spelling (Update number (same i) delta (last_commit i)))
     where
-      mark : holding.taken.mark ≡ last_commit_taken books.held account
-      mark = sym (All-contains (λ (holding : TakenAccount). HoldsTaken holding.taken books) holdings holding may.taken has).mark
+      last_commit : holding.taken.mark ≡ last_commit_taken books.held account
+      last_commit = sym (All-contains (λ (holding : TakenAccount). HoldsTaken holding.taken books) holdings holding may.taken has).last_commit
           ∙ ap (last_commit_taken books.held) same
 
   next-less : IsNext less books

@@ -64,7 +64,7 @@ holds-behind accounts number job holdings books books' added placed holds = subs
       allowed = holds.allowed;
       all = holds.all;
       only = holds.only;
-      taken = λ k d within. let taken = holds.taken k d within in record { has = taken.has; balance = taken.balance; mark = taken.mark };
+      taken = λ k d within. let taken = holds.taken k d within in record { has = taken.has; balance = taken.balance; last_commit = taken.last_commit };
     }
 
 holds-same : (accounts number : ℕ) (job : Job) (old new : List TakenAccount) (books : Books) → map taken_of new ≡ map taken_of old
@@ -116,8 +116,8 @@ paid-now leg balances old new paid now k d within = let is = AllZip-get_or (IsAf
 module _ (accounts number : ℕ) (job : Job) (holdings : List TakenAccount) (books : Books) (i : ℕ)
     (holds : HoldsJob accounts number job holdings books)
     (stands : StandsBefore i number job holdings books) where
-  abbrev mark : ℕ → ℕ
-  mark = last_commit_taken books.held
+  abbrev last_commit : ℕ → ℕ
+  last_commit = last_commit_taken books.held
 
   abbrev balances : ℕ → ℕ
   balances = stands.balances
@@ -134,7 +134,7 @@ module _ (accounts number : ℕ) (job : Job) (holdings : List TakenAccount) (boo
   pub reaches-done : i ≡ length job.legs → ReachesEnd answer.Done number job holdings books
   reaches-done all = record {
     left = subst (λ (k : ℕ). IsLeft (Commit number k ∷ []) books) all (subst
-        (λ legs. IsLeft (planned_from number mark balances i legs) books) none stands.left);
+        (λ legs. IsLeft (planned_from number last_commit balances i legs) books) none stands.left);
     spellable = (holds.allowed.number, (holds.allowed.job.legs.some, holds.allowed.job.legs.few));
     outcome = sym (stands.outcome ∙ ap (λ legs. outcome_from i legs balances) none);
     moved = λ _ k d within. has-moved (get_or holdings k d) (holds.taken k d within) (stands.now k d within)
@@ -173,13 +173,13 @@ module _ (accounts number : ℕ) (job : Job) (holdings : List TakenAccount) (boo
     rest = drop (i + 1) job.legs
 
     abbrev behind : List Rec
-    behind = planned_from number mark (after_leg leg balances) (i + 1) rest
+    behind = planned_from number last_commit (after_leg leg balances) (i + 1) rest
 
     split : drop i job.legs ≡ leg ∷ rest
     split = subst (λ list. drop i list ≡ leg ∷ drop (i + 1) list) same (drop_more legs i (0, 0, 0) within)
 
-    left-at : IsLeft (planned_from number mark balances i (leg ∷ rest)) books
-    left-at = subst (λ legs. IsLeft (planned_from number mark balances i legs) books) split stands.left
+    left-at : IsLeft (planned_from number last_commit balances i (leg ∷ rest)) books
+    left-at = subst (λ legs. IsLeft (planned_from number last_commit balances i legs) books) split stands.left
 
     outcome-at : outcome_alone (transfer_of job) (balance_taken books.held) ≡ outcome_from i (leg ∷ rest) balances
     outcome-at = stands.outcome ∙ ap (λ legs. outcome_from i legs balances) split
@@ -249,7 +249,7 @@ module _ (accounts number : ℕ) (job : Job) (holdings : List TakenAccount) (boo
       fits : overfills leg balances ≡ false
       fits = le-ltb MOST_BALANCE (balances leg.1 + leg.2) room-left
 
-      left-leg : IsLeft (leg_records number mark leg ++ behind) books
+      left-leg : IsLeft (leg_records number last_commit leg ++ behind) books
       left-leg = subst (λ records. IsLeft records books) (cond-false (lacks leg balances) _ _ (has can.payer)
           ∙ cond-false (overfills leg balances) _ _ fits) left-at
 
@@ -268,20 +268,20 @@ module _ (accounts number : ℕ) (job : Job) (holdings : List TakenAccount) (boo
 
       -- the holdings after the leg, and the books once its Updates are placed
       module _ (holdings' : List TakenAccount) (paid : AllZip (IsAfter leg) holdings holdings') (books' : Books) (added : List Entry)
-          (placed : books' ≡ placing_all added books) (records-are : records_of added ≡ leg_records number mark leg) where
+          (placed : books' ≡ placing_all added books) (records-are : records_of added ≡ leg_records number last_commit leg) where
         held : books'.held ≡ books.held
         held = ap (λ (b : Books). b.held) placed
 
-        records' : recs_of books'.placed ≡ Update number leg.1 (pos leg.2) (mark leg.1) ∷ Update number leg.0
-            (neg_ℤ (pos leg.2)) (mark leg.0) ∷ recs_of books.placed
+        records' : recs_of books'.placed ≡ Update number leg.1 (pos leg.2) (last_commit leg.1) ∷ Update number leg.0
+            (neg_ℤ (pos leg.2)) (last_commit leg.0) ∷ recs_of books.placed
         records' = ap (λ (b : Books). recs_of b.placed) placed ∙ records-behind added books.placed
             ∙ ap (λ records. in_order records (recs_of books.placed)) records-are
 
         abbrev less : Change
-        less = record { account = leg.0; delta = neg_ℤ (pos leg.2); prev = mark leg.0 }
+        less = record { account = leg.0; delta = neg_ℤ (pos leg.2); prev = last_commit leg.0 }
 
         abbrev more : Change
-        more = record { account = leg.1; delta = pos leg.2; prev = mark leg.1 }
+        more = record { account = leg.1; delta = pos leg.2; prev = last_commit leg.1 }
 
         changes' : changes_by books' ≡ more ∷ less ∷ changes
         changes' = ap changes_in records'
@@ -308,8 +308,8 @@ module _ (accounts number : ℕ) (job : Job) (holdings : List TakenAccount) (boo
           sums = λ account. subst (λ (p : List TakenHere × List Change). after_leg leg balances account + moved loss account p.1
               ≡ balance_taken p.0 account + moved gain account p.1)
               (λ i. (sym held i, sym changes' i))
-              (leg-sums leg balances (balance_taken books.held) changes (mark leg.0)
-              (mark leg.1) account leg-allowed.two (covered can.payer) (stands.sums account));
+              (leg-sums leg balances (balance_taken books.held) changes (last_commit leg.0)
+              (last_commit leg.1) account leg-allowed.two (covered can.payer) (stands.sums account));
           touched = touched';
           uncommitted = uncommitted-behind added books books' placed (ap has_commit records-are) stands.uncommitted;
         }

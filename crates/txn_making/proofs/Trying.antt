@@ -66,7 +66,7 @@ module _ (first second third : Seat) (account : ℕ) (before : HasEntries first 
         idle = step.idle;
         contended = step.contended ∙ before.contended;
         entries_are = step.entries_are ∙ before.entries_are;
-        books_are = has.books ∙ (λ i. taking (record { account = sym has.account_is i; balance = taken.balance; mark = taken.mark }) (before.books_are i));
+        books_are = has.books ∙ (λ i. taking (record { account = sym has.account_is i; balance = taken.balance; last_commit = taken.mark }) (before.books_are i));
       }
 
   saw : (seen : Seen) → Becomes second third (record (view_of second) { seen = seen }) → (view_of second).seen.tail ≤ seen.tail

@@ -14,7 +14,8 @@ use Rattle.log_rule.specs.May.{HasBegunNothing}
 use Rattle.log_table.specs.Seats.{Becomes, view_of}
 use Rattle.ring_buffer.specs.Calls.{IsSameWorker, HasEntries}
 use Rattle.early_locks.specs.declared.taking.Taken.{Taken}
-use Rattle.early_locks.specs.Locks.{GivesBack, HasSeenDurable, held_of, given_at}
+use Rattle.log_rule.specs.Accounts.{FollowsJob}
+use Rattle.early_locks.specs.Locks.{HasSeenDurable, held_of, given_at}
 use Rattle.txn_jobs.specs.declared.accounts.TheConstants.{MOST_PARTIES}
 use Rattle.txn_parts.specs.declared.holding.TakenAccount.{TakenAccount}
 use Rattle.txn_parts.specs.declared.release.Release.{Release}
@@ -86,7 +87,8 @@ pub record TakesAll (accounts : List ℕ) (holdings : List TakenAccount) (old ne
 
 -- these are the values with which the account has to go back
 abbrev pub GoesBack : Release → Books → TakenAccount → Type 0
-GoesBack release books holding = GivesBack holding.taken (back_of release holding).0 (back_of release holding).1 books
+GoesBack release books holding = FollowsJob holding.taken.account (back_of release holding).0 (back_of release holding).1
+    holding.taken.balance holding.taken.mark books.placed
 
 -- the accounts given back one after another by a seat with this view, newest first, after those that were given back before
 abbrev pub given_behind : View → List TakenAccount → List Given → List Given

@@ -62,7 +62,7 @@ pub record AddsRecords (records : List Rec) (old new : Seat) : Type 0 where
   pub adds : Adds added old new
   pub records_are : records_of added ≡ records
 
--- the seat inserted these of the leg, with the marks as its accounts were taken
+-- the seat inserted these of the leg, with the last commits as its accounts were taken
 abbrev pub AddsLeg : ℕ → ℕ × ℕ × ℕ → Seat → Seat → Type 0
 AddsLeg number leg old new = AddsRecords (leg_records number (last_commit_taken (view_of old).books.held) leg) old new
 

@@ -58,7 +58,7 @@ fn give_one(table: &LogTable, seat: &mut Seat, taken: Taken, balance: u32, mark:
     requires holds { HoldsTaken taken (view_of seat.old).books }
     requires known { taken.account < table.now.accounts }
     requires balance { balance ≤ MOST_BALANCE }
-    requires values { GivesBack taken balance mark (view_of seat.old).books }
+    requires values { GivesBack taken balance mark seat.old }
     requires durable { MayGiveAs durable (view_of seat.old) }
     ensures { Becomes seat.old seat.new (gave_account taken.account (view_of seat.old)) }
 {

@@ -183,7 +183,7 @@ module _ (number : ℕ) (job : Job) (rest : List Rec) (first last : View) (secon
   abbrev pub has-inserted : HasInserted number job rest first last
   has-inserted = record {
     balances = balance_taken held;
-    marks = last_commit_taken held;
+    last_commits = last_commit_taken held;
     added = added;
     entries = all-entries;
     within = all-within;
@@ -229,7 +229,7 @@ cut-early number job wait (Stop word) old mid new taken keeps stops = (
   planned_records number (transfer_of job) (λ _. 0) (λ _. 0),
   record {
     balances = λ _. 0;
-    marks = λ _. 0;
+    last_commits = λ _. 0;
     added = [];
     entries = keeps.entries ∙ taken.entries ∙ sym (append-nil old.entries);
     within = omega (arith, taken.grows, keeps.grows);

@@ -97,7 +97,7 @@ module _ (jobs : NumberedJobs) (taken : List ℕ) (place : ℕ) (above : AllByRe
   added-own = all-records (IsRecordOf (number_at jobs place)) inserted.added
       (all-split (IsRecordOf (number_at jobs place)) (records_of inserted.added) rest
       (subst (AllByRecursion (IsRecordOf (number_at jobs place))) (sym inserted.plan)
-      (planned_records-own (number_at jobs place) (transfer_of (job_at jobs place)) inserted.marks inserted.balances))).0
+      (planned_records-own (number_at jobs place) (transfer_of (job_at jobs place)) inserted.last_commits inserted.balances))).0
 
   taken-next : (places : List ℕ) (earlier : List TakenJob) → old.books.jobs ≡ jobs_taken jobs places ++ earlier
       → new.books.jobs ≡ jobs_taken jobs (places ++ place ∷ []) ++ earlier
@@ -186,7 +186,7 @@ module _ (jobs : NumberedJobs) (taken : List ℕ) (place : ℕ) (above : AllByRe
   -- where a record of it is left, none that was inserted is an end record
   no-end-added : rest ≢ [] → AllByRecursion (λ (entry : Entry). ends entry.rec ≡ false) inserted.added
   no-end-added some = all-records (λ rec. ends rec ≡ false) inserted.added
-      (planned_records-front (number_at jobs place) (transfer_of (job_at jobs place)) inserted.marks inserted.balances
+      (planned_records-front (number_at jobs place) (transfer_of (job_at jobs place)) inserted.last_commits inserted.balances
       (records_of inserted.added) rest inserted.plan some)
 
   -- and so its end record isn't there
@@ -234,7 +234,7 @@ IsCutBy-next jobs taken place above wait (Stop word) old new worked cut = (waits
         absurd (unended-next jobs taken place above (rec ∷ rest) old new inserted worked (λ none. absurd (omega (arith, ap length none))) ended)
 IsCutBy-next jobs taken place above wait (LogEnd tail total) old new worked cut = record {
   balances = cut.2.balances;
-  marks = cut.2.marks;
+  last_commits = cut.2.last_commits;
   before = old.books.given;
   given = cut.3;
   uncommitted = recursion_from_All (IsUncommittedAt tail) cut.3.back cut.4;

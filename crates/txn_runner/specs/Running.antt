@@ -23,11 +23,11 @@ use Rattle.txn_jobs.specs.Accounts.{HasAccountsOf}
 -- the transfer run alone on some balances and last Commits.
 pub record HasInserted (number : ℕ) (job : Job) (rest : List Rec) (old new : View) : Type 0 where
   pub balances : ℕ → ℕ
-  pub marks : ℕ → ℕ
+  pub last_commits : ℕ → ℕ
   pub added : List Entry
   pub entries : new.entries ≡ old.entries ++ added
   pub within : LieInOrder old.seen.tail new.seen.tail added
-  pub plan : records_of added ++ rest ≡ planned_records number (transfer_of job) marks balances
+  pub plan : records_of added ++ rest ≡ planned_records number (transfer_of job) last_commits balances
   pub jobs : new.books.jobs ≡ record { number = number; job = job } ∷ old.books.jobs
 
 -- The seat gave each account of this job back behind those that it gave back before, each under this number, and with this balance as it

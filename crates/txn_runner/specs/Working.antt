@@ -84,14 +84,14 @@ own_records number entries = filter (λ rec. txn_of rec == number) (records_of e
 -- uncommitted, where the seat had seen tail there.
 pub record EndsLog (jobs : NumberedJobs) (place tail total : ℕ) (view : View) : Type 0 where
   pub balances : ℕ → ℕ
-  pub marks : ℕ → ℕ
+  pub last_commits : ℕ → ℕ
   pub before : List Given
   pub given : GaveBack (number_at jobs place) (job_at jobs place) balances before view
   pub uncommitted : AllByRecursion (IsUncommittedAt tail) given.back
   pub next : Rec
   pub rest : List Rec
   pub plan : own_records (number_at jobs place) view.entries ++ next ∷ rest
-      ≡ planned_records (number_at jobs place) (transfer_of (job_at jobs place)) marks balances
+      ≡ planned_records (number_at jobs place) (transfer_of (job_at jobs place)) last_commits balances
   pub asked : IsTotalOfSeat view (size_of next) total
   pub too_long : LAST < tail + total
   pub tail_is : tail ≡ view.seen.tail

@@ -10,7 +10,7 @@ use Rattle.log_table.specs.declared.closing.Closed.{Closed}
 use Rattle.log_rule.specs.declared.start.Start.{Start}
 use Rattle.lsn_space.specs.Tiling.{IsTiling}
 use Rattle.log_rule.specs.Books.{task_of, times_taken}
-use Rattle.log_rule.specs.Closing.{IsGathered, IsLedger, IsSettled, history_of}
+use Rattle.log_rule.specs.Closing.{IsGathered, IsLedger, HasLedger, history_of}
 use Rattle.log_rule.specs.CrewViews.{takes_in}
 use Rattle.log_table.specs.Hiring.{KnowsHired}
 use Rattle.log_rule.specs.Sound.{base_of}
@@ -59,7 +59,7 @@ one-taken number job = few (job.number == number)
 -- the table is closed once the flusher's seat took in the seat of its only worker, which took one job
 pub settles-one : (start : ℕ) (accounts : List (ℕ × ℕ)) (key : Start) (job : Job) (flusher_seat other view : View) (closed : Closed) → key.start ≡ start
     → key.accounts.rows ≡ accounts → KnowsHired key 1 flusher_seat → view ≡ takes_in flusher_seat other → other.books.jobs ≡ record { number = 1; job = job } ∷ []
-    → IsGathered closed.tail view → closed.exposed ≡ closed.tail → IsSettled (base_of key) view closed.accounts.rows → SettlesOne start accounts 1 job closed
+    → IsGathered closed.tail view → closed.exposed ≡ closed.tail → HasLedger (base_of key) view closed.accounts.rows → SettlesOne start accounts 1 job closed
 settles-one start accounts key job flusher_seat other view closed start_is rows_are knows takes taken gathered released settled =
     let starts : view.constants.start ≡ start = ap (λ (v : View). v.constants.start) takes ∙ (ap (λ (c : Constants). c.start) knows.constants ∙ start_is) in
     let jobs : view.books.jobs ≡ record { number = 1; job = job } ∷ [] = ap (λ (v : View). v.books.jobs) takes

@@ -9,13 +9,13 @@ ghost use Rattle.lock_core.specs.Sums.{no_opening};
 ghost use Rattle.lock_core.specs.Tests.{IsPaired};
 ghost use Rattle.lock_core.specs.Lawful.{Passes, IsLawful, base_with};
 ghost use Rattle.lock_core.specs.Faults.{IsFirstFailing};
-ghost use Rattle.lock_core.specs.Settling.{row, KeepsRows};
+ghost use Rattle.lock_core.specs.AccountRows.{row, KeepsRows};
 ghost use Rattle.lock_core.specs.Judging.{IsJudged, Judges, IsCommitting};
 
 use super::own::own_records;
+use crate::account_changes::apply_changes;
 use crate::checks::{are_current, is_current, is_paired};
 use crate::reason::Why;
-use crate::settling::settle;
 use crate::update::{Change, MOST_UPDATES};
 use arrayvec::ArrayVec;
 use log_record::{MOST_ACCOUNTS, Placed, Rec, Text};
@@ -104,7 +104,7 @@ fn committed_changes(
     Ok(own.changes)
 }
 
-/// Tests a Commit, and settles the accounts.
+/// Tests a Commit, and applies its changes to the accounts.
 pub fn admit_commit(
     accounts: &mut Balances,
     front: &[Placed],
@@ -127,7 +127,7 @@ pub fn admit_commit(
     if !are_current(accounts, changes) {
         return Err(Why::Stale);
     }
-    if !settle(accounts, changes, end) {
+    if !apply_changes(accounts, changes, end) {
         return Err(Why::Balance);
     }
     Ok(())

@@ -12,7 +12,7 @@ use crate::table::{LogTable, Seat};
 use lsn_space::Lsn;
 
 impl LogTable {
-    /// Marks a range as released, whatever stands before it: the seat's run, which is full and then one of
+    /// Marks a range as released, whatever stands before it: the seat's range, which is full and then one of
     /// its entries, or, by the last of a group to release, the whole range of the group.
     pub fn store_mark(&self, seat: &mut Seat, base: Lsn, end: Lsn)
         requires seat { IsOf self.now seat.old }

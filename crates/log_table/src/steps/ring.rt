@@ -14,7 +14,7 @@ use log_rule::RING;
 use lsn_space::Lsn;
 
 impl LogTable {
-    /// Copies the next unit of the seat's record into the ring, to the run that it has reserved alone, or to its
+    /// Copies the next unit of the seat's record into the ring, to the range that it has reserved alone, or to its
     /// piece of its group's range.
     pub fn store_ring(&self, seat: &mut Seat, at: Lsn, unit: u64)
         requires seat { IsOf self.now seat.old }

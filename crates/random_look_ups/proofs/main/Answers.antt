@@ -1,4 +1,4 @@
-use Rattle.lock_core.specs.Settling.{opening_of}
+use Rattle.lock_core.specs.AccountRows.{opening_of}
 use Rattle.random_look_ups.proofs.main.Goals as goal
 
 pub look_ups-found-requires : goal.look_ups-found-requires

@@ -1,7 +1,7 @@
 use Rattle.std.proofs.Common.{rules, arith, ◌≡◌, ◌<◌, ◌∙◌, ◌+◌, ◌^◌, ap, subst, take, length}
 use Rattle.log_record.specs.LogList.{units_of}
 use Rattle.lsn_space.specs.Opening.{Opening}
-use Rattle.lock_core.specs.Settling.{opening_of}
+use Rattle.lock_core.specs.AccountRows.{opening_of}
 use Rattle.log_recovery.specs.Opened.{log_of}
 use Rattle.log_recovery.specs.Recovery.{list_of}
 use Rattle.log_recovery.specs.declared.list_result.Listed.{Listed}

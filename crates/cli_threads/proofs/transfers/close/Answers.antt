@@ -13,6 +13,6 @@ returns c = rw c.in-Some.is record {
   refused = refl;
   ends_are = refl;
   gathered = c.close.ensures.gathered;
-  settled = c.close.ensures.settled;
+  accounts = c.close.ensures.accounts;
   heard = c.close.ensures.heard;
 }

@@ -4,7 +4,7 @@ use mathlib.Core.Option.{some}
 use lib.ListN.{get_elem?}
 use Rattle.log_recovery.specs.Opened.{log_of}
 use Rattle.log_rule.specs.declared.view.View.{View}
-use Rattle.log_rule.specs.Closing.{HasHeardOfWorkers, IsGathered, IsSettled}
+use Rattle.log_rule.specs.Closing.{HasHeardOfWorkers, IsGathered, HasLedger}
 use Rattle.log_rule.specs.Sound.{base_of}
 use Rattle.log_table.specs.declared.table.Seat.{Seat}
 use Rattle.log_table.specs.Hiring.{KnowsHired}
@@ -69,7 +69,7 @@ returns g c =
             served.workers knows opened log served.done (omega (arith, count, c.requires.prepared.enlisted.someone)) served.front served.stops
             served.drained view served.view served.seat.ring served.seat.slots c.close.result.closed.tail c.close.result.closed.accounts.rows
             (subst (λ (s : Seat). IsGathered c.close.result.closed.tail (view_of s)) turned.rest.flusher_seat over.gathered)
-            (subst (λ (s : Seat). IsSettled (base_of key) (view_of s) c.close.result.closed.accounts.rows) turned.rest.flusher_seat over.settled)
+            (subst (λ (s : Seat). HasLedger (base_of key) (view_of s) c.close.result.closed.accounts.rows) turned.rest.flusher_seat over.accounts)
             (subst (λ (s : Seat). HasHeardOfWorkers (view_of s)) turned.rest.flusher_seat over.heard);
         ends = ends-of_shares served.workers ∙ sym served.ends_are ∙ sym turned.rest.ends_are ∙ over.ends_are;
         waited = λ waits. subst (λ (v : View). (worker : ℕ) (share : Share) → get_elem? (map share_of served.workers) worker ≡ some share

@@ -3,7 +3,7 @@ use Rattle.log_rule.specs.Books.{taking}
 use Rattle.log_table.specs.Seats.{Becomes, view_of}
 use Rattle.log_rule.specs.AccountViews.{saw_account, took_account}
 use Rattle.slot_word.specs.AccountWord.{word_of}
-use Rattle.slot_word.proofs.AccountWordLemmas.{balance_back, mark_back}
+use Rattle.slot_word.proofs.AccountWordLemmas.{balance_back, last_commit_back}
 use Rattle.early_locks.proofs.taking.try_take.Goals as goal
 
 pub returns-in-Ok-clause-taken : goal.returns-in-Ok-clause-taken
@@ -19,13 +19,13 @@ returns-in-Ok-clause-taken c =
       word = loaded;
       free = search rules;
       balance = balance;
-      mark = c.mark-mark.ensures;
+      last_commit = c.mark-mark.ensures;
       becomes = becomes;
       books = ap (λ m. m.0.books) becomes.me
           ∙ (λ i. taking (record {
             account = c.args.account;
             balance = (balance_back loaded.held loaded.balance loaded.mark small short ∙ sym balance) i;
-            mark = (mark_back loaded.held loaded.balance loaded.mark small short ∙ sym c.mark-mark.ensures) i;
+            last_commit = (last_commit_back loaded.held loaded.balance loaded.mark small short ∙ sym c.mark-mark.ensures) i;
           }) (view_of c.args.seat.now).books);
     }
 

@@ -1,5 +1,5 @@
 use Rattle.std.proofs.Common.{reverse}
-use Rattle.lock_core.specs.Settling.{opening_of}
+use Rattle.lock_core.specs.AccountRows.{opening_of}
 use Rattle.ledger_view.proofs.PlainLemmas.{keeps_range-viewed}
 use Rattle.ledger_view.proofs.laws.entries_are_plain.Goals as goal
 

@@ -2,7 +2,7 @@ use Rattle.std.proofs.Common.{◌≡◌, ◌∷◌, ◌+◌, ◌∙◌, List, ta
 use Rattle.log_record.specs.declared.rec.Placed.{Placed}
 use Rattle.lock_core.proofs.OwnLemmas.{reverse-take_more}
 use Rattle.lock_core.specs.Lawful.{base_with}
-use Rattle.lock_core.specs.Settling.{opening_of}
+use Rattle.lock_core.specs.AccountRows.{opening_of}
 use Rattle.ledger_view.proofs.plain.first_balance.Goals as goal
 
 pub loop-entry-preserved : goal.loop-entry-preserved

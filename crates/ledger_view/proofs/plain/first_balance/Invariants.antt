@@ -1,6 +1,6 @@
 use Rattle.std.proofs.Common.{◌≡◌, take, reverse}
 use Rattle.lock_core.specs.Lawful.{base_with}
-use Rattle.lock_core.specs.Settling.{opening_of}
+use Rattle.lock_core.specs.AccountRows.{opening_of}
 use Rattle.ledger_view.proofs.plain.first_balance.Given as goal
 
 abbrev pub invariant-loop-entry : goal.invariant-loop-entry

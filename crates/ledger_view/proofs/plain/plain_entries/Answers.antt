@@ -1,6 +1,6 @@
 use Rattle.std.proofs.Common.{◌∷◌, [], ◌++◌, ◌+◌, ◌∙◌, List, None, Some, take, reverse, ap, sym, subst}
 use Rattle.log_record.specs.declared.rec.Placed.{Placed}
-use Rattle.lock_core.specs.Settling.{opening_of}
+use Rattle.lock_core.specs.AccountRows.{opening_of}
 use Rattle.lock_core.proofs.OwnLemmas.{reverse-take_more}
 use Rattle.ledger_view.specs.declared.entries.Entry.{Entry}
 use Rattle.ledger_view.specs.Entries.{entries_of}

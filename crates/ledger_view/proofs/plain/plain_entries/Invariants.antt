@@ -1,5 +1,5 @@
 use Rattle.std.proofs.Common.{◌≡◌, take, reverse}
-use Rattle.lock_core.specs.Settling.{opening_of}
+use Rattle.lock_core.specs.AccountRows.{opening_of}
 use Rattle.ledger_view.specs.Entries.{entries_of}
 use Rattle.ledger_view.proofs.plain.plain_entries.Given as goal
 

@@ -1,7 +1,7 @@
 use Rattle.std.proofs.Common.{◌≡◌, ◌∷◌, ◌+◌, ◌∙◌, List, take, reverse, ap, subst, arith}
 use Rattle.log_record.specs.declared.rec.Placed.{Placed}
 use Rattle.log_record.specs.Spelling.{IsBalance}
-use Rattle.lock_core.specs.Settling.{opening_of}
+use Rattle.lock_core.specs.AccountRows.{opening_of}
 use Rattle.lock_core.proofs.OwnLemmas.{reverse-take_more}
 use Rattle.ledger_view.specs.Entries.{balance_after}
 use Rattle.ledger_view.specs.Plain.{KeepsRange}

@@ -2,7 +2,7 @@ use Rattle.std.proofs.Common.{[], ◌∷◌, arith}
 use Rattle.log_record.specs.declared.rec.Rec.TheVariants.{Genesis}
 use Rattle.lsn_space.specs.Opening.{no_opening}
 use Rattle.lock_core.specs.History.{entry_at}
-use Rattle.lock_core.specs.Settling.{opening_of}
+use Rattle.lock_core.specs.AccountRows.{opening_of}
 use Rattle.ledger_view_tests.proofs.adding.adds_and_refuses.Goals as goal
 
 pub add-requires-2-clause-taken : goal.add-requires-2-clause-taken

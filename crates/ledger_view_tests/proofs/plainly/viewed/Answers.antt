@@ -1,7 +1,7 @@
 use Rattle.std.proofs.Common.{◌≡◌, ◌+◌, ◌∙◌, ap, arith, drop, length, refl, reverse, subst, sym}
 use Rattle.log_record.specs.Spelling.{spelling}
 use Rattle.log_record.specs.declared.rec.Placed.{Placed}
-use Rattle.lock_core.specs.Settling.{opening_of}
+use Rattle.lock_core.specs.AccountRows.{opening_of}
 use Rattle.ledger_view_tests.proofs.ViewedLemmas.{IsGiven, given-fits, given-next}
 use Rattle.ledger_view_tests.proofs.plainly.viewed.Goals as goal
 

@@ -1,5 +1,5 @@
 use Rattle.std.proofs.Common.{length}
-use Rattle.lock_core.specs.Settling.{opening_of}
+use Rattle.lock_core.specs.AccountRows.{opening_of}
 use Rattle.ledger_view_tests.proofs.ViewedLemmas.{IsGiven}
 use Rattle.ledger_view_tests.proofs.plainly.viewed.Given as goal
 

@@ -1,6 +1,6 @@
 use Rattle.std.proofs.Common.{◌≡◌, sym, true≢false}
 use Rattle.lock_core.specs.declared.update.Change.{Change}
-use Rattle.lock_core.specs.Settling.{row}
+use Rattle.lock_core.specs.AccountRows.{row}
 use Rattle.lock_core.proofs.ListLemmas.{all-at}
 use Rattle.lock_core.proofs.checks.are_current.Goals as goal
 

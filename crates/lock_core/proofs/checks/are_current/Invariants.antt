@@ -1,6 +1,6 @@
 use Rattle.std.proofs.Common.{◌≡◌, take}
 use Rattle.std.specs.List.{AllByRecursion}
-use Rattle.lock_core.specs.Settling.{row}
+use Rattle.lock_core.specs.AccountRows.{row}
 use Rattle.lock_core.proofs.checks.are_current.Given as goal
 
 abbrev pub invariant-loop-change : goal.invariant-loop-change

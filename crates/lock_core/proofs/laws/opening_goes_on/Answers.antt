@@ -1,4 +1,4 @@
-use Rattle.lock_core.proofs.GoingOn.{apart-behind, txn-goes_on, accounts-go_on, end-goes_on, balance-goes_on, mark-goes_on}
+use Rattle.lock_core.proofs.GoingOn.{apart-behind, txn-goes_on, accounts-go_on, end-goes_on, balance-goes_on, last_commit-goes_on}
 use Rattle.lock_core.proofs.laws.opening_goes_on.Goals as goal
 
 pub returns-clause-apart : goal.returns-clause-apart
@@ -16,5 +16,5 @@ returns-clause-end c = end-goes_on
 pub returns-clause-balance : goal.returns-clause-balance
 returns-clause-balance c = λ opening h l account lawful inside. balance-goes_on opening h l lawful account inside
 
-pub returns-clause-mark : goal.returns-clause-mark
-returns-clause-mark c = λ opening h l account lawful some. mark-goes_on opening h l lawful some account
+pub returns-clause-last_commit : goal.returns-clause-last_commit
+returns-clause-last_commit c = λ opening h l account lawful some. last_commit-goes_on opening h l lawful some account

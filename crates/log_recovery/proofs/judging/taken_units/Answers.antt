@@ -1,6 +1,6 @@
 use Rattle.std.proofs.Common.{◌∙◌, ◌+◌, ap, drop, length, subst}
 use Rattle.lock_core.specs.History.{entry_at}
-use Rattle.lock_core.specs.Settling.{opening_of}
+use Rattle.lock_core.specs.AccountRows.{opening_of}
 use Rattle.lock_core.specs.Taking.{IsTakeFault}
 use Rattle.log_recovery.proofs.UnitsLemmas.{so_far, taken-place, taken-next, fails-next}
 use Rattle.log_recovery.proofs.judging.taken_units.Goals as goal

@@ -1,7 +1,7 @@
 use Rattle.std.proofs.Common.{inr, [], sym, subst}
 use Rattle.std.specs.Prelude.{IfOk}
 use Rattle.lsn_space.specs.Opening.{Opening, IsSnapshot}
-use Rattle.lock_core.specs.Settling.{opening_of}
+use Rattle.lock_core.specs.AccountRows.{opening_of}
 use Rattle.lock_core.specs.Taking.{HasJudged}
 use Rattle.lock_core.proofs.Witnessing.{snapshot-is}
 use Rattle.log_recovery_tests.proofs.openings.judge_behind.Goals as goal

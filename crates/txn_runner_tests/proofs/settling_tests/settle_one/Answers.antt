@@ -30,4 +30,4 @@ returns g c =
     (knows queue rows own.pass).rising own.places own.all all own.works) in
     settles-one 4 _ (key_of c.in_ok-table.table) _ (view_of c.worker-seat.new.flusher_seat) (view_of c.leave.new.seat) (view_of c.merge.new.seat) c.close.result
     c.in_ok-table.ensures.start c.in_ok-table.ensures.rows c.worker-seat.ensures.flusher_seat.knows (ap (λ m. m.0) c.merge.ensures.view.me) taken
-    c.close.ensures.gathered c.close.ensures.released c.close.ensures.settled
+    c.close.ensures.gathered c.close.ensures.released c.close.ensures.accounts

@@ -1,5 +1,5 @@
 use Rattle.std.proofs.Common.{[]}
-use Rattle.lock_core.specs.Settling.{opening_of}
+use Rattle.lock_core.specs.AccountRows.{opening_of}
 use Rattle.ledger_view.proofs.ViewLemmas.{views-none}
 use Rattle.ledger_view.proofs.view.View.make.Goals as goal
 

@@ -1,7 +1,7 @@
 use Rattle.std.proofs.Common.{◌≡◌, ◌⊎◌, ⊎_elim, [], length, refl, sym, ap, subst, arith, rules}
 use Rattle.std.proofs.lemmas.List.{get_or_default}
 use Rattle.lsn_space.specs.Opening as space
-use Rattle.lock_core.specs.Settling.{row, opening_of, KeepsRows}
+use Rattle.lock_core.specs.AccountRows.{row, opening_of, KeepsRows}
 use Rattle.lock_core.specs.Lawful.{base_with}
 use Rattle.lock_core.specs.Judging.{IsJudged}
 use Rattle.lock_core.proofs.ListLemmas.{all-at}

@@ -40,8 +40,8 @@ are_current-requires c = let kept = c.requires.kept.2 in
     own-known _ c.args.self.now _ kept c.end.new.self.accounts c.args.txn _ _ c.end.ensures.accounts c.as_slice-changes.ensures.value
     (c.changes.ensures c.args.txn _ (c.in_ok-place.ensures.unended _ kept.transactions))
 
-pub settle-requires-clause-known : goal.settle-requires-clause-known
-settle-requires-clause-known c = let kept = c.requires.kept.2 in
+pub apply_changes-requires-clause-known : goal.apply_changes-requires-clause-known
+apply_changes-requires-clause-known c = let kept = c.requires.kept.2 in
     own-known _ c.args.self.now _ kept c.end.new.self.accounts c.args.txn _ _ c.end.ensures.accounts c.as_slice-changes.ensures.value
     (c.changes.ensures c.args.txn _ (c.in_ok-place.ensures.unended _ kept.transactions))
 
@@ -53,13 +53,13 @@ returns-then-not-are_current-clause-taken c = λ opening h kept. let counted = c
     commit-stale opening c.args.self.now h kept c.end.new.self.accounts c.end.ensures.accounts c.args.end c.args.txn c.args.legs
     c.as_slice-changes.result.now on (λ all. true≢false (sym (c.if-not-are_current.ensures.1 all)))
 
-pub returns-then-not-settle-clause-taken : goal.returns-then-not-settle-clause-taken
-returns-then-not-settle-clause-taken c = λ opening h kept. let counted = c.count.ensures in
+pub returns-then-not-apply_changes-clause-taken : goal.returns-then-not-apply_changes-clause-taken
+returns-then-not-apply_changes-clause-taken c = λ opening h kept. let counted = c.count.ensures in
     let place = c.in_ok-place.ensures.unended h kept.transactions in
     let on = commits opening c.args.self.now h kept _ _ c.update.result c.args.txn c.args.legs _ _ c.end.ensures.updates place c.update.ensures
     (omega arith) c.as_slice-changes.ensures.value (c.changes.ensures c.args.txn h place) (λ none. omega arith) c.in_ok-place.ensures.above in
     commit-leaves opening c.args.self.now h kept c.end.new.self.accounts c.end.ensures.accounts c.args.end c.args.txn c.args.legs
-    c.as_slice-changes.result.now on (c.if-not-are_current.ensures.0 refl) c.if-not-settle.ensures.leaves
+    c.as_slice-changes.result.now on (c.if-not-are_current.ensures.0 refl) c.if-not-apply_changes.ensures.leaves
 
 pub returns-clause-taken : goal.returns-clause-taken
 returns-clause-taken c = λ opening h kept. let counted = c.count.ensures in
@@ -69,11 +69,11 @@ returns-clause-taken c = λ opening h kept. let counted = c.count.ensures in
     let ledger : Ledger = record c.args.self.now { accounts = c.end.new.self.accounts } in
     let keeps = keeps-accounts opening c.args.self.now c.end.new.self.accounts h c.end.ensures.accounts kept in
     let entry : Placed = record { end = c.args.end; rec = Commit c.args.txn c.args.legs } in
-    let new : Ledger = record c.end.new.self { accounts = c.settle.new.accounts } in
-    keeps-parts opening new ledger c.settle.new.accounts (entry ∷ h) refl c.end.ensures.opening c.end.ensures.least
-    (takes-commit opening ledger h keeps c.args.end c.args.txn c.args.legs c.as_slice-changes.result.now on c.settle.new.accounts
+    let new : Ledger = record c.end.new.self { accounts = c.apply_changes.new.accounts } in
+    keeps-parts opening new ledger c.apply_changes.new.accounts (entry ∷ h) refl c.end.ensures.opening c.end.ensures.least
+    (takes-commit opening ledger h keeps c.args.end c.args.txn c.args.legs c.as_slice-changes.result.now on c.apply_changes.new.accounts
     c.end.new.self.txns (c.if-not-are_current.ensures.0 refl)
-    c.if-not-settle.ensures.room c.if-not-settle.ensures.settled (c.in_ok-place.ensures.taken entry h kept.transactions refl refl))
+    c.if-not-apply_changes.ensures.room c.if-not-apply_changes.ensures.applied (c.in_ok-place.ensures.taken entry h kept.transactions refl refl))
 
 pub returns-clause-changes : goal.returns-clause-changes
 returns-clause-changes c = λ opening h kept. let place = c.in_ok-place.ensures.unended h kept.transactions in

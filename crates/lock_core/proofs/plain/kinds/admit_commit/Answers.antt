@@ -1,7 +1,7 @@
 use Rattle.std.proofs.Common.{◌∙◌, sym, refl, true≢false, subst, reverse}
 use Rattle.lock_core.specs.Sums.{no_opening}
 use Rattle.lock_core.specs.Judging.{IsCommitting}
-use Rattle.lock_core.proofs.KindLemmas.{updates-known, fails-stale, fails-balance, keeps-settled, passes-commit}
+use Rattle.lock_core.proofs.KindLemmas.{updates-known, fails-stale, fails-balance, keeps-applied, passes-commit}
 use Rattle.lock_core.proofs.plain.kinds.admit_commit.Goals as goal
 
 pub are_current-requires : goal.are_current-requires
@@ -9,8 +9,8 @@ are_current-requires c =
     updates-known no_opening c.args.accounts.now.rows (reverse c.args.front.now) c.args.txn c.as_slice-changes.result.now c.requires.judged.lawful c.requires.judged.rows
     (c.as_slice-changes.ensures.value ∙ c.in-Ok.ensures.ok.are)
 
-pub settle-requires-clause-known : goal.settle-requires-clause-known
-settle-requires-clause-known c =
+pub apply_changes-requires-clause-known : goal.apply_changes-requires-clause-known
+apply_changes-requires-clause-known c =
     updates-known no_opening c.args.accounts.now.rows (reverse c.args.front.now) c.args.txn c.as_slice-changes.result.now c.requires.judged.lawful c.requires.judged.rows
     (c.as_slice-changes.ensures.value ∙ c.in-Ok.ensures.ok.are)
 
@@ -20,24 +20,24 @@ returns-then-not-are_current-clause-tests c =
     fails-stale no_opening c.args.accounts.now.rows (reverse c.args.front.now) c.args.txn c.args.legs c.args.end c.as_slice-changes.result.now
     c.requires.judged.lawful c.requires.judged.rows on (λ all. true≢false (sym (c.if-not-are_current.ensures.1 all)))
 
-pub returns-then-not-settle-clause-tests : goal.returns-then-not-settle-clause-tests
-returns-then-not-settle-clause-tests c =
+pub returns-then-not-apply_changes-clause-tests : goal.returns-then-not-apply_changes-clause-tests
+returns-then-not-apply_changes-clause-tests c =
     let on = subst (IsCommitting no_opening (reverse c.args.front.now) c.args.txn c.args.legs) (sym c.as_slice-changes.ensures.value) c.in-Ok.ensures.ok in
     fails-balance no_opening c.args.accounts.now.rows (reverse c.args.front.now) c.args.txn c.args.legs c.args.end c.as_slice-changes.result.now
-    c.requires.judged.lawful c.requires.judged.rows on (c.if-not-are_current.ensures.0 refl) c.if-not-settle.ensures.leaves
+    c.requires.judged.lawful c.requires.judged.rows on (c.if-not-are_current.ensures.0 refl) c.if-not-apply_changes.ensures.leaves
 
 pub returns-clause-tests : goal.returns-clause-tests
 returns-clause-tests c =
     let on = subst (IsCommitting no_opening (reverse c.args.front.now) c.args.txn c.args.legs) (sym c.as_slice-changes.ensures.value) c.in-Ok.ensures.ok in
     passes-commit no_opening c.args.accounts.now.rows (reverse c.args.front.now) c.args.txn c.args.legs c.args.end c.as_slice-changes.result.now
-    c.requires.judged.lawful c.requires.judged.rows on (c.if-not-are_current.ensures.0 refl) c.settle.new.accounts.rows c.if-not-settle.ensures.settled
+    c.requires.judged.lawful c.requires.judged.rows on (c.if-not-are_current.ensures.0 refl) c.apply_changes.new.accounts.rows c.if-not-apply_changes.ensures.applied
 
 pub returns-clause-kept : goal.returns-clause-kept
 returns-clause-kept c =
     let on = subst (IsCommitting no_opening (reverse c.args.front.now) c.args.txn c.args.legs) (sym c.as_slice-changes.ensures.value) c.in-Ok.ensures.ok in (
-      c.if-not-settle.ensures.room ∙ c.requires.judged.room,
-      keeps-settled no_opening c.args.accounts.now.rows (reverse c.args.front.now) c.args.txn c.args.legs c.args.end c.as_slice-changes.result.now
-          c.requires.judged.lawful c.requires.judged.rows on c.settle.new.accounts.rows c.if-not-settle.ensures.settled,
+      c.if-not-apply_changes.ensures.room ∙ c.requires.judged.room,
+      keeps-applied no_opening c.args.accounts.now.rows (reverse c.args.front.now) c.args.txn c.args.legs c.args.end c.as_slice-changes.result.now
+          c.requires.judged.lawful c.requires.judged.rows on c.apply_changes.new.accounts.rows c.if-not-apply_changes.ensures.applied,
     )
 
 pub returns-in-Err-clause-tests : goal.returns-in-Err-clause-tests

@@ -6,7 +6,7 @@ use Rattle.log_record.specs.declared.rec.Placed.{Placed}
 use Rattle.log_record.specs.declared.rec.Rec.TheVariants.{Genesis}
 use Rattle.lock_core.specs.Sums.{no_opening}
 use Rattle.lock_core.specs.Lawful.{base_with, with_genesis}
-use Rattle.lock_core.specs.Settling.{KeepsRows}
+use Rattle.lock_core.specs.AccountRows.{KeepsRows}
 use Rattle.lock_core.proofs.KindLemmas.{genesis-accounts, passes-genesis, fails-genesis, keeps-genesis}
 use Rattle.lock_core.proofs.plain.kinds.admit_genesis.Goals as goal
 use Rattle.lock_core.proofs.plain.kinds.admit_genesis.Goals.{then-front-count-via-then-front-count, then-front-count-via-else-front-count+then-account-count}

@@ -1,7 +1,7 @@
 use Rattle.std.proofs.Common.{arith}
 use Rattle.lock_core.specs.Records.{loss}
-use Rattle.lock_core.proofs.SettlingLemmas.{moved-take_more}
-use Rattle.lock_core.proofs.settling.losses.Goals as goal
+use Rattle.lock_core.proofs.ChangesLemmas.{moved-take_more}
+use Rattle.lock_core.proofs.account_changes.losses.Goals as goal
 
 pub loop-change-preserved : goal.loop-change-preserved
 loop-change-preserved c =

@@ -33,22 +33,22 @@ abbrev pub LeavesRange : List Change → ℕ → ℕ → Type 0
 LeavesRange changes account before = (after : ℕ) → IsBalance after → IsBalanceAfter changes account before after → ⊥
 
 -- the account's row before and after a Commit of these changes that ends here
-pub record SettlesRow (changes : List Change) (end account : ℕ) (old new : ℕ × ℕ) : Type 0 where
+pub record AppliesToRow (changes : List Change) (end account : ℕ) (old new : ℕ × ℕ) : Type 0 where
   pub range : IsBalance new.0
   pub balance : IsBalanceAfter changes account old.0 new.0
   pub last : new.1 ≡ (if touches account changes then end else old.1)
 
 -- the rows before and after the part of such a Commit that concerns one account of its changes
-pub record SettlesAccount (changes : List Change) (account end : ℕ) (old new : List (ℕ × ℕ)) : Type 0 where
+pub record AppliesToAccount (changes : List Change) (account end : ℕ) (old new : List (ℕ × ℕ)) : Type 0 where
   pub balance : ℕ
   pub range : IsBalance balance
   pub after : IsBalanceAfter changes account (row old account).0 balance
   pub rows : new ≡ slice_set old account (balance, end)
 
 -- all rows before and after such a Commit
-pub record Settles (changes : List Change) (end : ℕ) (old new : List (ℕ × ℕ)) : Type 0 where
+pub record AppliesChanges (changes : List Change) (end : ℕ) (old new : List (ℕ × ℕ)) : Type 0 where
   pub count : length new ≡ length old
-  pub each : (account : ℕ) → account < length old → SettlesRow changes end account (row old account) (row new account)
+  pub each : (account : ℕ) → account < length old → AppliesToRow changes end account (row old account) (row new account)
 
 -- every balance is in its range
 abbrev pub AreRowsInRange : List (ℕ × ℕ) → Type 0

@@ -8,7 +8,7 @@ use Rattle.lock_core.specs.Sums.{moved}
 use Rattle.log_record.specs.Spelling.{IsBalance}
 use Rattle.lock_core.specs.Records.{gain, loss}
 use Rattle.lock_core.specs.Transactions.{touches}
-use Rattle.lock_core.specs.Settling.{row, IsBalanceAfter, SettlesRow, SettlesAccount, Settles, AreRowsInRange}
+use Rattle.lock_core.specs.AccountRows.{row, IsBalanceAfter, AppliesToRow, AppliesToAccount, AppliesChanges, AreRowsInRange}
 use Rattle.lock_core.proofs.OneMore.{moved-append, neither, or-false, or-true}
 
 pub moved-take_more : (side : ℤ → ℕ) (account : ℕ) (changes : List Change) (i : ℕ) (change : Change) → i < length changes
@@ -26,14 +26,14 @@ moved-untouched side account (change ∷ changes) off =
     let here : cond {A = ℕ} (change.account == account) (side change.delta) 0 ≡ 0 = ap (λ b. cond {A = ℕ} b (side change.delta) 0) parts.0 in
     let rest = moved-untouched side account changes parts.1 in omega arith
 
--- the accounts of these changes, which are some of the Commit's, are settled, and the others are as they were
-pub record SettlesTouched (some changes : List Change) (end : ℕ) (old new : List (ℕ × ℕ)) : Type 0 where
+-- the accounts of these changes, which are some of the Commit's, are applied, and the others are as they were
+pub record AppliesToTouched (some changes : List Change) (end : ℕ) (old new : List (ℕ × ℕ)) : Type 0 where
   pub count : length new ≡ length old
-  pub done : (account : ℕ) → touches account some ≡ true → SettlesRow changes end account (row old account) (row new account)
+  pub done : (account : ℕ) → touches account some ≡ true → AppliesToRow changes end account (row old account) (row new account)
   pub left : (account : ℕ) → touches account some ≡ false → row new account ≡ row old account
 
-pub settles-none : (changes : List Change) (end : ℕ) (rows : List (ℕ × ℕ)) → SettlesTouched [] changes end rows rows
-settles-none changes end rows = record { count = refl; done = λ account on. absurd (true≢false (sym on)); left = λ account off. refl }
+pub applied-none : (changes : List Change) (end : ℕ) (rows : List (ℕ × ℕ)) → AppliesToTouched [] changes end rows rows
+applied-none changes end rows = record { count = refl; done = λ account on. absurd (true≢false (sym on)); left = λ account off. refl }
 
 touches-more : (account : ℕ) (changes : List Change) (change : Change) → touches account (changes ++ change ∷ []) ≡ (touches account changes || (change.account == account))
 touches-more account [] change = or-false (change.account == account)
@@ -44,34 +44,34 @@ touches-more account (first ∷ changes) change = by_case (first.account == acco
     by_case true rest = refl
     by_case false rest = rest
 
--- a change on an account that is settled adds nothing
-pub settles-again : (some changes : List Change) (change : Change) (end : ℕ) (old new : List (ℕ × ℕ)) → touches change.account some ≡ true
-    → SettlesTouched some changes end old new → SettlesTouched (some ++ change ∷ []) changes end old new
-settles-again some changes change end old new on before = record {
+-- a change on an account that is applied adds nothing
+pub applied-again : (some changes : List Change) (change : Change) (end : ℕ) (old new : List (ℕ × ℕ)) → touches change.account some ≡ true
+    → AppliesToTouched some changes end old new → AppliesToTouched (some ++ change ∷ []) changes end old new
+applied-again some changes change end old new on before = record {
   count = before.count;
   done = λ account touched. by_case account (touches account some) refl (sym (touches-more account some change) ∙ touched);
   left = λ account untouched. before.left account (neither (touches account some) (change.account == account) (sym (touches-more account some change) ∙ untouched)).0;
 }
   where
     by_case : (account : ℕ) (b : Bool) → touches account some ≡ b → (touches account some || (change.account == account)) ≡ true
-        → SettlesRow changes end account (row old account) (row new account)
+        → AppliesToRow changes end account (row old account) (row new account)
     by_case account true is either = before.done account is
     by_case account false is either =
         let same : change.account ≡ account = eqb-true change.account account (sym (ap (λ b. b || (change.account == account)) is) ∙ either) in
-        subst (λ a. SettlesRow changes end a (row old a) (row new a)) same (before.done change.account on)
+        subst (λ a. AppliesToRow changes end a (row old a) (row new a)) same (before.done change.account on)
 
--- a change on another account settles that one
-pub settles-more : (some changes : List Change) (change : Change) (end : ℕ) (old new newer : List (ℕ × ℕ)) → touches change.account some ≡ false
-    → touches change.account changes ≡ true → change.account < length old → SettlesTouched some changes end old new → SettlesAccount changes change.account end new newer
-    → SettlesTouched (some ++ change ∷ []) changes end old newer
-settles-more some changes change end old new newer off on inside before here =
+-- a change on another account applies that one
+pub applied-more : (some changes : List Change) (change : Change) (end : ℕ) (old new newer : List (ℕ × ℕ)) → touches change.account some ≡ false
+    → touches change.account changes ≡ true → change.account < length old → AppliesToTouched some changes end old new → AppliesToAccount changes change.account end new newer
+    → AppliesToTouched (some ++ change ∷ []) changes end old newer
+applied-more some changes change end old new newer off on inside before here =
     let counted = before.count in
     let grown = ap length here.rows ∙ length-set new change.account (here.balance, end) in
     record {
       count = omega arith;
       done = λ account touched. dite (ℕ_discrete account change.account)
-          (λ same. subst (λ a. SettlesRow changes end a (row old a) (row newer a)) (sym same) own)
-          (λ other. subst (SettlesRow changes end account (row old account)) (sym (row-other account other))
+          (λ same. subst (λ a. AppliesToRow changes end a (row old a) (row newer a)) (sym same) own)
+          (λ other. subst (AppliesToRow changes end account (row old account)) (sym (row-other account other))
           (before.done account (by_other account other (touches account some) refl (sym (touches-more account some change) ∙ touched))));
       left = λ account untouched.
           let parts = neither (touches account some) (change.account == account) (sym (touches-more account some change) ∙ untouched) in
@@ -86,7 +86,7 @@ settles-more some changes change end old new newer off on inside before here =
     row-own = let counted = before.count in
         ap (λ rows. row rows change.account) here.rows ∙ get_or-set_same new change.account (here.balance, end) (0, 0) (omega arith)
 
-    own : SettlesRow changes end change.account (row old change.account) (row newer change.account)
+    own : AppliesToRow changes end change.account (row old change.account) (row newer change.account)
     own = record {
       range = subst IsBalance (sym (ap (λ (v : ℕ × ℕ). v.0) row-own)) here.range;
       balance = subst (IsBalanceAfter changes change.account (row old change.account).0) (sym (ap (λ (v : ℕ × ℕ). v.0) row-own))
@@ -100,17 +100,17 @@ settles-more some changes change end old new newer off on inside before here =
     by_other account other false is either =
         absurd (other (sym (eqb-true change.account account (sym (ap (λ b. b || (change.account == account)) is) ∙ either))))
 
--- with all changes, all rows are settled
-pub settles-all : (changes : List Change) (end : ℕ) (old new : List (ℕ × ℕ)) → AreRowsInRange old → SettlesTouched changes changes end old new → Settles changes end old new
-settles-all changes end old new range settled = record {
-  count = settled.count;
+-- with all changes, all rows are applied
+pub applied-all : (changes : List Change) (end : ℕ) (old new : List (ℕ × ℕ)) → AreRowsInRange old → AppliesToTouched changes changes end old new → AppliesChanges changes end old new
+applied-all changes end old new range applied = record {
+  count = applied.count;
   each = λ account inside. by_case account inside (touches account changes) refl;
 }
   where
-    by_case : (account : ℕ) → account < length old → (b : Bool) → touches account changes ≡ b → SettlesRow changes end account (row old account) (row new account)
-    by_case account inside true is = settled.done account is
+    by_case : (account : ℕ) → account < length old → (b : Bool) → touches account changes ≡ b → AppliesToRow changes end account (row old account) (row new account)
+    by_case account inside true is = applied.done account is
     by_case account inside false is =
-        let same = settled.left account is in
+        let same = applied.left account is in
         let gains = moved-untouched gain account changes is in let losses = moved-untouched loss account changes is in
         let balance = ap (λ (v : ℕ × ℕ). v.0) same in
         record {

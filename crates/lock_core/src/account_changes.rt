@@ -1,4 +1,4 @@
-//! How a Commit settles the accounts that its transaction changes.
+//! What a Commit makes of the accounts that its transaction changes.
 
 ghost use Rattle.std.specs.Prelude.{◌≡◌, ◌==◌, ◌<◌, ◌≤◌, ◌*◌, ◌^◌, if◌then◌else◌, length, MatchOption};
 ghost use Rattle.std.specs.Bool.{OnTrue, OnFalse};
@@ -8,7 +8,7 @@ ghost use Rattle.log_record.specs.Spelling.{IsBalance};
 ghost use Rattle.lock_core.specs.Records.{gain, loss};
 ghost use Rattle.lock_core.specs.Transactions.{touches};
 ghost use Rattle.lock_core.specs.Sums.{moved};
-ghost use Rattle.lock_core.specs.Settling.{row, IsBalanceAfter, LeavesRange, SettlesAccount, Settles, AreRowsInRange, LeavesSome};
+ghost use Rattle.lock_core.specs.AccountRows.{row, IsBalanceAfter, LeavesRange, AppliesToAccount, AppliesChanges, AreRowsInRange, LeavesSome};
 
 use crate::update::Change;
 use log_record::MOST_BALANCE;
@@ -87,12 +87,12 @@ fn balance_after(balance: u32, changes: &[Change], account: u32) -> Option<u32>
 
 /// Makes the part of a Commit of the changes that concerns one account of theirs: true, and its row is then the one after
 /// it; or false where its balance leaves its range.
-fn settle_account(accounts: &mut Balances, changes: &[Change], account: u32, end: Lsn) -> bool
+fn apply_to_account(accounts: &mut Balances, changes: &[Change], account: u32, end: Lsn) -> bool
     requires few { length changes.now ≤ 2 * MOST_LEGS }
     requires known { account < length accounts.old.rows }
     requires range { IsBalance (row accounts.old.rows account).0 }
     ensures room { accounts.new.room ≡ accounts.old.room }
-    ensures settled { OnTrue result (SettlesAccount changes.now account end accounts.old.rows accounts.new.rows) }
+    ensures applied { OnTrue result (AppliesToAccount changes.now account end accounts.old.rows accounts.new.rows) }
     ensures leaves { OnFalse result (LeavesRange changes.now account (row accounts.old.rows account).0) }
 {
     let (balance, _) = accounts.at(account);
@@ -105,17 +105,17 @@ fn settle_account(accounts: &mut Balances, changes: &[Change], account: u32, end
 
 /// Makes a Commit of the changes, which ends here: true, and the accounts are then those after it; or
 /// false where a balance leaves its range, and the accounts are then of no use.
-pub fn settle(accounts: &mut Balances, changes: &[Change], end: Lsn) -> bool
+pub fn apply_changes(accounts: &mut Balances, changes: &[Change], end: Lsn) -> bool
     requires few { length changes.now ≤ 2 * MOST_LEGS }
     requires known { AllByRecursion (λ change. change.account < length accounts.old.rows) changes.now }
     requires range { AreRowsInRange accounts.old.rows }
     ensures room { accounts.new.room ≡ accounts.old.room }
-    ensures settled { OnTrue result (Settles changes.now end accounts.old.rows accounts.new.rows) }
+    ensures applied { OnTrue result (AppliesChanges changes.now end accounts.old.rows accounts.new.rows) }
     ensures leaves { OnFalse result (LeavesSome changes.now accounts.old.rows) }
 {
     for (i, change) in changes.iter().enumerate() {
         if !touches(&changes[..i], change.account)
-            && !settle_account(accounts, changes, change.account, end)
+            && !apply_to_account(accounts, changes, change.account, end)
         {
             return false;
         }

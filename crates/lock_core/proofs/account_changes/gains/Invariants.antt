@@ -1,10 +1,10 @@
 use Rattle.std.proofs.Common.{◌≡◌, ◌≤◌, ◌*◌, take}
-use Rattle.lock_core.specs.Records.{loss}
+use Rattle.lock_core.specs.Records.{gain}
 use Rattle.lock_core.specs.Sums.{moved}
-use Rattle.lock_core.proofs.settling.losses.Given as goal
+use Rattle.lock_core.proofs.account_changes.gains.Given as goal
 
 abbrev pub invariant-loop-change : goal.invariant-loop-change
 invariant-loop-change l = record {
-  sum : l.sum ≡ moved loss l.account (take l.change-index l.changes);
+  sum : l.sum ≡ moved gain l.account (take l.change-index l.changes);
   bound : l.sum ≤ 4294967295 * l.change-index;
 }
