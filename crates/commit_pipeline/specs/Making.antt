@@ -10,7 +10,7 @@ use Rattle.commit_pipeline.specs.declared.daemon.Daemon.{Daemon}
 use Rattle.commit_pipeline.specs.Told.{HasToldAll}
 
 -- It has these parts, and the sink was so when it was made. Nothing has befallen it, and it has counted and written nothing.
-pub record IsMadeOf {D K : Type 0} {g : Ghosts D} (h : SinkGhosts K) (own : Flusher D g) (lent : MutBor K) (speaks : Voice) (before : K)
+pub record IsDaemonOf {D K : Type 0} {g : Ghosts D} (h : SinkGhosts K) (own : Flusher D g) (lent : MutBor K) (speaks : Voice) (before : K)
     (made : Daemon D K g h) : Type 0 where
   pub flusher : made.flusher ≡ own
   pub sink : made.sink ≡ lent

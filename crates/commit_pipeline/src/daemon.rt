@@ -33,12 +33,12 @@ pub struct Daemon<'a, D: LogDisk, K: Sink> {
 }
 
 impl<'a, D: LogDisk, K: Sink> Daemon<'a, D, K> {
-    ghost use Rattle.commit_pipeline.specs.Making.{IsMadeOf};
+    ghost use Rattle.commit_pipeline.specs.Making.{IsDaemonOf};
     ghost use Rattle.commit_pipeline.specs.Turning.{ChangesFlusher, HasCounted, durable};
 
     /// A daemon to which nothing has befallen, and which has counted and written nothing.
     pub fn make(flusher: Flusher<'a, D>, sink: &'a mut K, voice: Voice) -> Daemon<'a, D, K>
-        ensures { IsMadeOf K.Sink flusher.entry sink.entry voice sink.old result }
+        ensures { IsDaemonOf K.Sink flusher.entry sink.entry voice sink.old result }
     {
         let tally = Tally {
             done: 0,

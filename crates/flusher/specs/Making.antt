@@ -9,7 +9,7 @@ use Rattle.segment_file.specs.declared.scan_result.Tail.{Tail}
 use Rattle.flusher.specs.declared.flusher.Flusher.{Flusher}
 
 -- it has these parts, and the disk was so when it was made
-pub record IsMadeOf {D : Type 0} {g : Ghosts D} (over : Bor LogTable) (lent : MutBor D) (first_seat : Seat) (room : BatchState)
+pub record IsFlusherOf {D : Type 0} {g : Ghosts D} (over : Bor LogTable) (lent : MutBor D) (first_seat : Seat) (room : BatchState)
     (place : Tail) (before : D) (made : Flusher D g) : Type 0 where
   pub table : made.table ≡ over
   pub disk : made.disk ≡ lent

@@ -27,7 +27,7 @@ pub struct Flusher<'a, D: LogDisk> {
 }
 
 impl<'a, D: LogDisk> Flusher<'a, D> {
-    ghost use Rattle.flusher.specs.Making.{IsMadeOf};
+    ghost use Rattle.flusher.specs.Making.{IsFlusherOf};
 
     /// A flusher over a disk of which each image holds one log, which goes on at this tail. Its seat has sent nothing.
     pub fn make(
@@ -40,7 +40,7 @@ impl<'a, D: LogDisk> Flusher<'a, D> {
         requires log { D.honest disk.old → (opened : Log) × LogStands tail opened (D.images disk.old) }
         requires unsent { sent_by seat ≡ [] }
         requires unread { read_by seat ≡ [] }
-        ensures { IsMadeOf table.entry disk.entry seat batch tail disk.old result }
+        ensures { IsFlusherOf table.entry disk.entry seat batch tail disk.old result }
     {
         let first = Snapshot::of(disk);
         Flusher {

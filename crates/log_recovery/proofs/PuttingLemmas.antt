@@ -6,7 +6,7 @@ use Rattle.log_disk.specs.Faults.{HasCause}
 use Rattle.log_disk.specs.Streams.{AppendsPart, AppendsBut}
 use Rattle.log_disk.specs.declared.sink.Sink.{Ghosts}
 use Rattle.log_disk.proofs.Blocks.{AppendsBut-none, AppendsBut-more, AppendsBut-part, AppendsPart-first}
-use Rattle.log_recovery.specs.Putting.{Puts}
+use Rattle.log_disk.specs.Blocks.{PutsPiece}
 
 -- where no fault was counted until then
 pub cause-since : {T E : Type 0} (first before now : ℕ) (result : Result T E) → before ≡ first → HasCause before now result → HasCause first now result
@@ -18,7 +18,7 @@ cause-none first now value same = record { later = subst (λ count. first ≤ co
 
 module _ {K : Type 0} (g : Ghosts K) where
   -- nothing is put
-  pub puts-none : {T E : Type 0} (k : K) (waits : List ℕ) (value : T) → Puts {T = T} {E = E} g [] k k waits waits (Ok value)
+  pub puts-none : {T E : Type 0} (k : K) (waits : List ℕ) (value : T) → PutsPiece {T = T} {E = E} g [] k k waits waits (Ok value)
   puts-none k waits value = record {
     all = subst (λ bytes. AppendsBut (g.held_bytes k) (g.held_bytes k) bytes waits) (sym (append-nil waits))
         (AppendsBut-none (g.held_bytes k) waits);
@@ -30,15 +30,15 @@ module _ {K : Type 0} (g : Ghosts K) where
   pub puts-piece : {T E : Type 0} (piece text : List ℕ) (old new : K) (waits waits' : List ℕ) (result : Result T E) → piece ≡ text
       → OnOk result (AppendsBut (g.held_bytes old) (g.held_bytes new) (waits ++ piece) waits')
       → OnErr result (AppendsPart (g.held_bytes old) (g.held_bytes new) (waits ++ piece))
-      → HasCause (g.faults old) (g.faults new) result → Puts g text old new waits waits' result
+      → HasCause (g.faults old) (g.faults new) result → PutsPiece g text old new waits waits' result
   puts-piece piece text old new waits waits' result is all prefix cause =
-      subst (λ bytes. Puts g bytes old new waits waits' result) is record { all = all; prefix = prefix; cause = cause }
+      subst (λ bytes. PutsPiece g bytes old new waits waits' result) is record { all = all; prefix = prefix; cause = cause }
 
   -- two pieces, one behind the other
   module _ (first second : List ℕ) (old mid : K) (waits : List ℕ) where
     pub puts-then : {T E : Type 0} (new : K) (between after : List ℕ) (result : Result T E)
         → AppendsBut (g.held_bytes old) (g.held_bytes mid) (waits ++ first) between → g.faults mid ≡ g.faults old
-        → Puts g second mid new between after result → Puts g (first ++ second) old new waits after result
+        → PutsPiece g second mid new between after result → PutsPiece g (first ++ second) old new waits after result
     puts-then new between after result put same rest =
         let from = g.held_bytes old in let to = g.held_bytes new in
         record {
@@ -53,7 +53,7 @@ module _ {K : Type 0} (g : Ghosts K) where
     pub puts-cut : {T U E : Type 0} (after : List ℕ) (error : E)
         → AppendsPart (g.held_bytes old) (g.held_bytes mid) (waits ++ first)
         → HasCause {T = U} {E = E} (g.faults old) (g.faults mid) (Err error)
-        → Puts {T = T} {E = E} g (first ++ second) old mid waits after (Err error)
+        → PutsPiece {T = T} {E = E} g (first ++ second) old mid waits after (Err error)
     puts-cut after error cut cause = record {
       all = tt;
       prefix = AppendsPart-first (g.held_bytes old) (g.held_bytes mid) _ (waits ++ first) second cut

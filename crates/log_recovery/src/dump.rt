@@ -9,7 +9,7 @@ ghost use Rattle.log_record.specs.declared.rec.Rec.{Rec};
 ghost use Rattle.lsn_space.specs.Number.{number_text};
 ghost use Rattle.log_recovery.specs.Dump.{dump_text, opening_lines, rec_text, record_line, row_line};
 ghost use Rattle.log_recovery.specs.Dump.{row_lines, signed_text, snapshot_line, update_text};
-ghost use Rattle.log_recovery.specs.Putting.{Puts};
+ghost use Rattle.log_disk.specs.Blocks.{PutsPiece};
 ghost use Rattle.log_recovery.specs.Recovery.{HasRecords, list_of};
 
 use crate::line::Line;
@@ -50,7 +50,7 @@ fn put_opening<K: Sink>(
     block: &mut OutputBlock,
     sink: &mut K,
 ) -> Result<(), WriteFault>
-    ensures { Puts K.Sink (opening_lines opening.now) sink.old sink.new block.old block.new result }
+    ensures { PutsPiece K.Sink (opening_lines opening.now) sink.old sink.new block.old block.new result }
 {
     let count = opening.accounts.count();
     if count == 0 {
@@ -67,7 +67,7 @@ fn put_rows<K: Sink>(
     block: &mut OutputBlock,
     sink: &mut K,
 ) -> Result<(), WriteFault>
-    ensures { Puts K.Sink (row_lines 0 accounts.now.rows) sink.old sink.new block.old block.new result }
+    ensures { PutsPiece K.Sink (row_lines 0 accounts.now.rows) sink.old sink.new block.old block.new result }
 {
     'accounts: for account in 0..accounts.count() {
         put_row(account, accounts.at(account), line, block, sink)?;
@@ -83,7 +83,7 @@ fn put_snapshot<K: Sink>(
     block: &mut OutputBlock,
     sink: &mut K,
 ) -> Result<(), WriteFault>
-    ensures { Puts K.Sink (snapshot_line lsn txn) sink.old sink.new block.old block.new result }
+    ensures { PutsPiece K.Sink (snapshot_line lsn txn) sink.old sink.new block.old block.new result }
 {
     make_snapshot(lsn, txn, line);
     block.put(sink, line.as_slice())
@@ -97,7 +97,7 @@ fn put_row<K: Sink>(
     block: &mut OutputBlock,
     sink: &mut K,
 ) -> Result<(), WriteFault>
-    ensures { Puts K.Sink (row_line account row) sink.old sink.new block.old block.new result }
+    ensures { PutsPiece K.Sink (row_line account row) sink.old sink.new block.old block.new result }
 {
     make_row(account, row, line);
     block.put(sink, line.as_slice())
@@ -161,7 +161,7 @@ fn put_record<K: Sink>(
     block: &mut OutputBlock,
     sink: &mut K,
 ) -> Result<(), WriteFault>
-    ensures { Puts K.Sink (record_line start rec.now) sink.old sink.new block.old block.new result }
+    ensures { PutsPiece K.Sink (record_line start rec.now) sink.old sink.new block.old block.new result }
 {
     make_line(start, rec, line);
     block.put(sink, line.as_slice())

@@ -1,7 +1,8 @@
 //! The accounts text: a line with the end of the list, and one for each account.
 
 ghost use Rattle.std.specs.Prelude.{◌≡◌};
-ghost use Rattle.log_recovery.specs.Putting.{Puts, Writes};
+ghost use Rattle.log_disk.specs.Blocks.{PutsPiece};
+ghost use Rattle.log_recovery.specs.WholeText.{Writes};
 ghost use Rattle.log_recovery.specs.Text.{lsn_line, account_line, rows_text};
 
 use arrayvec::ArrayVec;
@@ -42,7 +43,7 @@ fn balance_line(account: u32, balance: u32) -> Line
 
 /// Puts the line with the end of a list.
 pub fn put_end<K: Sink>(lsn: Lsn, block: &mut OutputBlock, sink: &mut K) -> Result<(), WriteFault>
-    ensures { Puts K.Sink (lsn_line lsn) sink.old sink.new block.old block.new result }
+    ensures { PutsPiece K.Sink (lsn_line lsn) sink.old sink.new block.old block.new result }
 {
     block.put(sink, end_line(lsn).as_slice())
 }
@@ -53,7 +54,7 @@ fn put_balance<K: Sink>(
     block: &mut OutputBlock,
     sink: &mut K,
 ) -> Result<(), WriteFault>
-    ensures { Puts K.Sink (account_line account balance) sink.old sink.new block.old block.new result }
+    ensures { PutsPiece K.Sink (account_line account balance) sink.old sink.new block.old block.new result }
 {
     block.put(sink, balance_line(account, balance).as_slice())
 }

@@ -15,7 +15,7 @@ pub record CountsCall {T E : Type 0} (Fails : Type 0) (old new : DiskState) (res
   pub calls : new.calls ≡ raised old.calls
 
 -- a call that only looks leaves the file, its images, the count of writes and the room as they were
-pub record OnlyLooks (old new : DiskState) : Type 0 where
+pub record KeepsDisk (old new : DiskState) : Type 0 where
   pub keeps : Keeps (λ _. ⊤) file_of ImagesOf written_count_of old new
   pub room : new.room ≡ old.room
 

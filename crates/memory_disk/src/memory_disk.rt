@@ -5,7 +5,7 @@ ghost use Rattle.log_disk.specs.Attaching.{Attaches};
 ghost use Rattle.log_disk.specs.Disk.{put, IsOnlyImage, Elapses, CountsOne};
 ghost use Rattle.log_disk.specs.Faults.{HasCause, raised};
 ghost use Rattle.memory_disk.specs.History.Event.{Wrote, Synced};
-ghost use Rattle.memory_disk.specs.Calls.{CountsCall, IsFresh, OnlyLooks, Tears};
+ghost use Rattle.memory_disk.specs.Calls.{CountsCall, IsFresh, KeepsDisk, Tears};
 ghost use Rattle.memory_disk.specs.MemoryDisks.{file_of, ImagesOf, ImagesSinceOf, moment_of, AttachFails, CallFails};
 
 use crate::contents::{copy_from, place};
@@ -228,7 +228,7 @@ impl LogDisk for MemoryDisk {
     ghost only_now = { λ d. images-only d.start d.history };
 
     fn attach(&mut self, name: &Word, make: bool) -> Result<(), Failed>
-        ensures looks { OnlyLooks self.old self.new }
+        ensures looks { KeepsDisk self.old self.new }
         ensures attached { Attaches (record { name = name.now; may_make = make }) self.old.attached self.new.attached result }
 
         // It fails exactly where it was told to, or where the name is too long.
@@ -245,7 +245,7 @@ impl LogDisk for MemoryDisk {
 
     fn len(&mut self) -> Result<u64, Failed>
         ensures len { IfOk result (λ n. n ≡ length (file_of self.old)) }
-        ensures looks { OnlyLooks self.old self.new }
+        ensures looks { KeepsDisk self.old self.new }
         ensures attached { self.new.attached ≡ self.old.attached }
         ensures counts { CountsCall (CallFails self.old 0) self.old self.new result }
     {
@@ -257,7 +257,7 @@ impl LogDisk for MemoryDisk {
         ensures fits { IfOk result (λ n. n ≤ length buf.new) }
         ensures count { IfOk result (λ n. n ≡ min (length buf.old) (length (file_of self.old) - at)) }
         ensures bytes { IfOk result (λ n. take n buf.new ≡ take n (drop at (file_of self.old))) }
-        ensures looks { OnlyLooks self.old self.new }
+        ensures looks { KeepsDisk self.old self.new }
         ensures attached { self.new.attached ≡ self.old.attached }
         ensures counts { CountsCall (CallFails self.old 0) self.old self.new result }
     {

@@ -8,7 +8,7 @@ use Rattle.log_disk.specs.Faults.{HasCause}
 use Rattle.log_disk.specs.Streams.{AppendsPart, AppendsBut}
 use Rattle.log_disk.specs.declared.sink.Sink.{Ghosts}
 use Rattle.log_disk.proofs.Blocks.{AppendsBut-more, AppendsBut-part, AppendsPart-first}
-use Rattle.ship_stream.specs.Putting.{Puts}
+use Rattle.log_disk.specs.Blocks.{PutsPiece}
 use Rattle.ship_stream.specs.Stream.{counted_bytes}
 
 -- where no fault was counted until then
@@ -29,7 +29,7 @@ counted-is block count units = append_assoc block (to_be_bytes w32 count) (flat_
 module _ {K : Type 0} (g : Ghosts K) (count : ℕ) (units : List ℕ) (old mid : K) (waits : List ℕ) where
   pub counted-put : {T E : Type 0} (new : K) (between after : List ℕ) (result : Result T E)
       → AppendsBut (g.held_bytes old) (g.held_bytes mid) (waits ++ to_be_bytes w32 count) between → g.faults mid ≡ g.faults old
-      → Puts g (flat_map unit_bytes units) mid new between after result → Puts g (counted_bytes count units) old new waits after result
+      → PutsPiece g (flat_map unit_bytes units) mid new between after result → PutsPiece g (counted_bytes count units) old new waits after result
   counted-put new between after result put same rest =
       let from = g.held_bytes old in let to = g.held_bytes new in let body : List ℕ = flat_map unit_bytes units in
       record {
@@ -43,7 +43,7 @@ module _ {K : Type 0} (g : Ghosts K) (count : ℕ) (units : List ℕ) (old mid :
   pub counted-cut : {T U E : Type 0} (after : List ℕ) (error : E)
       → AppendsPart (g.held_bytes old) (g.held_bytes mid) (waits ++ to_be_bytes w32 count)
       → HasCause {T = U} {E = E} (g.faults old) (g.faults mid) (Err error)
-      → Puts {T = T} {E = E} g (counted_bytes count units) old mid waits after (Err error)
+      → PutsPiece {T = T} {E = E} g (counted_bytes count units) old mid waits after (Err error)
   counted-cut after error cut cause = record {
     all = tt;
     prefix = AppendsPart-first (g.held_bytes old) (g.held_bytes mid) _ (waits ++ to_be_bytes w32 count) (flat_map unit_bytes units) cut

@@ -11,7 +11,7 @@ ghost use Rattle.log_record.specs.LogList.{size_of, AreUnitsOf};
 ghost use Rattle.log_record.specs.Spelling.{spelling, IsSpellable};
 ghost use Rattle.lsn_space.specs.Unit.{unit_bytes};
 ghost use Rattle.ship_stream.specs.Packing.{stream_of};
-ghost use Rattle.ship_stream.specs.Putting.{Puts};
+ghost use Rattle.log_disk.specs.Blocks.{PutsPiece};
 ghost use Rattle.ship_stream.specs.Shipping.{BeginsFrame};
 ghost use Rattle.ship_stream.specs.Stream.{head_bytes, counted_bytes};
 
@@ -45,7 +45,7 @@ pub fn put_stream<K: Sink>(from: Lsn, units: &[u64], sink: &mut K) -> Result<(),
 /// Puts the head.
 #[tactic(auto, unfolding(crate::specs::Stream::head_bytes))]
 fn put_head<K: Sink>(from: Lsn, block: &mut OutputBlock, sink: &mut K) -> Result<(), WriteFault>
-    ensures { Puts K.Sink (head_bytes from) sink.old sink.new block.old block.new result }
+    ensures { PutsPiece K.Sink (head_bytes from) sink.old sink.new block.old block.new result }
 {
     let [a, b, c, d] = from.units().to_be_bytes();
     block.put(
@@ -56,7 +56,7 @@ fn put_head<K: Sink>(from: Lsn, block: &mut OutputBlock, sink: &mut K) -> Result
 
 /// Puts a count.
 fn put_number<K: Sink>(count: u32, block: &mut OutputBlock, sink: &mut K) -> Result<(), WriteFault>
-    ensures { Puts K.Sink (to_be_bytes w32 count) sink.old sink.new block.old block.new result }
+    ensures { PutsPiece K.Sink (to_be_bytes w32 count) sink.old sink.new block.old block.new result }
 {
     block.put(sink, &count.to_be_bytes())
 }
@@ -68,7 +68,7 @@ fn put_counted<K: Sink>(
     sink: &mut K,
 ) -> Result<(), WriteFault>
     requires { length units.now < 2 ^ 32 }
-    ensures { Puts K.Sink (counted_bytes (length units.now) units.now) sink.old sink.new block.old block.new result }
+    ensures { PutsPiece K.Sink (counted_bytes (length units.now) units.now) sink.old sink.new block.old block.new result }
 {
     put_number(units.len() as u32, block, sink)?;
     put_units(units, block, sink)
@@ -80,7 +80,7 @@ fn put_units<K: Sink>(
     block: &mut OutputBlock,
     sink: &mut K,
 ) -> Result<(), WriteFault>
-    ensures { Puts K.Sink (flat_map unit_bytes units.now) sink.old sink.new block.old block.new result }
+    ensures { PutsPiece K.Sink (flat_map unit_bytes units.now) sink.old sink.new block.old block.new result }
 {
     'units: for unit in units {
         block.put(sink, &bytes_of(*unit))?;

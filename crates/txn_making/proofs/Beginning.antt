@@ -22,7 +22,7 @@ use Rattle.ring_buffer.specs.Calls.{HasEntries, entry_of}
 use Rattle.txn_jobs.specs.declared.cause.Cause.{Cause}
 use Rattle.txn_parts.specs.declared.holding.TakenAccount.{TakenAccount}
 use Rattle.txn_making.specs.Holdings.{IsUnchanged}
-use Rattle.txn_making.specs.Inserts.{Puts, placing_all, IsLeft, StopsFor, IsCutOff}
+use Rattle.txn_making.specs.Inserts.{PutsRecord, placing_all, IsLeft, StopsFor, IsCutOff}
 use Rattle.txn_making.specs.Legs.{changes_by, HoldsJob, AddsRecords, StandsBefore, TouchesLeg}
 use Rattle.txn_making.proofs.Adding.{adds-none, left-behind, records-behind, cut-off}
 use Rattle.txn_making.proofs.Putting.{spells-next, puts-it, stops-it}
@@ -46,7 +46,7 @@ module _ (number : ℕ) (job : Job) (text : List ℕ) (old : Seat)
   cut-note cause new same stops = cut-off (Note number text) next.rest cause old new next.plan
       (ap (λ placed. has_commit (recs_of placed)) none) same (stops-it (Note number text) old next cause (view_of new) stops)
 
-  pub noted-by : (end : ℕ) (new : Seat) → Puts (next_of (view_of old).books) end old new
+  pub noted-by : (end : ℕ) (new : Seat) → PutsRecord (next_of (view_of old).books) end old new
       → AddsRecords (with_note number (note_of job.note) []) old new
   noted-by end new put = record {
     added = entry_of put-note.start (Note number text) ∷ [];
@@ -54,7 +54,7 @@ module _ (number : ℕ) (job : Job) (text : List ℕ) (old : Seat)
     records_are = sym (ap (λ note. with_note number (note_of note) []) noted ∙ long text some);
   }
     where
-      put-note : Puts (Note number text) end old new
+      put-note : PutsRecord (Note number text) end old new
       put-note = puts-it (Note number text) old next end new put
 
       long : (bytes : List ℕ) → 1 ≤ length bytes → with_note number bytes [] ≡ Note number bytes ∷ []

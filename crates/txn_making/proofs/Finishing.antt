@@ -24,7 +24,7 @@ use Rattle.txn_jobs.specs.declared.rows.Answer.TheVariants.{Done, Short, Over}
 use Rattle.txn_parts.specs.declared.ended.TransferEnd.{TransferEnd}
 use Rattle.txn_making.specs.Endings.{release_at, EndsTransfer}
 use Rattle.txn_making.specs.Holdings.{GoesBack}
-use Rattle.txn_making.specs.Inserts.{placing_all, Adds, Puts, StopsFor, IsCutOff}
+use Rattle.txn_making.specs.Inserts.{placing_all, Adds, PutsRecord, StopsFor, IsCutOff}
 use Rattle.txn_making.specs.Legs.{HoldsJob, HasChanged, ReachesEnd, last_record}
 use Rattle.txn_making.proofs.Adding.{adds-trans, left-behind, cut-off}
 use Rattle.txn_making.proofs.Backing.{all-unchanged}
@@ -90,7 +90,7 @@ cut-last number job answer holdings between reaches cause new same stops =
 pub ends-transfer : (number : ℕ) (job : Job) (ended : TransferEnd) (holdings : List TakenAccount) (old between new : Seat)
     (before : List Entry)
     → Adds before old between → ReachesEnd ended.answer number job holdings (view_of between).books
-    → Puts (next_of (view_of between).books) ended.end between new → EndsTransfer number job ended holdings old new
+    → PutsRecord (next_of (view_of between).books) ended.end between new → EndsTransfer number job ended holdings old new
 ends-transfer number job ended holdings old between new before adds reaches put-next = record {
   before = before;
   start = put.start;
@@ -106,7 +106,7 @@ ends-transfer number job ended holdings old between new before adds reaches put-
       ∙ (λ i. ends-last number job ended.answer i || has_end (recs_of (view_of between).books.placed));
 }
   where
-    put : Puts (last_record number job ended.answer) ended.end between new
+    put : PutsRecord (last_record number job ended.answer) ended.end between new
     put = puts-it (last_record number job ended.answer) between
         (next-last number job ended.answer holdings (view_of between).books reaches) ended.end new put-next
 

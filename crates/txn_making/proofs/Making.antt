@@ -13,7 +13,7 @@ use Rattle.ring_buffer.specs.Calls.{entry_of}
 use Rattle.early_locks.specs.Locks.{HoldsTaken}
 use Rattle.txn_jobs.specs.declared.cause.Cause.{Cause}
 use Rattle.txn_parts.specs.declared.holding.TakenAccount.{TakenAccount}
-use Rattle.txn_making.specs.Inserts.{placing_all, Puts, IsLeft, StopsFor, IsCutOff}
+use Rattle.txn_making.specs.Inserts.{placing_all, PutsRecord, IsLeft, StopsFor, IsCutOff}
 use Rattle.txn_making.specs.Legs.{MayMakeLeg, AddsRecords, leg_records}
 use Rattle.txn_making.proofs.Adding.{adds-trans, left-behind, uncommitted-behind, cut-off}
 use Rattle.txn_making.proofs.Putting.{spells-next, puts-it, stops-it}
@@ -60,8 +60,8 @@ module _ (accounts number : ℕ) (leg : ℕ × ℕ × ℕ) (holdings : List Take
   cut-first cause new same stops = cut-off less (more ∷ may.rest) cause old new may.left may.uncommitted same
       (stops-it less old next-less cause (view_of new) stops)
 
-  module _ (between : Seat) (end : ℕ) (put : Puts (next_of books) end old between) where
-    put-less : Puts less end old between
+  module _ (between : Seat) (end : ℕ) (put : PutsRecord (next_of books) end old between) where
+    put-less : PutsRecord less end old between
     put-less = puts-it less old next-less end between put
 
     placed : (view_of between).books ≡ placing_all (entry_of put-less.start less ∷ []) books
@@ -88,7 +88,7 @@ module _ (accounts number : ℕ) (leg : ℕ × ℕ × ℕ) (holdings : List Take
         (uncommitted-behind (entry_of put-less.start less ∷ []) books (view_of between).books placed refl may.uncommitted) same
         (stops-it more between next-more cause (view_of new) stops)
 
-    pub leg-made : (new : Seat) (end' : ℕ) → Puts (next_of (view_of between).books) end' between new
+    pub leg-made : (new : Seat) (end' : ℕ) → PutsRecord (next_of (view_of between).books) end' between new
         → AddsRecords (leg_records number (last_commit_taken books.held) leg) old new
     leg-made new end' put' = record {
       added = entry_of put-less.start less ∷ entry_of put-more.start more ∷ [];
@@ -96,5 +96,5 @@ module _ (accounts number : ℕ) (leg : ℕ × ℕ × ℕ) (holdings : List Take
       records_are = refl;
     }
       where
-        put-more : Puts more end' between new
+        put-more : PutsRecord more end' between new
         put-more = puts-it more between next-more end' new put'

@@ -12,7 +12,7 @@ use Rattle.log_table.specs.Seats.{view_of}
 use Rattle.log_rule.proofs.RecordsToPlace.{next-is}
 use Rattle.ring_buffer.specs.Calls.{MayPlace, HasEntries, entry_of}
 use Rattle.txn_jobs.specs.declared.cause.Cause.{Cause}
-use Rattle.txn_making.specs.Inserts.{Puts, StopsFor}
+use Rattle.txn_making.specs.Inserts.{PutsRecord, StopsFor}
 use Rattle.ring_buffer.proofs.TwoCalls.{HasEntries-trans}
 
 pub may-place : (units : List ℕ) (books : Books) → units ≡ spelling (next_of books) → MayEnter (next_of books) books
@@ -24,7 +24,7 @@ pub puts : (n at end : ℕ) (old between new : Seat) → n ≡ size_of (next_of 
     → HasEntries old between (view_of old).entries (view_of old).books
     → HasEntries between new ((view_of between).entries ++ entry_of at (next_of (view_of between).books) ∷ [])
     (placing (at + n) (next_of (view_of between).books) (view_of between).books)
-    → (view_of between).seen.tail ≤ at → at + n ≤ (view_of new).seen.tail → Puts (next_of (view_of old).books) end old new
+    → (view_of between).seen.tail ≤ at → at + n ≤ (view_of new).seen.tail → PutsRecord (next_of (view_of old).books) end old new
 puts n at end old between new size ends before after behind seen = record {
   start = at;
   ends = ends ∙ ap (λ m. at + m) size;
@@ -43,8 +43,8 @@ module _ (rec : Rec) (old : Seat) (next : IsNext rec (view_of old).books) where
   pub spells-next : (units : List ℕ) → units ≡ spelling rec → units ≡ spelling (next_of (view_of old).books)
   spells-next units spelled = spelled ∙ sym (ap spelling same)
 
-  pub puts-it : (end : ℕ) (new : Seat) → Puts (next_of (view_of old).books) end old new → Puts rec end old new
-  puts-it end new = subst (λ r. Puts r end old new) same
+  pub puts-it : (end : ℕ) (new : Seat) → PutsRecord (next_of (view_of old).books) end old new → PutsRecord rec end old new
+  puts-it end new = subst (λ r. PutsRecord r end old new) same
 
   pub stops-it : (cause : Cause) (view : View) → StopsFor cause (next_of (view_of old).books ∷ []) view → StopsFor cause (rec ∷ []) view
   stops-it cause view = subst (λ r. StopsFor cause (r ∷ []) view) same

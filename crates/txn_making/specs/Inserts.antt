@@ -39,7 +39,7 @@ abbrev pub HasAdded : {R Q G : Type 0} → Desk R Q G → Desk R Q G → Type 0
 HasAdded old new = (added : List Entry) × Adds added old.seat.now new.seat.now
 
 -- the seat inserted this record alone, which ends there
-pub record Puts (rec : Rec) (end : ℕ) (old new : Seat) : Type 0 where
+pub record PutsRecord (rec : Rec) (end : ℕ) (old new : Seat) : Type 0 where
   pub start : ℕ
   pub ends : end ≡ start + size_of rec
   pub adds : Adds (entry_of start rec ∷ []) old new

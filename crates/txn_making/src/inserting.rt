@@ -3,7 +3,7 @@ ghost use Rattle.std.specs.Prelude.{◌≡◌, [], ◌∷◌, IfOk, IfErr, OnErr
 ghost use Rattle.log_record.specs.Spelling.{spelling};
 ghost use Rattle.log_rule.specs.Books.{MayEnter};
 ghost use Rattle.txn_parts.specs.Desk.{IsAtWork, WorksOn, HasOnlyLooked, view_at, books_at};
-ghost use Rattle.txn_making.specs.Inserts.{Puts, StopsFor, next_at};
+ghost use Rattle.txn_making.specs.Inserts.{PutsRecord, StopsFor, next_at};
 
 use consol_array::insert;
 use log_record::Units;
@@ -24,7 +24,7 @@ pub fn insert_units<R: Wait, Q: Relief, G: Gate>(
     requires next { MayEnter (next_at desk.old) (books_at desk.old) }
     requires spelled { units.now ≡ spelling (next_at desk.old) }
     ensures work { WorksOn Q.Relief desk.old desk.new }
-    ensures put { IfOk result (λ end. Puts (next_at desk.old) end desk.old.seat.now desk.new.seat.now) }
+    ensures put { IfOk result (λ end. PutsRecord (next_at desk.old) end desk.old.seat.now desk.new.seat.now) }
     ensures kept { OnErr result (HasOnlyLooked desk.old desk.new) }
     ensures stopped { IfErr result (λ cause. StopsFor cause (next_at desk.old ∷ []) (view_at desk.new)) }
 {
