@@ -5,7 +5,7 @@ ghost use Rattle.log_record.specs.declared.rec.Rec.{Rec};
 ghost use Rattle.log_record.specs.Spelling.{header, spelling, IsSpellable, BeginsWith};
 ghost use Rattle.log_record.specs.LogList.{AreUnitsOf};
 ghost use Rattle.end_lines.specs.Telling.{ended};
-ghost use Rattle.flusher.specs.Keeping.{StandsInAll};
+ghost use Rattle.flusher.specs.KeptLog.{StandsInAll};
 ghost use Rattle.batch_lines.specs.Telling.{TellsBatch};
 
 use end_lines::{Tally, Voice, tell_record};

@@ -8,7 +8,7 @@ use Rattle.log_disk.proofs.Moments.{Leaves-trans, Leaves-weaken}
 use Rattle.lsn_space.specs.Opening.{Opening}
 use Rattle.log_recovery.specs.Recovery.{HoldsLawful}
 use Rattle.segment_file.specs.Log.{cut_log}
-use Rattle.segment_file.specs.Standing.{HoldsNoneOrLog, LogStands}
+use Rattle.segment_file.specs.StandingLog.{HoldsNoneOrLog, LogStands}
 use Rattle.segment_file.specs.declared.scan_result.Tail.{Tail}
 use Rattle.cli_cut.specs.Cutting.{AllHoldCut, GrowsByCut, IsSource, MayBeCut, ReadsCut}
 

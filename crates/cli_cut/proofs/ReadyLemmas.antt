@@ -22,7 +22,7 @@ use Rattle.segment_file.specs.declared.scan_result.Tail.{Tail}
 use Rattle.segment_file.specs.File.{BeginsAsLog, joined}
 use Rattle.segment_file.specs.Log.{Log, cut_log, with_units}
 use Rattle.segment_cut.specs.Underway.{HoldsNoneOrBatches, IsUnderway}
-use Rattle.ship_stream.specs.Packing.{packed_behind}
+use Rattle.ship_stream.specs.Frames.{packed_behind}
 use Rattle.cli_cut.specs.Batches.{batches_of}
 use Rattle.cli_cut.specs.Writing.{WritesLog}
 use Rattle.cli_cut.proofs.WritingLemmas.{IsWriting, writing-begun, writing-flushed, writing-full, writing-taken}

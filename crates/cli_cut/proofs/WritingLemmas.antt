@@ -17,7 +17,7 @@ use Rattle.segment_file.specs.File.{BeginsAsLog, joined}
 use Rattle.segment_file.specs.Log.{Log, cut_log, with_units}
 use Rattle.segment_file.proofs.FileLemmas.{joined-more}
 use Rattle.segment_cut.specs.Underway.{IsUnderway}
-use Rattle.ship_stream.specs.Packing.{packed_behind}
+use Rattle.ship_stream.specs.Frames.{packed_behind}
 use Rattle.ship_stream.proofs.PackingLemmas.{fits-behind, flushed-behind}
 use Rattle.cli_cut.specs.Batches.{batches_of}
 use Rattle.cli_cut.proofs.GenesisLemmas.{first-left}

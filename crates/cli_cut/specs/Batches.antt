@@ -3,7 +3,7 @@ use Rattle.std.specs.Prelude.{ℕ, List, [], map}
 use Rattle.log_record.specs.declared.rec.Rec.{Rec}
 use Rattle.log_record.specs.LogList.{units_of}
 use Rattle.segment_file.specs.declared.layout.TheConstants.{MOST_UNITS}
-use Rattle.ship_stream.specs.Packing.{packed_behind}
+use Rattle.ship_stream.specs.Frames.{packed_behind}
 
 -- the units of the batches that all records go into, each of as many whole records as fit
 abbrev pub batches_of : List Rec → List (List ℕ)

@@ -1,6 +1,6 @@
 -- What `cut` and `upgrade` do to what they work on.
 use Rattle.std.specs.Prelude.{◌≡◌, ℕ, List, Option, IfSome}
-use Rattle.log_disk.specs.Attaching.{existing_or_made}
+use Rattle.log_disk.specs.Attachment.{existing_or_made}
 use Rattle.log_disk.specs.Costs.{Costs}
 use Rattle.log_disk.specs.Disk.{Leaves}
 use Rattle.log_disk.specs.declared.disk.LogDisk.{Ghosts}

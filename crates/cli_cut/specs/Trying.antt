@@ -1,6 +1,6 @@
 -- What is done to make a log of the one that is read, up to the text of its accounts. `g` and `h` are what the disk and the input show.
 use Rattle.std.specs.Prelude.{◌≡◌, ◌↔◌, ℕ, List, Option, Result, IfOk, IfErr, OnOk, MatchResult, IsErrOf}
-use Rattle.log_disk.specs.Attaching.{existing_or_made}
+use Rattle.log_disk.specs.Attachment.{existing_or_made}
 use Rattle.log_disk.specs.Disk.{Leaves}
 use Rattle.log_disk.specs.Faults.{CountsWhere}
 use Rattle.log_disk.specs.declared.disk.LogDisk.{Ghosts}

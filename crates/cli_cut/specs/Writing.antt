@@ -10,8 +10,8 @@ use Rattle.lsn_space.specs.declared.lsn.TheConstants.{LAST}
 use Rattle.log_record.specs.declared.rec.Rec.{Rec}
 use Rattle.log_record.specs.LogList.{AreUnitsOf}
 use Rattle.log_recovery.specs.Opened.{OpenedList, log_of}
-use Rattle.segment_file.specs.Packing.{BatchState}
-use Rattle.segment_file.specs.Standing.{IsStableGate}
+use Rattle.segment_file.specs.PackedBatch.{BatchState}
+use Rattle.segment_file.specs.StandingLog.{IsStableGate}
 use Rattle.segment_file.specs.declared.layout.TheConstants.{MOST_UNITS}
 use Rattle.segment_cut.specs.Underway.{HoldsBatches, HoldsNoneOrBatches}
 use Rattle.cli_cut.specs.Batches.{batches_of}

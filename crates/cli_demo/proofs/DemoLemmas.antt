@@ -26,11 +26,11 @@ use Rattle.log_recovery.specs.Opened.{list_end, placed, base_in, base_left}
 use Rattle.log_recovery.proofs.OpenedLemmas.{list_end-more}
 use Rattle.segment_file.proofs.FirstFormat.{all-log}
 use Rattle.log_rule.specs.declared.start.Start.{Start}
-use Rattle.log_rule.specs.Opening.{HasAccounts}
+use Rattle.log_rule.specs.FirstAccounts.{HasAccounts}
 use Rattle.log_table.specs.Seats.{key_of}
 use Rattle.segment_file.specs.File.{HoldsUnits}
 use Rattle.segment_file.specs.Lengths.{most_end, new_end}
-use Rattle.segment_file.specs.Standing.{AllStand, HoldsNoneOr, IsShut}
+use Rattle.segment_file.specs.StandingLog.{AllStand, HoldsNoneOr, IsShut}
 use Rattle.segment_file.specs.declared.scan_result.Tail.{Tail}
 use Rattle.stop_word.specs.declared.fault.DaemonFault.TheVariants.{WriteFault}
 use Rattle.end_lines.specs.declared.voice.Voice.{Voice}
@@ -48,7 +48,7 @@ use Rattle.cli_shared.specs.Creation.{IsFindingFault, TellsWhether, genesis_list
 use Rattle.command_line.specs.Ranges.{AreInRange}
 use Rattle.command_line.specs.declared.options.RunOptions.{RunOptions}
 use Rattle.cli_demo.specs.Demo.{AnswersDemo, IsAnswerToDemo, IsPreparedDemo, IsReadyDemo, MayPrecede, OnlyMakes, RanAllGenerated, RanGenerated, TellsSummary, generated_end}
-use Rattle.cli_ending.specs.Ending.{AreWhole, Concludes, IsFirstLogEnd, NothingStopped, counted_text}
+use Rattle.cli_ending.specs.Conclusion.{AreWhole, Concludes, IsFirstLogEnd, NothingStopped, counted_text}
 use Rattle.cli_threads.specs.Ending.{HasEnded}
 use Rattle.cli_demo.specs.Summary.{generated_opening, generated_rows, summary_text}
 use Rattle.run_summary.specs.Summary.{summary_of}

@@ -1,7 +1,7 @@
 -- What `demo` does to the disk and the output. It reads nothing.
 use Rattle.std.specs.Prelude.{ℕ, List}
 use Rattle.command_line.specs.declared.options.RunOptions.{RunOptions}
-use Rattle.log_disk.specs.Attaching.{existing_or_made}
+use Rattle.log_disk.specs.Attachment.{existing_or_made}
 use Rattle.log_disk.specs.declared.disk.LogDisk.{Ghosts}
 use Rattle.log_disk.specs.declared.sink.Sink.{Ghosts as SinkGhosts}
 use Rattle.segment_file.specs.File.{BeginsOpen}

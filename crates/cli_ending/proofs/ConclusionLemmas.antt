@@ -8,7 +8,7 @@ use Rattle.log_recovery.specs.Text.{rows_text}
 use Rattle.cli_shared.specs.declared.report.Detail.{Detail}
 use Rattle.cli_shared.specs.declared.report.Detail.TheVariants.{Fine, Write, Disk, LogEnd}
 use Rattle.cli_ending.specs.declared.conclusion.RunEnd.{RunEnd}
-use Rattle.cli_ending.specs.Ending.{Concludes, NothingStopped, StoppedAs, closed_text}
+use Rattle.cli_ending.specs.Conclusion.{Concludes, NothingStopped, StoppedAs, closed_text}
 
 -- why the transfers were stopped is what the program answers, and it writes nothing
 pub concludes-stopped : {K : Type 0} (h : SinkGhosts K) (ended : RunEnd) (text : List ℕ) (sink : K) (why : Detail) → StoppedAs ended why

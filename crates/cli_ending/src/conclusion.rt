@@ -1,7 +1,7 @@
 //! How the transfers of a run ended, and what the program answers then.
 
 ghost use Rattle.std.specs.Prelude.{◌≡◌, ◌≤◌, IfSome, IfNone};
-ghost use Rattle.cli_ending.specs.Ending.{AreWhole, HasConcluded, IsFirstLogEnd, MayConclude, NoneStopped, NothingStopped, StoppedAs, closed_text};
+ghost use Rattle.cli_ending.specs.Conclusion.{AreWhole, HasConcluded, IsFirstLogEnd, MayConclude, NoneStopped, NothingStopped, StoppedAs, closed_text};
 
 use cli_shared::Detail;
 use commit_pipeline::DaemonFault;

@@ -2,7 +2,7 @@
 
 ghost use Rattle.std.specs.Prelude.{◌≡◌, ◌≤◌, length};
 ghost use Rattle.log_record.specs.declared.limits.TheConstants.{MOST_ACCOUNTS};
-ghost use Rattle.cli_ending.specs.Ending.{HasConcluded, MayConclude, counted_text};
+ghost use Rattle.cli_ending.specs.Conclusion.{HasConcluded, MayConclude, counted_text};
 
 use crate::conclusion::{RunEnd, stopped};
 use cli_shared::Detail;

@@ -1,6 +1,6 @@
 //! Each command that writes a log, where one of its calls fails: of the disk, of the output, of the input.
 
-use crate::failing::{Command, Failing, Part, given_of, so_many_calls_fail, some_calls_fail};
+use crate::failed::{Command, Failing, Part, given_of, so_many_calls_fail, some_calls_fail};
 use crate::images::{ALONE, Left, ONE_TRANSFER, PICKS, accounts_in};
 use cli_rig::{Answer, End, GENESIS_LOG, NEW, answer_at, has_answered};
 use log_disk::OpenGate;

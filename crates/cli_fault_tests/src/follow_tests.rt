@@ -1,6 +1,6 @@
 //! `follow`, and the commands that only read a log, `ship`, `asof` and `statement`, where one of their calls fails.
 
-use crate::failing::{Command, Part, so_many_calls_fail};
+use crate::failed::{Command, Part, so_many_calls_fail};
 use crate::images::{Left, ONE_TRANSFER, PICKS, accounts_in};
 use cli_rig::{Answer, End, GENESIS_LOG, Given, answer_at, has_answered, log_of};
 use log_disk::OpenGate;

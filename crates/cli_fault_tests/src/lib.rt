@@ -4,7 +4,7 @@
 #[cfg(test)]
 mod call_tests;
 #[cfg(test)]
-mod failing;
+mod failed;
 #[cfg(test)]
 mod follow_tests;
 #[cfg(test)]

@@ -24,7 +24,7 @@ use Rattle.lock_core.specs.declared.job.Job.{Job}
 use Rattle.lock_core.specs.Alone.{leg_updates, planned_records}
 use Rattle.lock_core.specs.Transfers.{transfer_of}
 use Rattle.segment_file.specs.File.{written, batch, gated, joined, IsCountedBatch}
-use Rattle.segment_file.specs.Standing.{StandsAt}
+use Rattle.segment_file.specs.StandingLog.{StandsAt}
 use Rattle.segment_file.specs.declared.layout.TheConstants.{CLOSED}
 use Rattle.segment_file.specs.declared.scan_result.Tail.{Tail}
 use Rattle.segment_file.proofs.BatchLemmas.{length-batch}
@@ -34,11 +34,11 @@ use Rattle.log_rule.specs.declared.start.Start.{Start}
 use Rattle.log_rule.specs.declared.view.Given.{Given}
 use Rattle.log_rule.specs.declared.view.View.{View}
 use Rattle.log_rule.specs.Accounts.{IsOfFront}
-use Rattle.log_rule.specs.Closing.{IsGathered, HasLedger}
+use Rattle.log_rule.specs.ClosedLog.{IsGathered, HasLedger}
 use Rattle.log_rule.specs.Sound.{base_of}
 use Rattle.log_rule.specs.Views.{flusher}
 use Rattle.log_table.specs.declared.table.Seat.{Seat}
-use Rattle.flusher.specs.Keeping.{KeepsLog}
+use Rattle.flusher.specs.KeptLog.{KeepsLog}
 use Rattle.flusher.proofs.Keeps.{KeepsLog-first}
 use Rattle.commit_pipeline.specs.declared.daemon.Daemon.{Daemon}
 use Rattle.commit_pipeline.specs.Told.{HasTold}

@@ -21,7 +21,7 @@ use Rattle.lock_core.proofs.SerialFronts.{serial-partly}
 use Rattle.lock_core.proofs.Witnessing.{transfer-lawful, transfer-serial}
 use Rattle.segment_file.specs.File.{written, batch, IsCountedBatch}
 use Rattle.segment_file.specs.Log.{Log, with_units, HoldsLog}
-use Rattle.segment_file.specs.Standing.{StandsAt, LogStands, LogStandsAt, IsShut}
+use Rattle.segment_file.specs.StandingLog.{StandsAt, LogStands, LogStandsAt, IsShut}
 use Rattle.segment_file.specs.declared.layout.TheConstants.{OPEN, CLOSED}
 use Rattle.segment_file.specs.declared.scan_result.Tail.{Tail}
 use Rattle.segment_file.proofs.BatchLemmas.{length-batch}
@@ -32,7 +32,7 @@ use Rattle.log_table.specs.declared.table.Seat.{Seat}
 use Rattle.log_rule.specs.declared.start.Start.{Start}
 use Rattle.log_rule.specs.declared.view.Entry.{Entry}
 use Rattle.log_rule.specs.declared.view.View.{View}
-use Rattle.log_rule.specs.Closing.{IsGathered, HasLedger, IsLedger}
+use Rattle.log_rule.specs.ClosedLog.{IsGathered, HasLedger, IsLedger}
 use Rattle.log_table.specs.Seats.{IsOf}
 use Rattle.log_rule.specs.Sound.{base_of}
 use Rattle.log_rule.specs.Views.{flusher}
@@ -46,7 +46,7 @@ use Rattle.commit_pipeline.specs.Told.{HasTold, HasToldAll}
 use Rattle.commit_pipeline.specs.Turning.{MayTurn}
 use Rattle.commit_pipeline.proofs.RanLemmas.{none≢some}
 use Rattle.commit_pipeline.proofs.ToldSoFar.{HasTold-all, HasToldAll-none}
-use Rattle.flusher.specs.Keeping.{HoldsFront, KeepsLog}
+use Rattle.flusher.specs.KeptLog.{HoldsFront, KeepsLog}
 use Rattle.flusher.proofs.Keeps.{KeepsLog-first}
 use Rattle.txn_jobs.specs.declared.cause.Worked.TheVariants.{All}
 use Rattle.txn_jobs.specs.Places.{NumberedJobs}

@@ -11,7 +11,7 @@ use Rattle.segment_file.specs.declared.layout.TheConstants.{CLOSED}
 use Rattle.lock_core.specs.declared.job.Job.{Job}
 use Rattle.log_rule.specs.declared.start.Start.{Start}
 use Rattle.log_rule.specs.declared.view.View.{View}
-use Rattle.log_rule.specs.Closing.{records_of}
+use Rattle.log_rule.specs.ClosedLog.{records_of}
 use Rattle.commit_pipeline.specs.declared.daemon.Daemon.{Daemon}
 use Rattle.commit_pipeline.specs.EndLines.{done_line}
 use Rattle.txn_jobs.specs.declared.cause.Cause.TheVariants.{LogEnd}

@@ -8,7 +8,7 @@ ghost use lib.ListN.{get_elem?};
 ghost use Rattle.log_record.specs.declared.rec.Rec.{Rec};
 ghost use Rattle.log_rule.specs.declared.start.Start.{Start};
 ghost use Rattle.log_rule.specs.declared.view.View.{View};
-ghost use Rattle.log_rule.specs.Closing.{records_of};
+ghost use Rattle.log_rule.specs.ClosedLog.{records_of};
 ghost use Rattle.log_table.specs.Seats.{IsOf};
 ghost use Rattle.commit_pipeline.specs.declared.daemon.Daemon.{Daemon};
 ghost use Rattle.commit_pipeline.specs.Later.{HasReason};

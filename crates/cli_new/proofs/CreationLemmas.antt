@@ -12,7 +12,7 @@ use Rattle.log_recovery.specs.Recovery.{HoldsLawful}
 use Rattle.lsn_space.specs.Accounts.{Accounts}
 use Rattle.segment_file.specs.File.{HoldsUnits}
 use Rattle.segment_file.specs.Lengths.{new_end}
-use Rattle.segment_file.specs.Standing.{HoldsNoneOr, AllStand}
+use Rattle.segment_file.specs.StandingLog.{HoldsNoneOr, AllStand}
 use Rattle.segment_file.specs.declared.scan_result.Tail.{Tail}
 use Rattle.segment_file.proofs.StandingLemmas.{holds}
 use Rattle.txn_script.specs.Balances.{IsBalancesText}

@@ -1,6 +1,6 @@
 -- What `new` does to what it works on.
 use Rattle.std.specs.Prelude.{◌≡◌, IfSome, ℕ, List}
-use Rattle.log_disk.specs.Attaching.{existing_or_made}
+use Rattle.log_disk.specs.Attachment.{existing_or_made}
 use Rattle.log_disk.specs.Costs.{Costs}
 use Rattle.log_disk.specs.Disk.{Leaves}
 use Rattle.log_disk.specs.declared.disk.LogDisk.{Ghosts}

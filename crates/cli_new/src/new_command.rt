@@ -1,6 +1,6 @@
 //! The command `new`: a log of balances.
 ghost use Rattle.std.specs.Prelude.{◌≡◌, ◌≤◌, ◌+◌, ◌↔◌, IfSome, IfOk, IfErr, OnOk, MatchResult, IsErrOf};
-ghost use Rattle.log_disk.specs.Attaching.{existing_or_made};
+ghost use Rattle.log_disk.specs.Attachment.{existing_or_made};
 ghost use Rattle.log_disk.specs.Costs.{Costs};
 ghost use Rattle.log_disk.specs.Disk.{Leaves};
 ghost use Rattle.log_disk.specs.Faults.{CountsWhere};

@@ -9,7 +9,7 @@ use Rattle.log_recovery.specs.Opened.{placed, base_in}
 use Rattle.log_recovery.specs.Recovery.{Recovers}
 use Rattle.log_recovery.proofs.OpenedLemmas.{some-accounts, few-held, balance-held, last-held}
 use Rattle.log_rule.specs.declared.start.Start.{Start}
-use Rattle.log_rule.specs.Opening.{HasAccounts}
+use Rattle.log_rule.specs.FirstAccounts.{HasAccounts}
 
 module _ (bytes : List ℕ) (opened : Recovered) (recovers : Recovers opened bytes) (key : Start) (same : key.accounts ≡ opened.accounts)
     (start : key.start ≡ opened.lsn) where

@@ -25,7 +25,7 @@ use Rattle.log_table.specs.Seats.{key_of}
 use Rattle.lsn_space.specs.declared.memory.NoMemory.{NoMemory as Wanting}
 use Rattle.segment_file.specs.declared.scan_result.Tail.{Tail}
 use Rattle.segment_file.specs.Log.{HoldsLog}
-use Rattle.segment_file.specs.Standing.{LogStands, IsShut, LogStandsAt}
+use Rattle.segment_file.specs.StandingLog.{LogStands, IsShut, LogStandsAt}
 use Rattle.lock_core.specs.declared.job.Job.{Job}
 use Rattle.job_queue.specs.Passes.{jobs_of, workers_of}
 use Rattle.cli_threads.specs.declared.transfers.Prepared.{Prepared}

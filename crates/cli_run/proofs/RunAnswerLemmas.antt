@@ -30,7 +30,7 @@ use Rattle.cli_shared.specs.declared.report.Detail.{Detail}
 use Rattle.cli_shared.specs.declared.report.Detail.TheVariants.{Fine, Read, Write, Disk, LogEnd}
 use Rattle.cli_threads.specs.declared.transfers.ReadyRun.{ReadyRun}
 use Rattle.cli_ending.specs.declared.conclusion.RunEnd.{RunEnd}
-use Rattle.cli_ending.specs.Ending.{AreWhole, Concludes, IsFirstLogEnd, closed_text}
+use Rattle.cli_ending.specs.Conclusion.{AreWhole, Concludes, IsFirstLogEnd, closed_text}
 use Rattle.cli_threads.specs.Ending.{HasEnded}
 use Rattle.cli_threads.specs.Run.{HoldsRun, RunIsDrained, RunKeepsLog}
 use Rattle.cli_threads.specs.RunStops.{StopsAtLogEnd}

@@ -1,7 +1,7 @@
 -- What `run` does to what it works on.
 use Rattle.std.specs.Prelude.{ℕ, List}
 use Rattle.command_line.specs.declared.options.RunOptions.{RunOptions}
-use Rattle.log_disk.specs.Attaching.{existing}
+use Rattle.log_disk.specs.Attachment.{existing}
 use Rattle.log_disk.specs.declared.disk.LogDisk.{Ghosts}
 use Rattle.log_disk.specs.declared.source.Source.{Ghosts as SourceGhosts}
 use Rattle.log_disk.specs.declared.sink.Sink.{Ghosts as SinkGhosts}

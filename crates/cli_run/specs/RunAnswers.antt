@@ -11,7 +11,7 @@ use Rattle.log_record.specs.declared.limits.TheConstants.{LAST_TXN}
 use Rattle.log_record.specs.declared.rec.Rec.{Rec}
 use Rattle.log_record.specs.LogList.{end_of}
 use Rattle.segment_file.specs.Lengths.{most_end}
-use Rattle.segment_file.specs.Standing.{LogStandsAt}
+use Rattle.segment_file.specs.StandingLog.{LogStandsAt}
 use Rattle.segment_file.specs.declared.scan_result.Tail.{Tail}
 use Rattle.log_recovery.specs.declared.recovery.RecoverFault.TheVariants as fault
 use Rattle.log_recovery.specs.Opened.{OpenedList, log_of, list_end, with_records, base_in, opening_left}

@@ -9,7 +9,7 @@ use Rattle.end_lines.specs.declared.voice.Voice.TheVariants.{Lines}
 use Rattle.cli_shared.specs.declared.report.Detail.{Detail}
 use Rattle.cli_shared.specs.declared.report.Detail.TheVariants.{Write}
 use Rattle.cli_ending.specs.declared.conclusion.RunEnd.{RunEnd}
-use Rattle.cli_ending.specs.Ending.{Concludes, closed_text}
+use Rattle.cli_ending.specs.Conclusion.{Concludes, closed_text}
 use Rattle.cli_threads.specs.declared.transfers.Prepared.{Prepared}
 use Rattle.cli_threads.specs.Ending.{HasEnded}
 

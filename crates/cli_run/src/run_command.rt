@@ -2,7 +2,7 @@
 
 ghost use Rattle.std.specs.Prelude.{◌≡◌, ◌≤◌, ◌+◌, ◌↔◌, ℕ, List, All, length, IfOk, IfErr, IsErrOf};
 ghost use Rattle.command_line.specs.Ranges.{AreInRange};
-ghost use Rattle.log_disk.specs.Attaching.{existing};
+ghost use Rattle.log_disk.specs.Attachment.{existing};
 ghost use Rattle.log_disk.specs.Faults.{CountsWhere};
 ghost use Rattle.log_record.specs.declared.limits.TheConstants.{LAST_TXN};
 ghost use Rattle.log_recovery.specs.Opened.{OpenedList};

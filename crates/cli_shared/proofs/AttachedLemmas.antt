@@ -1,6 +1,6 @@
 -- Which file is attached once a command has ended.
 use Rattle.std.proofs.Common.{◌≡◌, ◌∙◌, inr, Option, Some, Result, Ok, Err, MatchResult}
-use Rattle.log_disk.specs.Attaching.{Attached, MayAttach}
+use Rattle.log_disk.specs.Attachment.{Attached, MayAttach}
 use Rattle.cli_shared.specs.declared.report.Detail.{Detail}
 use Rattle.cli_shared.specs.declared.report.Detail.TheVariants.{NoMemory, Disk}
 use Rattle.cli_shared.specs.Attached.{LeavesAttached}

@@ -3,7 +3,7 @@ use Rattle.std.proofs.Common.{◌≡◌, ℕ, List, slice_get, Result, ap, subst
 use Rattle.log_disk.specs.Disk.{IsOnlyImage}
 use Rattle.log_disk.specs.Faults.{HasCause}
 use Rattle.segment_file.specs.File.{BeginsOpen}
-use Rattle.segment_file.specs.Standing.{IsStableGate}
+use Rattle.segment_file.specs.StandingLog.{IsStableGate}
 
 -- on a settled disk the first gate is stable
 pub gate-settled : (file : List ℕ) (images : List ℕ → Type 0) → IsOnlyImage file images → (BeginsOpen file → ⊥) → IsStableGate 0 images

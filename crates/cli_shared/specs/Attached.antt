@@ -1,6 +1,6 @@
 -- Which file is attached to the disk once a command, or a part of it, has ended. `before` and `now` are what is attached before and after.
 use Rattle.std.specs.Prelude.{◌≡◌, Option, Some, Result, MatchResult}
-use Rattle.log_disk.specs.Attaching.{Attached, MayAttach}
+use Rattle.log_disk.specs.Attachment.{Attached, MayAttach}
 use Rattle.cli_shared.specs.declared.report.Detail.{Detail}
 use Rattle.cli_shared.specs.declared.report.Detail.TheVariants.{NoMemory, Disk}
 

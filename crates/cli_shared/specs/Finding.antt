@@ -1,10 +1,10 @@
 -- Whether a log is on a disk. `g` is what a disk shows; `old` and `new` are the disk before and after.
 use Rattle.std.specs.Prelude.{ℕ, List, Result, IfErr, IsErrOf, OnOk}
-use Rattle.log_disk.specs.Attaching.{existing_or_made}
+use Rattle.log_disk.specs.Attachment.{existing_or_made}
 use Rattle.log_disk.specs.Faults.{CountsWhere}
 use Rattle.log_disk.specs.declared.disk.LogDisk.{Ghosts}
 use Rattle.segment_file.specs.File.{BeginsOpen}
-use Rattle.segment_file.specs.Standing.{IsStableGate}
+use Rattle.segment_file.specs.StandingLog.{IsStableGate}
 use Rattle.cli_shared.specs.declared.report.Detail.{Detail}
 use Rattle.cli_shared.specs.declared.report.Detail.TheVariants.{Disk}
 use Rattle.cli_shared.specs.Attached.{EndsAttached}

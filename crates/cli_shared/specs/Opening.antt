@@ -1,6 +1,6 @@
 -- How a log is opened. `g` is what a disk shows; `old` and `new` are the disk before and after.
 use Rattle.std.specs.Prelude.{◌≡◌, ◌≤◌, ◌^◌, ℕ, List, length, ◌+◌, Some, Result, IfOk, IsErrOf, MatchResult, OnOk}
-use Rattle.log_disk.specs.Attaching.{MayAttach, existing}
+use Rattle.log_disk.specs.Attachment.{MayAttach, existing}
 use Rattle.log_disk.specs.Costs.{Costs}
 use Rattle.log_disk.specs.declared.disk.LogDisk.{Ghosts}
 use Rattle.log_disk.specs.Disk.{IsOnlyImage, Leaves}
@@ -9,8 +9,8 @@ use Rattle.log_recovery.specs.declared.recovery.Recovered.{Recovered}
 use Rattle.log_recovery.specs.declared.recovery.RecoverFault.TheVariants as fault
 use Rattle.log_recovery.specs.Opened.{log_of}
 use Rattle.log_recovery.specs.Recovery.{Recovers, IsFaultOf}
-use Rattle.segment_file.specs.Opening.{most_reads}
-use Rattle.segment_file.specs.Standing.{LogStands, IsStableGate}
+use Rattle.segment_file.specs.MostReads.{most_reads}
+use Rattle.segment_file.specs.StandingLog.{LogStands, IsStableGate}
 use Rattle.segment_file.specs.declared.opening.OpenFault.{OpenFault}
 use Rattle.segment_file.specs.declared.opening.OpenFault.TheVariants.{DiskFault}
 use Rattle.cli_shared.specs.declared.report.Detail.{Detail}

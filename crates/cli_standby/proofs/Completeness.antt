@@ -12,7 +12,7 @@ use Rattle.log_recovery.specs.Recovery.{HoldsLawful, IsFaultOf}
 use Rattle.log_recovery.proofs.AnswerLemmas.{lawful-fault, lawful-unlawful, one-list}
 use Rattle.ship_stream.specs.Stream.{HasFrames, records_of}
 use Rattle.ship_stream.proofs.StreamLemmas.{one_stream-fine, one_stream-front}
-use Rattle.standby.specs.Applying.{with_frames}
+use Rattle.standby.specs.AppliedFrames.{with_frames}
 use Rattle.standby.specs.declared.fault.StandbyFault.{StandbyFault}
 use Rattle.standby.specs.declared.fault.StandbyFault.TheVariants as stream
 use Rattle.standby.proofs.FrameLists.{records_of-append}

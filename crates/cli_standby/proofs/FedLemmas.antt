@@ -13,9 +13,9 @@ use Rattle.log_recovery.specs.Recovery.{HoldsLawful}
 use Rattle.segment_file.specs.declared.scan_result.Tail.{Tail}
 use Rattle.ship_stream.specs.Came.{IsBadBehind}
 use Rattle.ship_stream.specs.Stream.{HasFrames}
-use Rattle.standby.specs.Applying.{Base, HoldsFront, Wrote, with_frames}
+use Rattle.standby.specs.AppliedFrames.{Base, HoldsFront, Wrote, with_frames}
 use Rattle.standby.specs.Following.{BeginsWithFrames, Follows, IsReason, Stops, whole_frames}
-use Rattle.standby.specs.Keeping.{KeepsList}
+use Rattle.standby.specs.TakenList.{KeepsList}
 use Rattle.standby.specs.declared.fault.StandbyFault.{StandbyFault}
 use Rattle.standby.specs.declared.fault.StandbyFault.TheVariants as stream
 use Rattle.standby.specs.declared.standby.Standby.{Standby}

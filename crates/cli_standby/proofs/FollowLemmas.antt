@@ -3,7 +3,7 @@ use Rattle.std.proofs.Common.{◌≡◌, ◌∙◌, ◌↔◌, inl, inr, refl, s
 use Rattle.log_disk.proofs.Counting.{CountsWhere-after, Costs-more, Costs-then}
 use Rattle.log_disk.proofs.Lengths.{GrowsAtMostTo-more, GrowsAtMostTo-trans}
 use Rattle.log_disk.proofs.Moments.{Leaves-trans, Leaves-weaken}
-use Rattle.log_disk.specs.Attaching.{Attached}
+use Rattle.log_disk.specs.Attachment.{Attached}
 use Rattle.log_disk.specs.Faults.{CountsWhere}
 use Rattle.log_disk.specs.declared.disk.LogDisk.{Ghosts}
 use Rattle.log_disk.specs.declared.source.Source.{Ghosts as SourceGhosts}
@@ -22,9 +22,9 @@ use Rattle.log_recovery.specs.Text.{rows_text}
 use Rattle.log_recovery.proofs.TextLemmas.{rows_text-shown}
 use Rattle.segment_file.specs.declared.scan_result.Tail.{Tail}
 use Rattle.ship_stream.specs.Stream.{IsStream, end_bytes}
-use Rattle.standby.specs.Applying.{Base, HoldsFront, Wrote, place_behind, with_frames}
+use Rattle.standby.specs.AppliedFrames.{Base, HoldsFront, Wrote, place_behind, with_frames}
 use Rattle.standby.specs.Following.{BeginsWithFrames}
-use Rattle.standby.specs.Keeping.{KeepsList}
+use Rattle.standby.specs.TakenList.{KeepsList}
 use Rattle.standby.specs.declared.fault.StandbyFault.{StandbyFault}
 use Rattle.standby.specs.declared.fault.StandbyFault.TheVariants as stream
 use Rattle.standby.specs.declared.standby.Standby.{Standby}

@@ -3,7 +3,7 @@ use Rattle.std.proofs.Common.{◌⊎◌, ⊎_elim, inl, inr, ℕ, List, arith}
 use Rattle.log_disk.specs.declared.disk.LogDisk.{Ghosts}
 use Rattle.log_record.specs.declared.rec.Rec.{Rec}
 use Rattle.log_recovery.specs.Opened.{OpenedList}
-use Rattle.standby.specs.Applying.{with_frames}
+use Rattle.standby.specs.AppliedFrames.{with_frames}
 use Rattle.cli_shared.specs.Outside.{Outside, OnlyReads}
 use Rattle.cli_shared.specs.declared.report.Detail.{Detail}
 use Rattle.cli_standby.specs.Following.{AnswersFollow}

@@ -13,7 +13,7 @@ use Rattle.log_recovery.specs.declared.recovery.RecoverFault.TheVariants as faul
 use Rattle.log_recovery.specs.Opened.{OpenedList, log_of}
 use Rattle.log_recovery.specs.Recovery.{HoldsLawful, IsFaultOf, JudgesBytes}
 use Rattle.segment_file.specs.Log.{HoldsLog}
-use Rattle.segment_file.specs.Standing.{IsShut, IsStableGate, LogStands, LogStandsAt}
+use Rattle.segment_file.specs.StandingLog.{IsShut, IsStableGate, LogStands, LogStandsAt}
 use Rattle.segment_file.specs.declared.scan_result.Tail.{Tail}
 use Rattle.segment_file.proofs.Scanned.{all-stands, stands-stable, stands-within}
 use Rattle.cli_shared.specs.Answers.{recover_detail}
@@ -21,7 +21,7 @@ use Rattle.cli_shared.specs.Opening.{MayHold, OnlyLooks, most_calls}
 use Rattle.cli_shared.specs.Outside.{OnlyReads, outside}
 use Rattle.cli_shared.specs.declared.report.Detail.TheVariants.{Disk}
 use Rattle.cli_shared.proofs.ToldLemmas.{kept-text}
-use Rattle.standby.specs.Applying.{HoldsFront}
+use Rattle.standby.specs.AppliedFrames.{HoldsFront}
 use Rattle.standby.proofs.FrameLists.{holds-front-none}
 use Rattle.cli_standby.specs.Feeding.{AnswersUnsaid, IsOpened}
 use Rattle.cli_standby.specs.Leaving.{LeavesFronts}

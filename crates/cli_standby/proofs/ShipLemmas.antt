@@ -13,7 +13,7 @@ use Rattle.log_recovery.specs.Boundaries.{GoesOnAt}
 use Rattle.log_recovery.specs.Opened.{OpenedList, IsListBoundary}
 use Rattle.log_recovery.specs.Recovery.{list_of}
 use Rattle.log_recovery.specs.declared.list_result.Listed.{Listed}
-use Rattle.ship_stream.specs.Packing.{stream_of}
+use Rattle.ship_stream.specs.Frames.{stream_of}
 use Rattle.cli_shared.specs.LogInput.{ReadsTaken}
 use Rattle.cli_shared.specs.declared.report.Detail.TheVariants.{Fine, Write, NoSuchLsn}
 use Rattle.cli_reports.specs.Reports.{AnswersReport, OfList, RefusesLsn}

@@ -3,8 +3,8 @@ use Rattle.std.proofs.Common.{◌≡◌, ℕ, List, ◌++◌}
 use Rattle.log_record.specs.declared.rec.Rec.{Rec}
 use Rattle.log_recovery.specs.Opened.{OpenedList, list_end, with_front}
 use Rattle.log_recovery.specs.Recovery.{HoldsLawful}
-use Rattle.ship_stream.specs.Packing.{stream_of}
-use Rattle.standby.specs.Applying.{HoldsFront}
+use Rattle.ship_stream.specs.Frames.{stream_of}
+use Rattle.standby.specs.AppliedFrames.{HoldsFront}
 use Rattle.standby.specs.Following.{BeginsWithFrames}
 use Rattle.standby.proofs.FollowedParts.{holds-followed}
 use Rattle.standby.proofs.NeverAhead.{followed-front}

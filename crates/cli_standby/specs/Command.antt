@@ -1,6 +1,6 @@
 -- What `follow` does to what it works on.
 use Rattle.std.specs.Prelude.{ℕ, List}
-use Rattle.log_disk.specs.Attaching.{existing}
+use Rattle.log_disk.specs.Attachment.{existing}
 use Rattle.log_disk.specs.declared.disk.LogDisk.{Ghosts}
 use Rattle.log_disk.specs.declared.source.Source.{Ghosts as SourceGhosts}
 use Rattle.log_disk.specs.declared.sink.Sink.{Ghosts as SinkGhosts}

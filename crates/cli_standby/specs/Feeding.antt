@@ -2,7 +2,7 @@
 -- input has left.
 use Rattle.std.specs.Prelude.{◌≡◌, ◌⊎◌, ◌↔◌, ℕ, ◌+◌, List, [], ◌++◌, Option, Some, IfSome, Result, IfOk, IfErr, IsErrOf}
 use Rattle.std.specs.Io.KnownBytes.{Consumes}
-use Rattle.log_disk.specs.Attaching.{Attached}
+use Rattle.log_disk.specs.Attachment.{Attached}
 use Rattle.log_disk.specs.Costs.{Costs}
 use Rattle.log_disk.specs.Faults.{CountsWhere}
 use Rattle.log_disk.specs.Lengths.{GrowsAtMostTo}
@@ -15,12 +15,12 @@ use Rattle.log_recovery.specs.Recovery.{HoldsLawful}
 use Rattle.log_recovery.specs.Text.{accounts_text, rows_text}
 use Rattle.lsn_space.specs.Accounts.{Accounts}
 use Rattle.lock_core.specs.declared.judge.Judge.{Judge}
-use Rattle.segment_file.specs.Standing.{LogStandsAt}
+use Rattle.segment_file.specs.StandingLog.{LogStandsAt}
 use Rattle.segment_file.specs.declared.scan_result.Tail.{Tail}
 use Rattle.ship_stream.specs.Stream.{IsStream}
-use Rattle.standby.specs.Applying.{Base, HoldsFront, Wrote, with_frames}
+use Rattle.standby.specs.AppliedFrames.{Base, HoldsFront, Wrote, with_frames}
 use Rattle.standby.specs.Following.{BeginsWithFrames, Follows, HasFollowed}
-use Rattle.standby.specs.Keeping.{KeepsList}
+use Rattle.standby.specs.TakenList.{KeepsList}
 use Rattle.standby.specs.declared.fault.StandbyFault.{StandbyFault}
 use Rattle.standby.specs.declared.fault.StandbyFault.TheVariants as stream
 use Rattle.standby.specs.declared.standby.Standby.{Standby}

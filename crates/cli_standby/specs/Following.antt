@@ -12,11 +12,11 @@ use Rattle.log_recovery.specs.declared.recovery.RecoverFault.TheVariants as faul
 use Rattle.log_recovery.specs.Opened.{OpenedList, log_of, list_end, opening_before, placed}
 use Rattle.log_recovery.specs.Recovery.{HoldsLawful, IsFaultOf}
 use Rattle.log_recovery.specs.Text.{accounts_text}
-use Rattle.segment_file.specs.Standing.{LogStandsAt}
+use Rattle.segment_file.specs.StandingLog.{LogStandsAt}
 use Rattle.segment_file.specs.declared.scan_result.Tail.{Tail}
 use Rattle.ship_stream.specs.Came.{Came, IsBadBehind}
 use Rattle.ship_stream.specs.Stream.{HasFrames, IsStream}
-use Rattle.standby.specs.Applying.{HoldsFront, place_behind, with_frames}
+use Rattle.standby.specs.AppliedFrames.{HoldsFront, place_behind, with_frames}
 use Rattle.standby.specs.Following.{BeginsWithFrames, GoesOn, whole_frames}
 use Rattle.cli_shared.specs.Opening.{most_calls}
 use Rattle.cli_shared.specs.Outside.{Outside, OnlyReads}

@@ -5,7 +5,7 @@ use Rattle.log_disk.specs.declared.disk.LogDisk.{Ghosts}
 use Rattle.log_record.specs.declared.rec.Rec.{Rec}
 use Rattle.log_recovery.specs.Opened.{OpenedList}
 use Rattle.log_recovery.specs.Recovery.{HoldsLawful}
-use Rattle.standby.specs.Applying.{HoldsFront}
+use Rattle.standby.specs.AppliedFrames.{HoldsFront}
 use Rattle.cli_shared.specs.Opening.{OnlyLooks}
 
 -- What a crash might have left at each moment: until this list was opened, an image of before; from then on, when the disk was this, the

@@ -2,7 +2,7 @@
 use Rattle.std.specs.Prelude.{◌≡◌, ℕ, List}
 use Rattle.log_recovery.specs.Boundaries.{GoesOnAt}
 use Rattle.log_recovery.specs.Opened.{OpenedList}
-use Rattle.ship_stream.specs.Packing.{stream_of}
+use Rattle.ship_stream.specs.Frames.{stream_of}
 
 -- from a boundary on: the stream of the records there
 abbrev pub SaysStream : ℕ → OpenedList → List ℕ → Type 0

@@ -1,8 +1,8 @@
 //! The command `follow`: a log that takes in a stream, frame by frame.
 ghost use Rattle.std.specs.Prelude.{◌≡◌, ◌≤◌, ◌+◌, List, ℕ, IfOk, IfErr, IsErrOf};
-ghost use Rattle.log_disk.specs.Attaching.{existing};
+ghost use Rattle.log_disk.specs.Attachment.{existing};
 ghost use Rattle.log_disk.specs.Faults.{CountsWhere};
-ghost use Rattle.standby.specs.Keeping.{KeepsList};
+ghost use Rattle.standby.specs.TakenList.{KeepsList};
 ghost use Rattle.log_recovery.specs.Opened.{OpenedList};
 ghost use Rattle.cli_standby.specs.Feeding.{begun, FeedEnds, FollowEnds, HasFedAll, HasFedEnd, HasFedWhole, IsFeedingFault, IsUnfed, StopsFeeding, stream_detail};
 ghost use Rattle.cli_shared.specs.World.{TellsFaults, world};

@@ -8,9 +8,9 @@ use Rattle.log_rule.specs.declared.view.Constants.{Constants}
 use Rattle.log_rule.specs.Views.{sent_to}
 use Rattle.log_table.specs.declared.table.LogTable.{LogTable}
 use Rattle.log_table.specs.declared.table.Seat.{Seat}
-use Rattle.log_table.specs.Hiring.{HasHired}
+use Rattle.log_table.specs.HiredWorkers.{HasHired}
 use Rattle.log_table.specs.Seats.{IsOf, key_of, view_of}
-use Rattle.segment_file.specs.Standing.{IsShut}
+use Rattle.segment_file.specs.StandingLog.{IsShut}
 use Rattle.segment_file.specs.declared.scan_result.Tail.{Tail}
 use Rattle.commit_pipeline.specs.declared.daemon.Daemon.{Daemon}
 use Rattle.commit_pipeline.specs.Told.{HasToldAll}

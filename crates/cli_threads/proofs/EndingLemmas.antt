@@ -14,7 +14,7 @@ use Rattle.log_recovery.specs.Opened.{OpenedList, list_end, base_left}
 use Rattle.lock_core.specs.Serial.{IsPartlySerialAfter, IsSerialAfter}
 use Rattle.lock_core.specs.AccountRows.{KeepsRows}
 use Rattle.segment_file.specs.declared.scan_result.Tail.{Tail}
-use Rattle.log_rule.specs.Closing.{records_of}
+use Rattle.log_rule.specs.ClosedLog.{records_of}
 use Rattle.log_table.specs.Seats.{key_of}
 use Rattle.stop_word.specs.declared.fault.DaemonFault.{DaemonFault}
 use Rattle.stop_word.specs.declared.fault.DaemonFault.TheVariants.{DiskFault, WriteFault}
@@ -30,7 +30,7 @@ use Rattle.txn_jobs.specs.declared.cause.Worked.TheVariants as worked
 use Rattle.cli_shared.specs.declared.report.Detail.{Detail}
 use Rattle.cli_shared.specs.declared.report.Detail.TheVariants.{Fine, NoMemory, Usage, Script, Read, Write, Disk, NotALog, BadSnapshot, BadBatch, BadRec, Unlawful, LogEnd, TxnEnd, Exists, NoSuchLsn, BadStream, Gap, StreamUnlawful, NoAccount}
 use Rattle.cli_ending.specs.declared.conclusion.RunEnd.{RunEnd}
-use Rattle.cli_ending.specs.Ending.{AreWhole, Concludes, NoneStopped, NothingStopped, StoppedAs, IsFirstLogEnd}
+use Rattle.cli_ending.specs.Conclusion.{AreWhole, Concludes, NoneStopped, NothingStopped, StoppedAs, IsFirstLogEnd}
 use Rattle.cli_threads.specs.declared.transfers.Prepared.{Prepared}
 use Rattle.cli_threads.specs.Ending.{HasEnded}
 use Rattle.cli_threads.specs.Run.{RunKeepsLog, RunIsDrained, RunsWhole}

@@ -12,7 +12,7 @@ use Rattle.log_table.specs.declared.table.LogTable.{LogTable}
 use Rattle.log_rule.specs.declared.view.Entry.{Entry}
 use Rattle.log_rule.specs.declared.view.Given.{Given}
 use Rattle.log_rule.specs.declared.view.View.{View}
-use Rattle.log_rule.specs.Closing.{IsGathered}
+use Rattle.log_rule.specs.ClosedLog.{IsGathered}
 use Rattle.log_rule.specs.Log.{IsFull, IsSpelled}
 use Rattle.log_rule.specs.Sound.{HasReadStop}
 use Rattle.log_rule.specs.CrewViews.{takes_in}

@@ -21,7 +21,7 @@ use Rattle.log_rule.specs.declared.view.Entry.{Entry}
 use Rattle.log_rule.specs.declared.view.Given.{Given}
 use Rattle.log_rule.specs.declared.view.View.{View}
 use Rattle.lock_core.specs.Transfers.{transfer_of}
-use Rattle.log_rule.specs.Closing.{records_of, IsGathered}
+use Rattle.log_rule.specs.ClosedLog.{records_of, IsGathered}
 use Rattle.log_rule.specs.Log.{IsEntryBoundary}
 use Rattle.log_rule.specs.Members.{IsRefusalOf}
 use Rattle.job_queue.specs.Takings.{same, times}

@@ -15,7 +15,7 @@ use Rattle.log_record.specs.declared.rec.Rec.{Rec}
 use Rattle.log_record.specs.LogList.{units_of, end_of}
 use Rattle.segment_file.specs.Log.{Log, with_units, HoldsLog}
 use Rattle.segment_file.specs.Lengths.{most_end}
-use Rattle.segment_file.specs.Standing.{LogStands}
+use Rattle.segment_file.specs.StandingLog.{LogStands}
 use Rattle.log_recovery.specs.Opened.{OpenedList, log_of, list_end, with_records, with_front}
 use Rattle.log_recovery.proofs.ListingLemmas.{units_of-append}
 use Rattle.log_table.specs.Seats.{view_of}
@@ -25,7 +25,7 @@ use Rattle.stop_word.specs.declared.fault.DaemonFault.{DaemonFault}
 use Rattle.stop_word.specs.declared.fault.DaemonFault.TheVariants.{DiskFault, WriteFault}
 use Rattle.end_lines.specs.declared.voice.Voice.{Voice}
 use Rattle.commit_pipeline.specs.EndLines.{text_of}
-use Rattle.flusher.specs.Keeping.{HoldsFront}
+use Rattle.flusher.specs.KeptLog.{HoldsFront}
 use Rattle.commit_pipeline.specs.Later.{Ran, InFlight, extra, place_of, ring_of}
 use Rattle.commit_pipeline.specs.Turning.{IsMade, durable}
 use Rattle.commit_pipeline.proofs.Promised.{Ran-now, Ran-told, Ran-told_all, in_flight-read}

@@ -34,7 +34,7 @@ use Rattle.log_rule.specs.declared.view.Sending.{Sending}
 use Rattle.log_rule.specs.declared.view.View.{View}
 use Rattle.log_rule.specs.Accounts.{WentBack}
 use Rattle.log_rule.specs.Books.{task_of, times_taken}
-use Rattle.log_rule.specs.Closing.{records_of, IsLedger}
+use Rattle.log_rule.specs.ClosedLog.{records_of, IsLedger}
 use Rattle.log_rule.specs.Log.{units_in}
 use Rattle.log_table.specs.Seats.{view_of}
 use Rattle.log_rule.specs.Sound.{base_of}

@@ -7,7 +7,7 @@ use Rattle.log_record.specs.LogList.{units_of, end_of, size_of}
 use Rattle.log_record.specs.Spelling.{spelling, IsSpellable}
 use Rattle.log_record.proofs.SpellingLemmas.{spelling-append-injective}
 use Rattle.log_rule.specs.declared.view.Entry.{Entry}
-use Rattle.log_rule.specs.Closing.{records_of}
+use Rattle.log_rule.specs.ClosedLog.{records_of}
 use Rattle.log_rule.specs.Log.{IsFull, IsSpelled, units_in}
 use Rattle.commit_pipeline.proofs.ToldLemmas.{size_of-some}
 

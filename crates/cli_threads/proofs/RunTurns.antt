@@ -19,7 +19,7 @@ use Rattle.log_recovery.specs.Opened.{OpenedList, list_end, placed, with_records
 use Rattle.log_rule.specs.declared.view.Entry.{Entry}
 use Rattle.log_rule.specs.declared.view.View.{View}
 use Rattle.log_rule.specs.Books.{task_of}
-use Rattle.log_rule.specs.Closing.{records_of, IsGathered}
+use Rattle.log_rule.specs.ClosedLog.{records_of, IsGathered}
 use Rattle.txn_jobs.specs.declared.cause.Worked.{Worked}
 use Rattle.txn_jobs.specs.declared.cause.Worked.TheVariants.{All, Cut}
 use Rattle.txn_runner.specs.Running.{LieInOrder}

@@ -16,7 +16,7 @@ use Rattle.log_rule.specs.declared.view.Role.TheVariants.{Flusher}
 use Rattle.log_rule.specs.declared.view.Sending.{Sending}
 use Rattle.log_rule.specs.declared.view.Standing.{Standing}
 use Rattle.log_rule.specs.declared.view.View.{View}
-use Rattle.log_rule.specs.Closing.{HasHeardOfWorkers, IsGathered, HasLedger}
+use Rattle.log_rule.specs.ClosedLog.{HasHeardOfWorkers, IsGathered, HasLedger}
 use Rattle.log_rule.specs.May.{MayClose}
 use Rattle.log_rule.specs.Members.{IsRefusalOf}
 use Rattle.log_table.specs.Seats.{view_of}
@@ -38,7 +38,7 @@ use Rattle.cli_threads.specs.Gathering.{AreFront, HasLeft, all_marks, all_places
 use Rattle.cli_threads.specs.Prepared.{IsBegun}
 use Rattle.cli_threads.specs.Shares.{Share, HasGathered}
 use Rattle.cli_threads.specs.Transferred.{HasTransferred, IsFresh, IsOpened}
-use Rattle.log_table.specs.Hiring.{KnowsHired, hired_numbers}
+use Rattle.log_table.specs.HiredWorkers.{KnowsHired, hired_numbers}
 use Rattle.cli_workers.specs.Workers.{Numbered}
 use Rattle.cli_threads.specs.Workers.{AreDone, HasServed, IsDone, IsDoneAs}
 use Rattle.cli_threads.proofs.GatheredShares.{HasGathered-all}

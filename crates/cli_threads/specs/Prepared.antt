@@ -5,13 +5,13 @@ use Rattle.log_disk.specs.declared.disk.LogDisk.{Ghosts}
 use Rattle.log_disk.specs.declared.sink.Sink.{Ghosts as SinkGhosts}
 use Rattle.segment_file.specs.declared.scan_result.Tail.{Tail}
 use Rattle.segment_file.specs.Log.{Log}
-use Rattle.segment_file.specs.Standing.{IsShut, LogStands}
+use Rattle.segment_file.specs.StandingLog.{IsShut, LogStands}
 use Rattle.lock_core.specs.Transfers.{IsAllowedJob}
 use Rattle.log_table.specs.declared.table.LogTable.{LogTable}
 use Rattle.log_table.specs.declared.table.Seat.{Seat}
-use Rattle.log_table.specs.Hiring.{HasHired}
+use Rattle.log_table.specs.HiredWorkers.{HasHired}
 use Rattle.log_table.specs.Seats.{IsOf, key_of, view_of}
-use Rattle.log_rule.specs.Closing.{HasHeardOfWorkers, IsGathered, HasLedger}
+use Rattle.log_rule.specs.ClosedLog.{HasHeardOfWorkers, IsGathered, HasLedger}
 use Rattle.log_rule.specs.May.{MayClose}
 use Rattle.log_rule.specs.Sends.{IsDrained}
 use Rattle.log_rule.specs.Sound.{HasReadStop, base_of}

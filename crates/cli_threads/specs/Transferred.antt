@@ -7,11 +7,11 @@ use Rattle.log_record.specs.Spelling.{IsSpellable}
 use Rattle.lock_core.specs.Lawful.{IsLawful}
 use Rattle.lock_core.specs.Sums.{BeginsInRange, ShowsAccounts}
 use Rattle.log_recovery.specs.Opened.{OpenedList, log_of, list_end, placed, opening_before, base_in, opening_left}
-use Rattle.segment_file.specs.Standing.{LogStands, IsShut}
+use Rattle.segment_file.specs.StandingLog.{LogStands, IsShut}
 use Rattle.segment_file.specs.declared.scan_result.Tail.{Tail}
 use Rattle.log_rule.specs.declared.start.Start.{Start}
 use Rattle.log_rule.specs.declared.view.View.{View}
-use Rattle.log_rule.specs.Closing.{IsGathered, HasLedger}
+use Rattle.log_rule.specs.ClosedLog.{IsGathered, HasLedger}
 use Rattle.log_rule.specs.Members.{IsRefusalOf}
 use Rattle.log_table.specs.Seats.{view_of}
 use Rattle.log_rule.specs.Sends.{IsDrained}

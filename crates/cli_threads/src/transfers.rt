@@ -2,8 +2,8 @@
 ghost use Rattle.std.specs.Prelude.{◌≡◌, ◌≤◌, ◌+◌, ℕ, All, length, IsSomeAnd};
 ghost use Rattle.log_record.specs.declared.limits.TheConstants.{LAST_TXN};
 ghost use Rattle.log_recovery.specs.Opened.{OpenedList};
-ghost use Rattle.log_table.specs.Hiring.{HasHired};
-ghost use Rattle.log_rule.specs.Opening.{HasAccounts};
+ghost use Rattle.log_table.specs.HiredWorkers.{HasHired};
+ghost use Rattle.log_rule.specs.FirstAccounts.{HasAccounts};
 ghost use Rattle.log_table.specs.Seats.{key_of};
 ghost use Rattle.lock_core.specs.Transfers.{IsAllowedJob};
 ghost use Rattle.cli_threads.specs.Ending.{HasEnded};

@@ -16,14 +16,14 @@ use Rattle.lock_core.specs.Lawful.{base_with}
 use Rattle.lock_core.specs.Sums.{Opening}
 use Rattle.log_recovery.specs.declared.list_result.Listed.{Listed}
 use Rattle.log_recovery.specs.Boundaries.{GoesOnAt}
-use Rattle.log_recovery.specs.Listing.{IsRecords}
+use Rattle.log_recovery.specs.ListedRecords.{IsRecords}
 use Rattle.log_recovery.specs.Opened.{OpenedList, IsListBoundary, base_in, opening_before, placed}
 use Rattle.log_recovery.specs.Recovery.{list_of}
 use Rattle.log_recovery.specs.Text.{rows_text}
 use Rattle.ledger_view.specs.declared.entries.Entry.{Entry}
 use Rattle.ledger_view.specs.declared.view.View.{View}
 use Rattle.ledger_view.specs.Entries.{entries_of, EndsAt}
-use Rattle.ledger_view.specs.Viewing.{HasViewed}
+use Rattle.ledger_view.specs.ViewedAccounts.{HasViewed}
 use Rattle.cli_shared.specs.LogInput.{ReadsTaken}
 use Rattle.cli_shared.specs.declared.report.Detail.TheVariants.{Fine, Write, NoSuchLsn, NoAccount}
 use Rattle.cli_reports.specs.Reports.{AnswersReport, OfList, RefusesLsn}

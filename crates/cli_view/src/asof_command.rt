@@ -2,7 +2,7 @@
 ghost use Rattle.std.specs.Prelude.{◌≡◌, ◌≤◌, ℕ, List, IfOk, IfSome};
 ghost use Rattle.log_record.specs.declared.rec.Placed.{Placed};
 ghost use Rattle.lock_core.specs.Sums.{Opening};
-ghost use Rattle.ledger_view.specs.Viewing.{HasViewed};
+ghost use Rattle.ledger_view.specs.ViewedAccounts.{HasViewed};
 ghost use Rattle.cli_reports.specs.Reports.{AnswersReport, IsAnswerAtLsn, RefusesLsn};
 ghost use Rattle.cli_view.specs.Reports.{SaysAccounts};
 ghost use Rattle.cli_view.specs.Balances.{HasBalances};

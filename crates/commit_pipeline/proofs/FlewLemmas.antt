@@ -14,13 +14,13 @@ use Rattle.log_table.specs.Seats.{view_of}
 use Rattle.log_rule.specs.Views.{has_stopped}
 use Rattle.segment_file.specs.Log.{Log, with_units, HoldsLog}
 use Rattle.segment_file.specs.Lengths.{most_end}
-use Rattle.segment_file.specs.Standing.{LogStands, HoldsLogOrMore}
+use Rattle.segment_file.specs.StandingLog.{LogStands, HoldsLogOrMore}
 use Rattle.segment_file.specs.declared.scan_result.Tail.{Tail}
 use Rattle.flusher.specs.declared.flusher.Flusher.{Flusher}
 use Rattle.flusher.specs.Flushing.{ChangesSeat, MayFlush, Sends, Loses, sent_of}
-use Rattle.flusher.specs.Sending.{gathered, flushed}
+use Rattle.flusher.specs.SentUnits.{gathered, flushed}
 use Rattle.segment_file.proofs.LogLemmas.{with_units-nil}
-use Rattle.flusher.specs.Keeping.{HoldsFront}
+use Rattle.flusher.specs.KeptLog.{HoldsFront}
 use Rattle.daemon_turn.specs.OneTurn.{Stops}
 
 -- these records were sent, those cut are in flight, at most so many calls were made, and the file grew by at most 13 bytes for each unit

@@ -16,14 +16,14 @@ use Rattle.log_rule.specs.declared.view.View.{View}
 use Rattle.log_rule.specs.Views.{sent_to}
 use Rattle.log_table.specs.Seats.{view_of}
 use Rattle.segment_file.specs.Log.{Log, with_units, HoldsLog}
-use Rattle.segment_file.specs.Standing.{LogStands, HoldsLogOrMore}
+use Rattle.segment_file.specs.StandingLog.{LogStands, HoldsLogOrMore}
 use Rattle.segment_file.proofs.LogLemmas.{with_units-nil}
 use Rattle.segment_file.proofs.OneReading.{one_reading-log, HoldsLog-prop}
 use Rattle.stop_word.specs.declared.fault.DaemonFault.{DaemonFault}
 use Rattle.stop_word.specs.declared.fault.DaemonFault.TheVariants.{DiskFault, WriteFault}
 use Rattle.end_lines.specs.EndLines.{text_of}
 use Rattle.flusher.specs.Flushing.{sent_of}
-use Rattle.flusher.specs.Keeping.{KeepsLog, sent_by, read_by}
+use Rattle.flusher.specs.KeptLog.{KeepsLog, sent_by, read_by}
 use Rattle.commit_pipeline.specs.declared.daemon.Daemon.{Daemon}
 use Rattle.commit_pipeline.specs.Told.{HasTold, SentSince}
 use Rattle.commit_pipeline.specs.Later.{Ran, InFlight}

@@ -19,7 +19,7 @@ use Rattle.log_rule.specs.declared.view.View.{View}
 use Rattle.segment_file.specs.Log.{Log, with_units, HoldsLog}
 use Rattle.segment_file.proofs.LogLemmas.{with_units-append}
 use Rattle.segment_file.specs.Lengths.{most_end}
-use Rattle.segment_file.specs.Standing.{LogStands}
+use Rattle.segment_file.specs.StandingLog.{LogStands}
 use Rattle.flusher.specs.Flushing.{sent_of}
 use Rattle.daemon_turn.proofs.SameLemmas.{IsSame-refl, IsSame-trans}
 use Rattle.commit_pipeline.specs.declared.daemon.Daemon.{Daemon}
@@ -29,7 +29,7 @@ use Rattle.end_lines.specs.declared.tally.Tally.{Tally}
 use Rattle.end_lines.specs.declared.voice.Voice.{Voice}
 use Rattle.end_lines.specs.declared.voice.Voice.TheVariants.{Lines, Count}
 use Rattle.end_lines.specs.EndLines.{text_of}
-use Rattle.flusher.specs.Keeping.{HoldsFront}
+use Rattle.flusher.specs.KeptLog.{HoldsFront}
 use Rattle.flusher.proofs.Keeps.{HoldsFront-more, spellable-append}
 use Rattle.commit_pipeline.specs.Later.{InFlight, HasReason, StopTells, extra, place_of, ring_of, Ran, Later}
 use Rattle.end_lines.specs.Telling.{TellsFront, counted}

@@ -14,14 +14,14 @@ use Rattle.log_rule.specs.declared.view.View.{View}
 use Rattle.log_table.specs.Seats.{view_of}
 use Rattle.segment_file.specs.Log.{Log, with_units}
 use Rattle.segment_file.specs.Lengths.{most_end}
-use Rattle.segment_file.specs.Standing.{LogStands}
-use Rattle.flusher.specs.Keeping.{HoldsFront}
+use Rattle.segment_file.specs.StandingLog.{LogStands}
+use Rattle.flusher.specs.KeptLog.{HoldsFront}
 use Rattle.flusher.specs.Flushing.{sent_of}
 use Rattle.commit_pipeline.specs.declared.daemon.Daemon.{Daemon}
 use Rattle.stop_word.specs.declared.fault.DaemonFault.{DaemonFault}
 use Rattle.stop_word.specs.declared.fault.DaemonFault.TheVariants.{DiskFault, WriteFault}
 use Rattle.end_lines.specs.declared.voice.Voice.TheVariants.{Lines}
-use Rattle.stop_word.specs.Stopping.{stop_word}
+use Rattle.stop_word.specs.StopWord.{stop_word}
 use Rattle.end_lines.specs.Telling.{counted}
 use Rattle.commit_pipeline.specs.Told.{HasToldPart}
 use Rattle.commit_pipeline.specs.Turning.{MayTurn, IsSameDaemon}

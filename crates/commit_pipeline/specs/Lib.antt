@@ -1,7 +1,7 @@
 pub mod Later
-pub mod Making
+pub mod MadeDaemon
 pub mod Told
 pub mod Turning
 pub use Rattle.end_lines.specs.EndLines
 pub use Rattle.end_lines.specs.Telling
-pub use Rattle.stop_word.specs.Stopping
+pub use Rattle.stop_word.specs.StopWord

@@ -17,7 +17,7 @@ use Rattle.daemon_turn.specs.OneTurn.{Stops}
 use Rattle.commit_pipeline.specs.declared.daemon.Daemon.{Daemon}
 use Rattle.stop_word.specs.declared.fault.DaemonFault.{DaemonFault}
 use Rattle.stop_word.specs.declared.fault.DaemonFault.TheVariants.{DiskFault, WriteFault}
-use Rattle.stop_word.specs.Stopping.{stop_word}
+use Rattle.stop_word.specs.StopWord.{stop_word}
 use Rattle.end_lines.specs.Telling.{TellsAll, TellsFront}
 use Rattle.commit_pipeline.specs.Told.{HasToldAll}
 

@@ -33,7 +33,7 @@ pub struct Daemon<'a, D: LogDisk, K: Sink> {
 }
 
 impl<'a, D: LogDisk, K: Sink> Daemon<'a, D, K> {
-    ghost use Rattle.commit_pipeline.specs.Making.{IsDaemonOf};
+    ghost use Rattle.commit_pipeline.specs.MadeDaemon.{IsDaemonOf};
     ghost use Rattle.commit_pipeline.specs.Turning.{ChangesFlusher, HasCounted, durable};
 
     /// A daemon to which nothing has befallen, and which has counted and written nothing.

@@ -1,6 +1,6 @@
 //! A ring that is full until it is flushed.
 ghost use Rattle.std.specs.Prelude.{◌≡◌};
-ghost use Rattle.log_table.specs.Hiring.{HasHired};
+ghost use Rattle.log_table.specs.HiredWorkers.{HasHired};
 ghost use Rattle.log_table.specs.Seats.{key_of};
 ghost use Rattle.test_rig.specs.NotedJobs.{IsNotedJob, MayInsert};
 

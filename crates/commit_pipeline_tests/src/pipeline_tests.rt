@@ -3,7 +3,7 @@ ghost use Rattle.std.specs.Prelude.{◌≡◌, ◌≤◌, ◌<◌, ◌+◌, true
 ghost use Rattle.std.specs.List.{AllByRecursion};
 ghost use Rattle.log_table.specs.Seats.{IsOf, view_of};
 ghost use Rattle.log_rule.specs.Views.{knows_all_enrolled};
-ghost use Rattle.segment_file.specs.Standing.{IsStableGate};
+ghost use Rattle.segment_file.specs.StandingLog.{IsStableGate};
 ghost use Rattle.lock_core.specs.Transfers.{IsAllowedJob};
 ghost use Rattle.commit_pipeline.specs.Turning.{MayTurn};
 ghost use Rattle.run_rig.specs.Enlisted.{IsHand};

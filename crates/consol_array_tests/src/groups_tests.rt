@@ -1,7 +1,7 @@
 //! Groups on one thread: placed, released in both orders, of one member, and refused.
 ghost use Rattle.std.specs.Prelude.{◌≡◌, ◌≤◌, ◌+◌, ◌<◌, ℕ, IfOk};
 ghost use Rattle.log_record.specs.Spelling.{IsTxn};
-ghost use Rattle.log_table.specs.Hiring.{HasHired};
+ghost use Rattle.log_table.specs.HiredWorkers.{HasHired};
 ghost use Rattle.log_table.specs.Seats.{IsOf, view_of};
 ghost use Rattle.log_rule.specs.SlotViews.{step_joining};
 ghost use Rattle.consol_array.specs.Members.{HasPiece};

@@ -1,6 +1,6 @@
 //! Two threads that meet: one loses its exchange of the tail and joins a group; a leader goes on once another has joined.
 ghost use Rattle.std.specs.Prelude.{◌≡◌, ◌≤◌};
-ghost use Rattle.log_table.specs.Hiring.{HasHired};
+ghost use Rattle.log_table.specs.HiredWorkers.{HasHired};
 ghost use Rattle.test_rig.specs.NotedJobs.{IsNotedJob, MayInsert};
 
 use crate::found::{is_at, is_number, is_so};

@@ -1,6 +1,6 @@
 //! Joins: who is first leads, and a group gets a quarter of the ring.
 ghost use Rattle.std.specs.Prelude.{◌≡◌, ◌≤◌, ◌+◌, IfOk};
-ghost use Rattle.log_table.specs.Hiring.{HasHired};
+ghost use Rattle.log_table.specs.HiredWorkers.{HasHired};
 ghost use Rattle.test_rig.specs.NotedJobs.{IsNotedJob};
 
 use crate::found::is_number;

@@ -14,13 +14,13 @@ use Rattle.end_lines.specs.declared.tally.Tally.{Tally}
 use Rattle.end_lines.specs.declared.voice.Voice.{Voice}
 use Rattle.end_lines.specs.Telling.{TellsAll, TellsFront}
 use Rattle.stop_word.specs.declared.fault.DaemonFault.TheVariants.{DiskFault, WriteFault}
-use Rattle.stop_word.specs.Stopping.{stop_word}
+use Rattle.stop_word.specs.StopWord.{stop_word}
 use mathlib.Core.Logic.{∥∥₁_map}
 use Rattle.flusher.specs.declared.flusher.Flusher.{Flusher}
-use Rattle.flusher.specs.Keeping.{KeepsLog, StandsInAll, read_by, sent_by}
+use Rattle.flusher.specs.KeptLog.{KeepsLog, StandsInAll, read_by, sent_by}
 use Rattle.flusher.proofs.Flushes.{IsSameSeat-becomes}
 use Rattle.flusher.proofs.Keeps.{KeepsLog-same, StandsFrom-last}
-use Rattle.flusher.specs.Sending.{flushed}
+use Rattle.flusher.specs.SentUnits.{flushed}
 use Rattle.flusher.specs.Flushing.{MayFlush, IsSame, FindsNothing, Sends, Loses, sent_of}
 use Rattle.daemon_turn.specs.OneTurn.{MayGoOn, Stops, FindsAll, SendsAndTells, CannotSend, CannotTell}
 use Rattle.daemon_turn.proofs.SameLemmas.{IsSame-seat, IsSame-trans}

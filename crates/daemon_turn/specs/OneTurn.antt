@@ -12,7 +12,7 @@ use Rattle.end_lines.specs.declared.voice.Voice.{Voice}
 use Rattle.end_lines.specs.Telling.{TellsAll, TellsFront}
 use Rattle.stop_word.specs.declared.fault.DaemonFault.{DaemonFault}
 use Rattle.stop_word.specs.declared.fault.DaemonFault.TheVariants.{DiskFault, WriteFault}
-use Rattle.stop_word.specs.Stopping.{stop_word}
+use Rattle.stop_word.specs.StopWord.{stop_word}
 use Rattle.flusher.specs.declared.flusher.Flusher.{Flusher}
 use Rattle.flusher.specs.Flushing.{ChangesSeat, MayFlush, FindsNothing, Sends, Loses, sent_of}
 use Rattle.daemon_turn.specs.declared.one_turn.Turn.{Turn}

@@ -13,8 +13,8 @@ use Rattle.log_rule.specs.Accounts.{FollowsJob}
 use Rattle.log_rule.specs.Books.{times_held, balance_taken, last_commit_taken, taking}
 use Rattle.log_table.specs.Seats.{Becomes, view_of}
 use Rattle.log_rule.specs.AccountViews.{saw_account, took_account, gave_account}
-use Rattle.early_locks.specs.declared.taking.Taken.{Taken}
-use Rattle.early_locks.specs.declared.taking.Held.{Held}
+use Rattle.early_locks.specs.declared.taken.Taken.{Taken}
+use Rattle.early_locks.specs.declared.taken.Held.{Held}
 
 -- the account as it was taken
 abbrev pub held_of : Taken → TakenHere

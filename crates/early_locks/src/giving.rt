@@ -5,7 +5,7 @@ ghost use Rattle.log_rule.specs.May.{IsAtRest};
 ghost use Rattle.log_table.specs.Seats.{IsOf, view_of};
 ghost use Rattle.early_locks.specs.Locks.{HoldsTaken, GivesBack, HasGivenBack, HasSeenDurable};
 
-use crate::taking::Taken;
+use crate::taken::Taken;
 use log_table::{LogTable, Seat};
 use slot_word::AccountWord;
 

@@ -3,7 +3,7 @@
 #![tactic(auto)]
 
 mod giving;
-mod taking;
+mod taken;
 
 pub use giving::{give, give_durable};
-pub use taking::{Held, Taken, try_take};
+pub use taken::{Held, Taken, try_take};

@@ -7,19 +7,19 @@ use Rattle.log_record.specs.declared.rec.Rec.{Rec}
 use Rattle.log_table.specs.declared.table.LogTable.{LogTable}
 use Rattle.log_table.specs.declared.table.Seat.{Seat}
 use Rattle.log_rule.specs.declared.view.Entry.{Entry}
-use Rattle.log_rule.specs.Closing.{records_of}
+use Rattle.log_rule.specs.ClosedLog.{records_of}
 use Rattle.log_rule.specs.Log.{IsSpelled, units_in}
 use Rattle.log_rule.specs.declared.view.View.{View}
 use Rattle.log_table.specs.Seats.{Becomes, IsOf, view_of}
 use Rattle.segment_file.specs.Log.{Log, with_units}
-use Rattle.segment_file.specs.Standing.{LogStands, tail_after}
+use Rattle.segment_file.specs.StandingLog.{LogStands, tail_after}
 use Rattle.segment_file.specs.declared.scan_result.Tail.{Tail}
 use Rattle.flusher.specs.declared.flusher.Flusher.{Flusher}
 use Rattle.log_rule.specs.Sends.{AreEntries, ReadsWholeEntries}
 use Rattle.log_rule.specs.Views.{sent_to, read_to}
 use Rattle.log_record.specs.LogList.{AreUnitsOf}
-use Rattle.flusher.specs.Sending.{gathered, flushed}
-use Rattle.flusher.specs.Keeping.{KeepsLog, sent_by, read_by}
+use Rattle.flusher.specs.SentUnits.{gathered, flushed}
+use Rattle.flusher.specs.KeptLog.{KeepsLog, sent_by, read_by}
 use Rattle.flusher.specs.Flushing.{MayFlush, IsSame, IsSameSeat, WritesWhole, sent_of, lsns_of}
 
 -- one step after another

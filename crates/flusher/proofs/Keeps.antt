@@ -9,10 +9,10 @@ use Rattle.log_record.specs.declared.rec.Rec.{Rec}
 use Rattle.log_record.specs.LogList.{AreUnitsOf, units_of}
 use Rattle.log_record.specs.Spelling.{spelling, IsSpellable}
 use Rattle.segment_file.specs.Log.{Log, with_units, HoldsLog}
-use Rattle.segment_file.specs.Standing.{LogStands, HoldsLogOrMore}
+use Rattle.segment_file.specs.StandingLog.{LogStands, HoldsLogOrMore}
 use Rattle.segment_file.specs.declared.scan_result.Tail.{Tail}
 use Rattle.segment_file.proofs.LogLemmas.{with_units-append, with_units-nil}
-use Rattle.flusher.specs.Keeping.{HoldsFront, HoldsSome, KeepsLog, StandsFrom}
+use Rattle.flusher.specs.KeptLog.{HoldsFront, HoldsSome, KeepsLog, StandsFrom}
 
 -- the records of both parts are spellable
 pub spellable-append : (xs ys : List Rec) → AllByRecursion IsSpellable xs → AllByRecursion IsSpellable ys

@@ -14,7 +14,7 @@ use Rattle.log_rule.specs.Sends.{IsDrained}
 use Rattle.log_rule.specs.Sound.{base_of}
 use Rattle.log_rule.specs.Views.{saw_exposed, saw_crew, sent_to}
 use Rattle.segment_file.specs.Log.{Log, with_units}
-use Rattle.segment_file.specs.Standing.{tail_after, LogStands, IsShut, HoldsLogOrMore}
+use Rattle.segment_file.specs.StandingLog.{tail_after, LogStands, IsShut, HoldsLogOrMore}
 use Rattle.segment_file.specs.declared.gated_write.DiskFault.{DiskFault}
 use Rattle.flusher.specs.declared.flusher.Flusher.{Flusher}
 use Rattle.flusher.specs.declared.flusher.Flushed.{Flushed}
@@ -22,7 +22,7 @@ use Rattle.flusher.specs.declared.flusher.Flushed.TheVariants.{Nothing, To}
 use Rattle.flusher.specs.declared.flusher.Drained.{Drained}
 use Rattle.flusher.specs.declared.flusher.Drained.TheVariants.{At, Active, Behind}
 use Rattle.log_record.specs.LogList.{AreUnitsOf}
-use Rattle.flusher.specs.Sending.{gathered, flushed, asked}
+use Rattle.flusher.specs.SentUnits.{gathered, flushed, asked}
 
 -- what the flusher's seat sent, and the LSNs that it saw
 abbrev pub sent_of : {D : Type 0} → {g : Ghosts D} → Flusher D g → List ℕ

@@ -8,8 +8,8 @@ use Rattle.log_table.specs.Seats.{Becomes, number_of, view_of}
 use Rattle.log_rule.specs.Moments.{HoldsAtOnce}
 use Rattle.log_rule.specs.Sends.{ReadsWholeEntries}
 use Rattle.log_rule.specs.Views.{read_to}
-use Rattle.segment_file.specs.Packing.{BatchState}
-use Rattle.flusher.specs.Sending.{read_units}
+use Rattle.segment_file.specs.PackedBatch.{BatchState}
+use Rattle.flusher.specs.SentUnits.{read_units}
 
 -- the units from the one LSN to the other are the next to be read
 pub record MayGather (from to : ℕ) (view : View) : Type 0 where

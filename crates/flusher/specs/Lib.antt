@@ -1,5 +1,5 @@
 pub mod Flushing
 pub mod Gathering
-pub mod Keeping
-pub mod Making
-pub mod Sending
+pub mod KeptLog
+pub mod MadeFlusher
+pub mod SentUnits

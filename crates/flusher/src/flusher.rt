@@ -3,8 +3,8 @@ ghost use Rattle.std.specs.Prelude.{◌≡◌, [], ℕ, List};
 ghost use Rattle.log_rule.specs.May.{MayClose};
 ghost use Rattle.log_table.specs.Seats.{view_of};
 ghost use Rattle.segment_file.specs.Log.{Log};
-ghost use Rattle.segment_file.specs.Standing.{LogStands};
-ghost use Rattle.flusher.specs.Keeping.{KeepsLog, sent_by, read_by};
+ghost use Rattle.segment_file.specs.StandingLog.{LogStands};
+ghost use Rattle.flusher.specs.KeptLog.{KeepsLog, sent_by, read_by};
 
 use log_disk::LogDisk;
 use log_table::{LogTable, Seat};
@@ -27,7 +27,7 @@ pub struct Flusher<'a, D: LogDisk> {
 }
 
 impl<'a, D: LogDisk> Flusher<'a, D> {
-    ghost use Rattle.flusher.specs.Making.{IsFlusherOf};
+    ghost use Rattle.flusher.specs.MadeFlusher.{IsFlusherOf};
 
     /// A flusher over a disk of which each image holds one log, which goes on at this tail. Its seat has sent nothing.
     pub fn make(

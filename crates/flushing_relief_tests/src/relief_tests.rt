@@ -2,7 +2,7 @@
 ghost use Rattle.std.specs.Prelude.{◌≡◌, All};
 ghost use Rattle.log_table.specs.Seats.{IsOf};
 ghost use Rattle.lock_core.specs.Transfers.{IsAllowedJob};
-ghost use Rattle.segment_file.specs.Standing.{IsStableGate};
+ghost use Rattle.segment_file.specs.StandingLog.{IsStableGate};
 ghost use Rattle.commit_pipeline.specs.Turning.{MayTurn};
 ghost use Rattle.run_rig.specs.Enlisted.{IsEnlisted};
 ghost use Rattle.test_rig.specs.NotedJobs.{IsNew};

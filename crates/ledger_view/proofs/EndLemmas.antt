@@ -8,7 +8,7 @@ use Rattle.ledger_view.specs.declared.entries.Entry.{Entry}
 use Rattle.ledger_view.specs.declared.view.View.{View}
 use Rattle.ledger_view.specs.Entries.{is_commit_on, entry_of, entries_of, EndsAt}
 use Rattle.ledger_view.specs.Marks.{IsEndIn}
-use Rattle.ledger_view.specs.Viewing.{account_at, HasViewed}
+use Rattle.ledger_view.specs.ViewedAccounts.{account_at, HasViewed}
 
 all-further : (newest : Placed) (h : List Placed) (entries : List Entry) → AllByRecursion (λ (entry : Entry). EndsAt h entry.end) entries
     → AllByRecursion (λ (entry : Entry). EndsAt (newest ∷ h) entry.end) entries

@@ -11,7 +11,7 @@ use Rattle.lock_core.proofs.OneMore.{neither, or-false}
 use Rattle.ledger_view.specs.declared.entries.Entry.{Entry}
 use Rattle.ledger_view.specs.declared.accounts.Account.{Account}
 use Rattle.ledger_view.specs.Entries.{net_of, balance_after}
-use Rattle.ledger_view.specs.Viewing.{last_balance, untouched, account_at}
+use Rattle.ledger_view.specs.ViewedAccounts.{last_balance, untouched, account_at}
 use Rattle.ledger_view.specs.Entering.{with_entry, LeadsOn, Enters}
 use Rattle.ledger_view.specs.declared.rows.Row.{Row}
 use Rattle.ledger_view.specs.Rows.{entry_of_row}

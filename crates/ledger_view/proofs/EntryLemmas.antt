@@ -5,7 +5,7 @@ use Rattle.std.specs.List.{AllByRecursion}
 use Rattle.std.specs.List.Sorted.{IsNonDecreasingBy}
 use Rattle.log_record.specs.Spelling.{IsBalance}
 use Rattle.ledger_view.specs.declared.entries.Entry.{Entry}
-use Rattle.ledger_view.specs.Viewing.{last_balance, balance_to, AddUp}
+use Rattle.ledger_view.specs.ViewedAccounts.{last_balance, balance_to, AddUp}
 
 pub no_entry : Entry
 no_entry = record { end = 0; txn = 0; net = pos 0; balance = 0 }

@@ -14,7 +14,7 @@ use Rattle.lock_core.proofs.ListLemmas.{all-append}
 use Rattle.ledger_view.specs.declared.entries.Entry.{Entry}
 use Rattle.ledger_view.specs.declared.accounts.Account.{Account}
 use Rattle.ledger_view.specs.Entries.{net_of, balance_after, is_commit_on, entry_of, entries_of, front_to, balance_up_to}
-use Rattle.ledger_view.specs.Viewing.{balance_to, KeepsAccount, untouched}
+use Rattle.ledger_view.specs.ViewedAccounts.{balance_to, KeepsAccount, untouched}
 use Rattle.ledger_view.specs.Entering.{with_entry}
 use Rattle.ledger_view.proofs.EntryLemmas.{last_balance-append, balance_to-append, balance_to-all, all-higher, add_up-append}
 use Rattle.ledger_view.proofs.HistoryLemmas.{accounts-grow, accounts-front, known, unknown, up_to-below, up_to-from, balance-stays, base-stays, balance-genesis, entries-genesis}

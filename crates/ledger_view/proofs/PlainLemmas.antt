@@ -19,7 +19,7 @@ use Rattle.ledger_view.specs.declared.entries.Entry.{Entry}
 use Rattle.ledger_view.specs.declared.view.View.{View}
 use Rattle.ledger_view.specs.Entries.{net_of, balance_after, is_commit_on, entry_of, entries_of, entries_if_known}
 use Rattle.ledger_view.specs.Plain.{own_changes, KeepsRange}
-use Rattle.ledger_view.specs.Viewing.{account_at, HasViewed}
+use Rattle.ledger_view.specs.ViewedAccounts.{account_at, HasViewed}
 use Rattle.ledger_view.proofs.EntryLemmas.{add_up-range}
 use Rattle.ledger_view.proofs.HistoryLemmas.{accounts-grow}
 use Rattle.ledger_view.proofs.NetLemmas.{net_of-append}

@@ -5,7 +5,7 @@ use Rattle.std.specs.List.Sorted.{IsNonDecreasingBy}
 use Rattle.ledger_view.specs.declared.rows.Row.{Row}
 use Rattle.ledger_view.specs.declared.entries.Entry.{Entry}
 use Rattle.ledger_view.specs.Rows.{entry_of_row, entries_of_rows}
-use Rattle.ledger_view.specs.Viewing.{last_balance}
+use Rattle.ledger_view.specs.ViewedAccounts.{last_balance}
 use Rattle.ledger_view.proofs.MarkLemmas.{no_row, Rises}
 
 pub length-entries_of_rows : (first : ℕ) (rows : List Row) → length (entries_of_rows first rows) ≡ length rows

@@ -24,7 +24,7 @@ use Rattle.lock_core.proofs.Pairing.{updates_of-fits}
 use Rattle.ledger_view.specs.declared.accounts.Account.{Account}
 use Rattle.ledger_view.specs.declared.view.View.{View}
 use Rattle.ledger_view.specs.Entries.{net_of, balance_after, is_commit_on, entry_of, front_to, balance_up_to}
-use Rattle.ledger_view.specs.Viewing.{untouched, account_at, KeepsAccount, HasViewed}
+use Rattle.ledger_view.specs.ViewedAccounts.{untouched, account_at, KeepsAccount, HasViewed}
 use Rattle.ledger_view.specs.Entering.{with_entry, LeadsOn, AllLeadOn, Enters, CanAdd, AddsEntry}
 use Rattle.ledger_view.proofs.HistoryLemmas.{accounts-front, unknown, judged-balance, balance-adds}
 use Rattle.ledger_view.proofs.RowLemmas.{last_balance-some}

@@ -15,7 +15,7 @@ use Rattle.ledger_view.specs.declared.entries.Entry.{Entry}
 use Rattle.ledger_view.specs.declared.accounts.Account.{Account}
 use Rattle.ledger_view.specs.declared.view.View.{View}
 use Rattle.ledger_view.specs.Entries.{net_of, balance_after}
-use Rattle.ledger_view.specs.Viewing.{last_balance, account_at, HasViewed}
+use Rattle.ledger_view.specs.ViewedAccounts.{last_balance, account_at, HasViewed}
 
 -- the account with one entry more
 abbrev pub with_entry : Account → Entry → Account

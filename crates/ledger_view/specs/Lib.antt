@@ -3,4 +3,4 @@ pub mod Entries
 pub mod Marks
 pub mod Plain
 pub mod Rows
-pub mod Viewing
+pub mod ViewedAccounts

@@ -2,7 +2,7 @@
 ghost use Rattle.std.specs.Prelude.{◌≡◌, ◌<◌, ◌≤◌, ◌++◌, ◌∷◌, [], replicate, length, slice_set, IfOk, OnOk};
 ghost use Rattle.lock_core.specs.declared.update.TheConstants.{MOST_UPDATES};
 ghost use Rattle.ledger_view.specs.Entries.{net_of};
-ghost use Rattle.ledger_view.specs.Viewing.{untouched, account_at};
+ghost use Rattle.ledger_view.specs.ViewedAccounts.{untouched, account_at};
 ghost use Rattle.ledger_view.specs.Entering.{with_entry, LeadsOn};
 
 use crate::entries::Entries;

@@ -3,7 +3,7 @@ ghost use Rattle.std.specs.Prelude.{◌≡◌, ◌<◌, ◌≤◌, ◌++◌, ◌
 ghost use Rattle.std.specs.List.Sorted.{IsNonDecreasingBy};
 ghost use Rattle.log_record.specs.Spelling.{IsBalance};
 ghost use Rattle.ledger_view.specs.Rows.{entry_of_row};
-ghost use Rattle.ledger_view.specs.Viewing.{last_balance, balance_to, AddUp};
+ghost use Rattle.ledger_view.specs.ViewedAccounts.{last_balance, balance_to, AddUp};
 ghost use Rattle.ledger_view.specs.Marks.{IsEndIn};
 
 use crate::rows::{Row, Rows};

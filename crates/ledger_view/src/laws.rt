@@ -7,7 +7,7 @@ ghost use Rattle.log_record.specs.LogList.{prefix_to};
 ghost use Rattle.lock_core.specs.History.{history_from};
 ghost use Rattle.lock_core.specs.AccountRows.{opening_of};
 ghost use Rattle.ledger_view.specs.Entries.{front_to, balance_up_to, entries_if_known};
-ghost use Rattle.ledger_view.specs.Viewing.{HasViewed};
+ghost use Rattle.ledger_view.specs.ViewedAccounts.{HasViewed};
 
 use crate::entries::Entries;
 use crate::plain::{plain_balance_at, plain_entries};

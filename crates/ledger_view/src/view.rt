@@ -15,7 +15,7 @@ ghost use Rattle.lock_core.specs.Lawful.{base_with};
 ghost use Rattle.lock_core.specs.AccountRows.{opening_of};
 ghost use Rattle.lock_core.specs.Taking.{IsTakeFault, HasJudged, count_of};
 ghost use Rattle.ledger_view.specs.Entries.{entries_of, balance_up_to, EndsAt};
-ghost use Rattle.ledger_view.specs.Viewing.{account_at, HasViewed};
+ghost use Rattle.ledger_view.specs.ViewedAccounts.{account_at, HasViewed};
 ghost use Rattle.ledger_view.specs.Entering.{AllLeadOn, Enters, CanAdd, AddsEntry};
 
 use crate::accounts::{Account, Accounts};
@@ -211,7 +211,7 @@ impl View {
 }
 
 impl TakesRecords for View {
-    ghost use Rattle.ledger_view.specs.Viewing.{HasViewed};
+    ghost use Rattle.ledger_view.specs.ViewedAccounts.{HasViewed};
 
     ghost has_taken = { HasViewed };
 

@@ -15,7 +15,7 @@ use Rattle.log_recovery.specs.Opened.{log_of}
 use Rattle.log_recovery.specs.Recovery.{TakesBytes, list_of}
 use Rattle.log_recovery.proofs.RecoveryLemmas.{log-opening}
 use Rattle.ledger_view.specs.declared.view.View.{View}
-use Rattle.ledger_view.specs.Viewing.{HasViewed}
+use Rattle.ledger_view.specs.ViewedAccounts.{HasViewed}
 
 module _ (view : View) (listed : Listed) (bytes : List ℕ) (takes : TakesBytes HasViewed view listed bytes) where
   pub viewed-taken : (opening : Opening) × (h : List Placed) × HasViewed opening view h

@@ -3,7 +3,7 @@
 ghost use Rattle.std.specs.Prelude.{[], IfOk};
 ghost use Rattle.lsn_space.specs.Opening.{no_opening};
 ghost use Rattle.lock_core.specs.AccountRows.{opening_of};
-ghost use Rattle.ledger_view.specs.Viewing.{HasViewed};
+ghost use Rattle.ledger_view.specs.ViewedAccounts.{HasViewed};
 
 use ledger_view::View;
 use lock_core::{JudgeFault, Why};

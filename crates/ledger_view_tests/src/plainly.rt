@@ -4,7 +4,7 @@ ghost use Rattle.std.specs.Prelude.{◌≡◌, ◌≤◌, ◌+◌, ◌⊎◌, []
 ghost use Rattle.lsn_space.specs.declared.lsn.TheConstants.{LAST};
 ghost use Rattle.lsn_space.specs.Opening.{IsSnapshot};
 ghost use Rattle.lock_core.specs.AccountRows.{opening_of};
-ghost use Rattle.ledger_view.specs.Viewing.{HasViewed};
+ghost use Rattle.ledger_view.specs.ViewedAccounts.{HasViewed};
 
 use ledger_view::{Entries, Entry, View, balances_are_plain, entries_are_plain};
 use log_record::{Placed, read};

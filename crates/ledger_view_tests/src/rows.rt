@@ -3,7 +3,7 @@
 ghost use Rattle.std.specs.Prelude.{List};
 ghost use Rattle.log_record.specs.declared.rec.Placed.{Placed};
 ghost use Rattle.lock_core.specs.Sums.{Opening};
-ghost use Rattle.ledger_view.specs.Viewing.{HasViewed};
+ghost use Rattle.ledger_view.specs.ViewedAccounts.{HasViewed};
 
 use crate::images::{
     ALL, BACK, EIGHT_LEGS, GENESIS, NOTHING, REFUSED, RICH, THERE, TWO_LEGS, UNFINISHED, cut_image,

@@ -4,7 +4,7 @@ use Rattle.std.proofs.lemmas.List.{get_or_append_left, get_or_at, append-nil}
 use Rattle.lock_core.specs.declared.update.Change.{Change}
 use Rattle.lock_core.specs.declared.update_links.UpdateLink.{UpdateLink}
 use Rattle.lock_core.specs.Tests.{IsPaired}
-use Rattle.lock_core.specs.Keeping.{no_link, link_at, HasChain}
+use Rattle.lock_core.specs.KeptLedger.{no_link, link_at, HasChain}
 
 -- a place has one chain
 pub chain-unique : (links : List UpdateLink) (place : ℕ) (xs ys : List Change) → HasChain links place xs → HasChain links place ys → xs ≡ ys

@@ -13,7 +13,7 @@ use Rattle.lock_core.specs.declared.update_links.UpdateLink.{UpdateLink}
 use Rattle.lock_core.specs.declared.transactions.Transactions.{Transactions}
 use Rattle.lock_core.specs.Records.{txn_of, ends, changes_of}
 use Rattle.lock_core.specs.Transactions.{recs_of, own_records_of, updates_of, has_end, changes_in}
-use Rattle.lock_core.specs.Keeping.{no_link, link_at, HasChain, IsOpenAt, KeepsRecords, KeepsTransactions}
+use Rattle.lock_core.specs.KeptLedger.{no_link, link_at, HasChain, IsOpenAt, KeepsRecords, KeepsTransactions}
 use Rattle.lock_core.proofs.OneMore.{of_transaction-same, of_transaction-other}
 use Rattle.lock_core.proofs.ChainLemmas.{chain-append, chain-push}
 

@@ -21,7 +21,7 @@ use Rattle.lock_core.specs.Lawful.{Passes}
 use Rattle.lock_core.specs.Faults.{IsFirstFailing}
 use Rattle.lock_core.specs.AccountRows.{row, LeavesSome}
 use Rattle.lock_core.specs.Judging.{IsCommitting}
-use Rattle.lock_core.specs.Keeping.{update_at, no_link, link_at, IsOpenAt, IsEndFault, KeepsTransactions, KeepsLedger}
+use Rattle.lock_core.specs.KeptLedger.{update_at, no_link, link_at, IsOpenAt, IsEndFault, KeepsTransactions, KeepsLedger}
 use Rattle.lock_core.specs.Taking.{IsTakeFault}
 use Rattle.lock_core.proofs.ChainLemmas.{chain-count, chain-paired, paired-chain}
 use Rattle.lock_core.proofs.KindLemmas.{updates-known}

@@ -24,7 +24,7 @@ use Rattle.lock_core.specs.Lawful.{tests, Passes, IsLawful, base_with, with_gene
 use Rattle.lock_core.specs.Faults.{IsFirstFailing}
 use Rattle.lock_core.specs.AccountRows.{row, opening_of, AppliesChanges, LeavesSome, KeepsRows, AreRowsInRange}
 use Rattle.lock_core.specs.Judging.{IsCommitting}
-use Rattle.lock_core.specs.Keeping.{IsEndFault, KeepsTransactions, KeepsLedger}
+use Rattle.lock_core.specs.KeptLedger.{IsEndFault, KeepsTransactions, KeepsLedger}
 use Rattle.lock_core.proofs.KindLemmas.{accounts-genesis, accounts-most, keeps-genesis, passes-genesis, fails-stale, fails-balance, keeps-applied, passes-commit}
 use Rattle.lock_core.proofs.JudgingLemmas.{judged-plain}
 use Rattle.lock_core.proofs.KeepingLemmas.{keeps-idle}

@@ -4,9 +4,8 @@ pub mod AnyOrder
 pub mod Faults
 pub mod History
 pub mod Judging
-pub mod Keeping
+pub mod KeptLedger
 pub mod Lawful
-pub mod Packing
 pub mod Plain
 pub mod Records
 pub mod Serial
@@ -16,4 +15,5 @@ pub mod Taking
 pub mod Tests
 pub mod Transactions
 pub mod Transfers
+pub mod Unpacked
 pub mod Witness

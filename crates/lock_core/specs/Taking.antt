@@ -9,7 +9,7 @@ use Rattle.lock_core.specs.declared.judge.Judge.{Judge}
 use Rattle.lock_core.specs.Sums.{Opening}
 use Rattle.lock_core.specs.Lawful.{Passes, opening_after}
 use Rattle.lock_core.specs.Faults.{IsFirstFailing}
-use Rattle.lock_core.specs.Keeping.{KeepsLedger}
+use Rattle.lock_core.specs.KeptLedger.{KeepsLedger}
 
 -- why the entry isn't taken: the first test that it fails on the history before it; want of memory says nothing of them
 abbrev pub IsTakeFault : Opening → List Placed → Placed → JudgeFault → Type 0

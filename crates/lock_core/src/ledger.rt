@@ -11,7 +11,7 @@ ghost use Rattle.lock_core.specs.Records.{txn_of, ends};
 ghost use Rattle.lock_core.specs.Transactions.{own_records_of, has_end, open_changes_of};
 ghost use Rattle.lock_core.specs.Sums.{Opening, no_opening};
 ghost use Rattle.lock_core.specs.AccountRows.{opening_of};
-ghost use Rattle.lock_core.specs.Keeping.{IsOpenAt, IsEndFault, KeepsTransactions, KeepsLedger};
+ghost use Rattle.lock_core.specs.KeptLedger.{IsOpenAt, IsEndFault, KeepsTransactions, KeepsLedger};
 ghost use Rattle.lock_core.specs.Taking.{TakesEntry};
 
 use crate::account_changes::apply_changes;

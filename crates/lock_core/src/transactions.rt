@@ -6,7 +6,7 @@ ghost use Rattle.log_record.specs.Spelling.{IsAccount};
 ghost use Rattle.lock_core.specs.declared.update.TheConstants.{MOST_UPDATES};
 ghost use Rattle.lock_core.specs.Records.{txn_of, ends};
 ghost use Rattle.lock_core.specs.Transactions.{own_records_of, updates_of, has_end};
-ghost use Rattle.lock_core.specs.Keeping.{update_at, link_at, IsOpenAt, IsEndFault, KeepsTransactions};
+ghost use Rattle.lock_core.specs.KeptLedger.{update_at, link_at, IsOpenAt, IsEndFault, KeepsTransactions};
 
 use crate::reason::{JudgeFault, Why};
 use crate::update::{Change, MOST_UPDATES};

@@ -5,8 +5,8 @@ ghost use Rattle.log_record.specs.Spelling.{IsAccount};
 ghost use Rattle.lock_core.specs.declared.update.Change.{Change};
 ghost use Rattle.lock_core.specs.declared.update.TheConstants.{MOST_UPDATES};
 ghost use Rattle.lock_core.specs.declared.update_links.TheConstants.{ENDED};
-ghost use Rattle.lock_core.specs.Packing.{unpacked};
-ghost use Rattle.lock_core.specs.Keeping.{no_link, link_at, HasChain};
+ghost use Rattle.lock_core.specs.Unpacked.{unpacked};
+ghost use Rattle.lock_core.specs.KeptLedger.{no_link, link_at, HasChain};
 
 use crate::update::{Change, MOST_UPDATES};
 use arrayvec::ArrayVec;
@@ -85,7 +85,7 @@ pub struct UpdateLinks {
 impl Model for UpdateLinks {
     ghost use Rattle.std.specs.Prelude.{List, map};
     ghost use Rattle.lock_core.specs.declared.update_links.UpdateLink.{UpdateLink};
-    ghost use Rattle.lock_core.specs.Packing.{unpacked};
+    ghost use Rattle.lock_core.specs.Unpacked.{unpacked};
 
     ghost Value = { List UpdateLink };
 

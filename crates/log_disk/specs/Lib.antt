@@ -1,4 +1,4 @@
-pub mod Attaching
+pub mod Attachment
 pub mod Blocks
 pub mod Calls
 pub mod Costs

@@ -1,6 +1,6 @@
 //! The trait of a disk. Each call says by `MakesCall` what it does; `read_at` says it in clauses of its own.
 ghost use Rattle.std.specs.Prelude.{◌≡◌, ◌≤◌, ◌-◌, ◌↔◌, List, Option, ℕ, length, min, take, drop, IfOk};
-ghost use Rattle.log_disk.specs.Attaching.{Attached, Attaches};
+ghost use Rattle.log_disk.specs.Attachment.{Attached, Attaches};
 ghost use Rattle.log_disk.specs.Faults.{HasCause, raised};
 ghost use Rattle.log_disk.specs.Disk.{Elapses, Keeps};
 ghost use Rattle.log_disk.specs.OneCall.{MakesCall, Syncs, TellsLength, WritesAt};

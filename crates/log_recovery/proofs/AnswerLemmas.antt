@@ -19,7 +19,7 @@ use Rattle.segment_file.specs.Log.{Log, HoldsLog}
 use Rattle.segment_file.proofs.OneReading.{one_reading-log, one_reading-begins, one_reading-snapshot, one_reading-bad, one_reading-one, one_reading-place, bad-begins}
 use Rattle.log_recovery.specs.declared.recovery.RecoverFault.{RecoverFault}
 use Rattle.log_recovery.specs.declared.recovery.RecoverFault.TheVariants as fault
-use Rattle.log_recovery.specs.Listing.{IsBadRecAt}
+use Rattle.log_recovery.specs.ListedRecords.{IsBadRecAt}
 use Rattle.log_recovery.specs.Opened.{OpenedList, log_of, placed}
 use Rattle.log_recovery.specs.Recovery.{HoldsList, HoldsLawful, IsFaultOf, IsListedFaultOf}
 use Rattle.lock_core.proofs.Fronts.{lawful-front}

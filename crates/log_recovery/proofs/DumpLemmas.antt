@@ -13,7 +13,7 @@ use Rattle.log_record.proofs.SpellingLemmas.{spelling-append-injective, units_of
 use Rattle.lock_core.proofs.ListLemmas.{all-split}
 use Rattle.lsn_space.specs.Opening.{Opening}
 use Rattle.log_recovery.specs.Dump.{record_line, record_lines, opening_lines, dump_text}
-use Rattle.log_recovery.specs.Listing.{IsFront}
+use Rattle.log_recovery.specs.ListedRecords.{IsFront}
 use Rattle.log_recovery.specs.Text.{lsn_line}
 use Rattle.log_recovery.proofs.AnswerLemmas.{some_unit}
 use Rattle.log_recovery.proofs.ListingLemmas.{front-end, units_of-append}

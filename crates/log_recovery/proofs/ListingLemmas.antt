@@ -7,7 +7,7 @@ use Rattle.log_record.specs.declared.rec.Placed.{Placed}
 use Rattle.log_record.specs.LogList.{units_of, end_of}
 use Rattle.log_record.specs.Spelling.{spelling, IsSpellable, BeginsWith}
 use Rattle.lock_core.specs.History.{end_from, entry_at, history_from}
-use Rattle.log_recovery.specs.Listing.{IsFront, IsBadRecAt}
+use Rattle.log_recovery.specs.ListedRecords.{IsFront, IsBadRecAt}
 use Rattle.lock_core.proofs.ListLemmas.{all-append}
 
 pub units_of-append : (xs ys : List Rec) → units_of (xs ++ ys) ≡ units_of xs ++ units_of ys

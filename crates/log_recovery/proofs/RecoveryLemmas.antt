@@ -7,14 +7,14 @@ use Rattle.segment_file.specs.declared.scan_result.Scan.{Scan}
 use Rattle.segment_file.specs.declared.scan_result.Tail.{Tail}
 use Rattle.segment_file.specs.Log.{Log, IsFront, first_format, second_format, HoldsLog}
 use Rattle.segment_file.specs.Scan.{Scans, scanned_log}
-use Rattle.segment_file.specs.Standing.{LogStandsAt}
+use Rattle.segment_file.specs.StandingLog.{LogStandsAt}
 use Rattle.log_recovery.specs.declared.list_result.Listed.{Listed}
 use Rattle.log_record.specs.declared.rec.Placed.{Placed}
 use Rattle.lock_core.specs.Sums as sums
 use Rattle.lock_core.specs.Lawful.{IsLawful}
-use Rattle.log_recovery.specs.Judging.{HasTakenUnits}
+use Rattle.log_recovery.specs.JudgedUnits.{HasTakenUnits}
 use Rattle.log_recovery.specs.Opened.{OpenedList, log_of}
-use Rattle.log_recovery.specs.Listing.{IsRecords}
+use Rattle.log_recovery.specs.ListedRecords.{IsRecords}
 use Rattle.log_recovery.specs.Recovery.{HoldsList, ListsBytes, TakesBytes, list_of}
 
 -- what a log begins with has no account, or is a snapshot

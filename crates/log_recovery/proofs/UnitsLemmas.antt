@@ -14,8 +14,8 @@ use Rattle.lock_core.specs.Lawful.{Passes, IsLawful}
 use Rattle.lock_core.specs.Faults.{IsFirstFailing, IsUnlawfulAt}
 use Rattle.lock_core.specs.Sums as sums
 use Rattle.lock_core.proofs.Fronts.{history_from-append, history_from-onto}
-use Rattle.log_recovery.specs.Listing.{IsFront, IsRecords}
-use Rattle.log_recovery.specs.Judging.{HasTakenFront, HasTakenUnits, FailsBefore}
+use Rattle.log_recovery.specs.ListedRecords.{IsFront, IsRecords}
+use Rattle.log_recovery.specs.JudgedUnits.{HasTakenFront, HasTakenUnits, FailsBefore}
 use Rattle.lock_core.proofs.ListLemmas.{all-append}
 use Rattle.log_recovery.proofs.ListingLemmas.{units_of-append, end_from-history, front-more, front-end}
 

@@ -1,7 +1,7 @@
 pub mod Boundaries
 pub mod Dump
-pub mod Judging
-pub mod Listing
+pub mod JudgedUnits
+pub mod ListedRecords
 pub mod Opened
 pub mod Recovery
 pub mod Text

@@ -7,7 +7,7 @@ use Rattle.log_record.specs.Spelling.{IsSpellable}
 use Rattle.log_record.specs.LogList.{AreUnitsOf}
 use Rattle.segment_file.specs.File.{BeginsAsLog}
 use Rattle.segment_file.specs.Log.{Log, HoldsLog, IsBadSnapshot, IsBadBatch}
-use Rattle.segment_file.specs.Standing.{LogStandsAt}
+use Rattle.segment_file.specs.StandingLog.{LogStandsAt}
 use Rattle.segment_file.specs.declared.scan_result.Tail.{Tail}
 use Rattle.log_recovery.specs.declared.list_result.Listed.{Listed}
 use Rattle.log_recovery.specs.declared.recovery.Recovered.{Recovered}
@@ -19,7 +19,7 @@ use Rattle.lock_core.specs.Lawful.{IsLawful, base_with, opening_after}
 use Rattle.lock_core.specs.Faults.{IsUnlawfulAt}
 use Rattle.lock_core.specs.AccountRows.{opening_of}
 use Rattle.lock_core.specs.Taking.{HasJudged}
-use Rattle.log_recovery.specs.Listing.{IsBadRecAt}
+use Rattle.log_recovery.specs.ListedRecords.{IsBadRecAt}
 use Rattle.log_recovery.specs.Opened.{OpenedList, log_of, list_end, placed}
 
 -- the bytes are a log file that holds these records behind this opening

@@ -5,7 +5,7 @@ ghost use Rattle.log_record.specs.LogList.{AreUnitsOf};
 ghost use Rattle.log_record.specs.declared.rec.Rec.{Rec};
 ghost use Rattle.lsn_space.specs.declared.lsn.TheConstants.{LAST};
 ghost use Rattle.log_recovery.specs.Boundaries.{FindsRest};
-ghost use Rattle.log_recovery.specs.Listing.{IsRecords};
+ghost use Rattle.log_recovery.specs.ListedRecords.{IsRecords};
 ghost use Rattle.log_recovery.specs.Opened.{IsListBoundary};
 
 use crate::places::begin_of;

@@ -4,7 +4,7 @@ ghost use Rattle.std.specs.Prelude.{◌≡◌, ◌⊎◌, ◌+◌, ◌≤◌, []
 ghost use Rattle.lsn_space.specs.Opening.{IsSnapshot};
 ghost use Rattle.lsn_space.specs.declared.lsn.TheConstants.{LAST};
 ghost use Rattle.lock_core.specs.Taking.{HasJudged};
-ghost use Rattle.log_recovery.specs.Judging.{FailsBefore, HasTakenUnits, IsUnitsFaultOf};
+ghost use Rattle.log_recovery.specs.JudgedUnits.{FailsBefore, HasTakenUnits, IsUnitsFaultOf};
 
 use crate::places::{begin_of, first_bad, place_of};
 use lock_core::{Judge, JudgeFault, TakesRecords, Why};

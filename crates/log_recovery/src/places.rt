@@ -2,7 +2,7 @@
 
 ghost use Rattle.std.specs.Prelude.{◌≡◌, ◌+◌, ◌≤◌, length, IfSome, IfNone};
 ghost use Rattle.lsn_space.specs.declared.lsn.TheConstants.{LAST};
-ghost use Rattle.log_recovery.specs.Listing.{IsFront, IsRecords, IsBadRecAt};
+ghost use Rattle.log_recovery.specs.ListedRecords.{IsFront, IsRecords, IsBadRecAt};
 
 use log_record::read;
 use lsn_space::{Lsn, Opening};

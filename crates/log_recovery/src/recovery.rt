@@ -4,7 +4,7 @@ ghost use Rattle.std.specs.Prelude.{◌≡◌, ◌⊎◌, ◌≤◌, ◌^◌, Li
 ghost use Rattle.log_recovery.specs.declared.recovery.RecoverFault.{RecoverFault};
 ghost use Rattle.segment_file.specs.Log.{Log, HoldsLog};
 ghost use Rattle.segment_file.specs.Scan.{IsScanFaultOf, Scans};
-ghost use Rattle.log_recovery.specs.Judging.{IsUnitsFaultOf};
+ghost use Rattle.log_recovery.specs.JudgedUnits.{IsUnitsFaultOf};
 ghost use Rattle.log_recovery.specs.Opened.{OpenedList};
 ghost use Rattle.log_recovery.specs.Recovery.{HoldsList, HoldsLawful, JudgesBytes, ListsBytes, TakesBytes, Recovers};
 ghost use Rattle.log_recovery.specs.Recovery.{TellsRecovered, IsFaultOf, IsListedFaultOf};

@@ -16,7 +16,7 @@ use Rattle.slot_word.specs.AccountWord.{word_of}
 use Rattle.lock_core.specs.declared.job.Job.{Job}
 use Rattle.log_rule.specs.Sends.{IsExposedToFlusher, IsDurableToFlusher, ReadsWholeEntries}
 use Rattle.log_rule.specs.Moments.{HoldsAtOnce}
-use Rattle.log_rule.specs.Opening.{HasAccounts}
+use Rattle.log_rule.specs.FirstAccounts.{HasAccounts}
 use Rattle.log_rule.specs.Sound.{HasReadStop, Ruled}
 use Rattle.log_rule.specs.Views.{saw_tail, saw_exposed, saw_durable, filled, has_read, has_sent, has_stopped, saw_stop, saw_crew}
 use Rattle.log_rule.specs.SlotViews.{after_exchange}

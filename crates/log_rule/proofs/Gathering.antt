@@ -26,7 +26,7 @@ use Rattle.lock_core.specs.Sums.{BaseState, IsBalanceOf, last_commit_of, total}
 use Rattle.log_rule.specs.declared.view.Books.{Books}
 use Rattle.log_rule.specs.Accounts.{summed, holders, takers, HasDistinctJobs, WentBack, AccountsFollowList}
 use Rattle.log_rule.specs.Books.{task_of, times_held, times_taken}
-use Rattle.log_rule.specs.Closing.{HasHeardOfWorkers, IsGathered, IsLedger, HasLedger, ReadsRows, records_of, history_of, in_use}
+use Rattle.log_rule.specs.ClosedLog.{HasHeardOfWorkers, IsGathered, IsLedger, HasLedger, ReadsRows, records_of, history_of, in_use}
 use Rattle.log_rule.specs.Layout.{Account, Slot, index_of}
 use Rattle.log_rule.proofs.GatheredSeats.{all-jobs_run}
 use Rattle.log_rule.specs.Log.{Part, Log, own, part_of, parts_of, IsSpelled, ranges_of, Laid, IsFull, IsFullIfReleased, AgreesFrom, IsRangeBoundary, IsEntryBoundary, SpellsRecord, records_in}

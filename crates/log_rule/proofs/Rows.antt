@@ -7,8 +7,8 @@ use Rattle.lock_core.specs.AccountRows.{row}
 use Rattle.log_rule.specs.declared.layout.TheConstants.{STRIDE, RING}
 use Rattle.log_rule.specs.declared.start.Start.{Start}
 use Rattle.log_rule.specs.Layout.{Account, index_of, word_count}
-use Rattle.log_rule.specs.Closing.{ReadsRows}
-use Rattle.log_rule.specs.Opening.{PutsAccounts}
+use Rattle.log_rule.specs.ClosedLog.{ReadsRows}
+use Rattle.log_rule.specs.FirstAccounts.{PutsAccounts}
 
 pub puts-none : (key : Start) (words : List ℕ) → PutsAccounts key 0 words words
 puts-none key words = record { count = refl; others = λ _ _. refl; each = λ account below. absurd (omega arith) }

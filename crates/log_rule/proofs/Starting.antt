@@ -21,7 +21,7 @@ use Rattle.lock_core.specs.AccountRows.{row}
 use Rattle.log_rule.specs.Accounts.{KeepsAccounts}
 use Rattle.log_rule.specs.Books.{no_books}
 use Rattle.log_rule.specs.Layout.{Mark, Slot, Account, index_of, word_count}
-use Rattle.log_rule.specs.Opening.{HasAccounts, PutsAccounts}
+use Rattle.log_rule.specs.FirstAccounts.{HasAccounts, PutsAccounts}
 use Rattle.log_rule.proofs.GatheredSeats.{starts-free}
 use Rattle.log_rule.proofs.Lists.{among-first}
 

@@ -1,7 +1,7 @@
 -- Where no seat has anything under way, nobody is at a slot: each gathers, with a total of 0.
 use Rattle.std.proofs.Common.{◌≡◌, ◌==◌, ℕ, zero, suc, ◌+◌, ◌/◌, ◌<◌, min, cond, List, [], ◌∷◌, get_or, refl, sym, ap, ◌∙◌, subst, arith, add-one, eq-eqb}
 use Rattle.std.specs.Prelude.{slice_index}
-use Rattle.log_rule.specs.Closing.{in_use}
+use Rattle.log_rule.specs.ClosedLog.{in_use}
 use Rattle.log_rule.specs.declared.start.Start.{Start}
 use Rattle.log_rule.specs.declared.view.Call.TheVariants.{Idle}
 use Rattle.log_rule.specs.declared.view.View.{View}

@@ -1,9 +1,10 @@
 pub mod AccountViews
 pub mod Accounts
 pub mod Books
-pub mod Closing
+pub mod ClosedLog
 pub mod CrewViews
 pub mod Events
+pub mod FirstAccounts
 pub mod GroupViews
 pub mod Groups
 pub mod Layout
@@ -13,7 +14,6 @@ pub mod Marks
 pub mod May
 pub mod Members
 pub mod Moments
-pub mod Opening
 pub mod Roles
 pub mod Sends
 pub mod SlotViews

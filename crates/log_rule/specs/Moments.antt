@@ -17,7 +17,7 @@ use Rattle.log_rule.specs.declared.view.View.{View}
 use Rattle.log_rule.specs.Accounts.{HasDistinctJobs}
 use Rattle.log_rule.specs.Books.{task_of}
 use Rattle.log_rule.specs.Log.{Log}
-use Rattle.log_rule.specs.Opening.{HasAccounts}
+use Rattle.log_rule.specs.FirstAccounts.{HasAccounts}
 use Rattle.log_rule.specs.Sound.{IsSound}
 use Rattle.log_rule.specs.Words.{Words}
 

@@ -10,7 +10,7 @@ use Rattle.log_rule.specs.declared.view.Sending.{Sending}
 use Rattle.log_rule.specs.declared.view.View.{View}
 use Rattle.log_rule.specs.Books.{merging, no_books}
 use Rattle.log_rule.specs.CrewViews.{enrolled, hired, hires, noted, takes_in}
-use Rattle.log_table.specs.Hiring.{hired_numbers, KnowsHired}
+use Rattle.log_table.specs.HiredWorkers.{hired_numbers, KnowsHired}
 
 -- a number is not among those below it
 pub hired_numbers-lacks : (n number : ℕ) → n ≤ number → list_any (eqb number) (hired_numbers n) ≡ false

@@ -1,3 +1,3 @@
-pub mod Hiring
+pub mod HiredWorkers
 pub mod Seats
 pub mod Steps

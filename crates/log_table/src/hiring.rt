@@ -1,7 +1,7 @@
 //! Workers are hired, one after another.
 ghost use Rattle.std.specs.Prelude.{◌≡◌, ◌+◌};
 ghost use Rattle.log_rule.specs.CrewViews.{enrolled, hired};
-ghost use Rattle.log_table.specs.Hiring.{HasHired};
+ghost use Rattle.log_table.specs.HiredWorkers.{HasHired};
 ghost use Rattle.log_table.specs.Seats.{IsOf, view_of};
 
 use crate::table::{LogTable, Seat};

@@ -2,7 +2,7 @@
 //! seat, and one rule over the words and over what each seat knows holds between any two steps.
 #![tactic(auto)]
 
-mod closing;
+mod closed;
 mod hiring;
 mod indexing;
 mod plays;
@@ -10,7 +10,7 @@ mod seating;
 mod steps;
 mod table;
 
-pub use closing::Closed;
+pub use closed::Closed;
 pub use log_rule::{
     After, Books, Call, Constants, Entry, Given, HeardRefusal, MOST_SLOTS, MemberStep, Piece, Role,
     Seen, Sending, Standing, Start, Taken, TakenJob, View, fixed_layout,

@@ -3,7 +3,7 @@ ghost use Rattle.std.specs.Prelude.{◌≡◌, ◌≤◌, ◌^◌, ℕ, length, 
 ghost use Rattle.lsn_space.specs.declared.lsn.TheConstants.{LEAST_RING, GREATEST_RING};
 ghost use Rattle.log_rule.specs.declared.layout.TheConstants.{MOST_SLOTS};
 ghost use Rattle.log_rule.specs.May.{MaySplit, MayMerge};
-ghost use Rattle.log_rule.specs.Opening.{HasAccounts};
+ghost use Rattle.log_rule.specs.FirstAccounts.{HasAccounts};
 ghost use Rattle.log_table.specs.Seats.{IsOf, Becomes, view_of, key_of};
 ghost use Rattle.log_table.specs.Steps.{Splits};
 ghost use Rattle.log_rule.specs.Sound.{HasReadStop};

@@ -4,7 +4,7 @@ ghost use Rattle.lsn_space.specs.declared.lsn.TheConstants.{LEAST_RING, GREATEST
 ghost use Rattle.log_record.specs.declared.limits.TheConstants.{MOST_ACCOUNTS};
 ghost use Rattle.log_rule.specs.Layout.{word_count};
 ghost use Rattle.log_rule.specs.declared.layout.TheConstants.{MOST_SLOTS};
-ghost use Rattle.log_rule.specs.Opening.{HasAccounts};
+ghost use Rattle.log_rule.specs.FirstAccounts.{HasAccounts};
 ghost use Rattle.log_rule.specs.Views.{constants_of};
 
 use atomic_table::{Table, TableRule};

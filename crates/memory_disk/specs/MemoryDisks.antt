@@ -1,6 +1,6 @@
 -- The disk in memory, as contracts see it, and the record that it keeps of its history.
 use Rattle.std.specs.Prelude.{◌≡◌, ◌≤◌, ◌<◌, ◌⊎◌, ℕ, ◌+◌, ◌*◌, ◌^◌, List, [], ◌∷◌, length, take, drop, Option, Contains}
-use Rattle.log_disk.specs.Attaching.{Attached}
+use Rattle.log_disk.specs.Attachment.{Attached}
 use Rattle.log_disk.specs.Faults.{raised}
 use Rattle.memory_disk.specs.History.{Event, file_after, Images, ImagesSince}
 use Rattle.memory_disk.specs.History.Event.{Wrote, Synced}

@@ -1,7 +1,7 @@
 //! The disk in memory.
 ghost use Rattle.std.specs.Prelude.{◌≡◌, ◌≤◌, ◌<◌, ◌+◌, ◌-◌, ◌/◌, ◌↔◌, ℕ, List, ◌∷◌, min, take, drop, length, if◌then◌else◌};
 ghost use Rattle.std.specs.Prelude.{is_ok, IsErr, IfOk, OnOk, Some};
-ghost use Rattle.log_disk.specs.Attaching.{Attaches};
+ghost use Rattle.log_disk.specs.Attachment.{Attaches};
 ghost use Rattle.log_disk.specs.Disk.{put, IsOnlyImage, Elapses, CountsOne};
 ghost use Rattle.log_disk.specs.Faults.{HasCause, raised};
 ghost use Rattle.memory_disk.specs.History.Event.{Wrote, Synced};

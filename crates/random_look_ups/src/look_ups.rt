@@ -2,7 +2,7 @@
 ghost use Rattle.std.specs.Prelude.{List};
 ghost use Rattle.log_record.specs.declared.rec.Placed.{Placed};
 ghost use Rattle.lock_core.specs.Sums.{Opening};
-ghost use Rattle.ledger_view.specs.Viewing.{HasViewed};
+ghost use Rattle.ledger_view.specs.ViewedAccounts.{HasViewed};
 
 use crate::lot::Lot;
 use ledger_view::View;

@@ -2,7 +2,7 @@
 use Rattle.std.specs.Prelude.{◌≡◌, ℕ, ◌+◌, List, [], All}
 use Rattle.std.specs.List.{AllByRecursion}
 use Rattle.lock_core.specs.Transfers.{IsAllowedJob}
-use Rattle.log_table.specs.Hiring.{HasHired}
+use Rattle.log_table.specs.HiredWorkers.{HasHired}
 use Rattle.log_table.specs.declared.table.LogTable.{LogTable}
 use Rattle.log_table.specs.declared.table.Seat.{Seat}
 use Rattle.job_queue.specs.declared.jobs.Jobs.{Jobs}

@@ -1,6 +1,6 @@
 //! Workers, each with a seat and rows of its own, and all of them in threads.
 ghost use Rattle.std.specs.Prelude.{◌≤◌, ◌<◌, IfSome, OnSome};
-ghost use Rattle.log_table.specs.Hiring.{HasHired};
+ghost use Rattle.log_table.specs.HiredWorkers.{HasHired};
 ghost use Rattle.job_queue.specs.Passes.{IsSameQueue, workers_of};
 ghost use Rattle.run_rig.specs.Enlisted.{AllowsAll, AreHands, HasEnlisted, Hires, IsHand};
 

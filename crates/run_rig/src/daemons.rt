@@ -1,6 +1,6 @@
 //! A flusher and a daemon over a disk without a log, on which the log of two accounts is made.
 ghost use Rattle.std.specs.Prelude.{◌≡◌, ℕ, true, length, IfOk, IfSome};
-ghost use Rattle.log_table.specs.Hiring.{HasHired};
+ghost use Rattle.log_table.specs.HiredWorkers.{HasHired};
 ghost use Rattle.log_table.specs.Seats.{view_of, key_of};
 ghost use Rattle.log_rule.specs.Views.{knows_all_enrolled};
 ghost use Rattle.flusher.specs.Flushing.{MayFlush};

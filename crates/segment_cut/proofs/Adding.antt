@@ -9,7 +9,7 @@ use Rattle.segment_file.specs.Calls.{WritesOpened}
 use Rattle.segment_file.specs.File.{BeginsAsLog, IsCountedBatch}
 use Rattle.segment_file.specs.Gates.{sealed}
 use Rattle.segment_file.specs.Log.{Log, with_units}
-use Rattle.segment_file.specs.Packing.{BatchState}
+use Rattle.segment_file.specs.PackedBatch.{BatchState}
 use Rattle.segment_file.specs.declared.layout.TheConstants.{OPEN}
 use Rattle.segment_file.specs.declared.scan_result.Tail.{Tail}
 use Rattle.segment_cut.specs.Calls.{AddsCut, IsOnDisk}

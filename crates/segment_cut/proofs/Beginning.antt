@@ -13,7 +13,7 @@ use Rattle.segment_file.specs.Calls.{WritesUnsynced}
 use Rattle.segment_file.specs.Changes.{ClosesGate}
 use Rattle.segment_file.specs.File.{BeginsAsLog}
 use Rattle.segment_file.specs.Log.{cut_log}
-use Rattle.segment_file.specs.Standing.{IsShut}
+use Rattle.segment_file.specs.StandingLog.{IsShut}
 use Rattle.segment_file.specs.declared.scan_result.Tail.{Tail}
 use Rattle.segment_file.proofs.StableGates.{stays-no_log}
 use Rattle.segment_cut.specs.Calls.{BeginsCut}

@@ -13,7 +13,7 @@ use Rattle.segment_file.specs.declared.scan_result.Tail.{Tail}
 use Rattle.segment_file.specs.File.{batch, gated, IsCountedBatch, BeginsAsLog}
 use Rattle.segment_file.specs.Gates.{sealed}
 use Rattle.segment_file.specs.Log.{Log, cut_log, with_units, IsFront, first_format, second_format, ReadsTo}
-use Rattle.segment_file.specs.Standing.{IsShut}
+use Rattle.segment_file.specs.StandingLog.{IsShut}
 use Rattle.segment_file.proofs.GateBytes.{closed-byte, behind, put-body, put-gate, shut-within}
 use Rattle.segment_file.proofs.Scanned.{stands-within}
 use Rattle.segment_file.proofs.Seams.{put-behind, slice_get-seam, slice_get-split, torn-byte}

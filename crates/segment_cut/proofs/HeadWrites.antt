@@ -12,7 +12,7 @@ use Rattle.segment_head.specs.Head.{head, sealed_head}
 use Rattle.segment_file.specs.Calls.{HasShutGate, WritesGated}
 use Rattle.segment_file.specs.Changes.{ClosesGate}
 use Rattle.segment_file.specs.Log.{cut_log}
-use Rattle.segment_file.specs.Standing.{HoldsNoneOrLog, IsShut, LogStands}
+use Rattle.segment_file.specs.StandingLog.{HoldsNoneOrLog, IsShut, LogStands}
 use Rattle.segment_file.specs.declared.layout.TheConstants.{OPEN}
 use Rattle.segment_file.specs.declared.scan_result.Tail.{Tail}
 use Rattle.segment_file.proofs.GateBytes.{next-shut}

@@ -9,7 +9,7 @@ use Rattle.segment_file.specs.declared.layout.TheConstants.{OPEN}
 use Rattle.segment_file.specs.declared.scan_result.Tail.{Tail}
 use Rattle.segment_file.specs.Gates.{Midway, StaysClosed}
 use Rattle.segment_file.specs.Log.{cut_log}
-use Rattle.segment_file.specs.Standing.{tail_at, LogStandsAt, LogStands, IsShut, HoldsNoneOrLog}
+use Rattle.segment_file.specs.StandingLog.{tail_at, LogStandsAt, LogStands, IsShut, HoldsNoneOrLog}
 use Rattle.segment_file.proofs.Creates.{none-or, all-opened}
 use Rattle.segment_file.proofs.GateBytes.{closed-byte}
 use Rattle.segment_file.proofs.StableGates.{stays-no_log}

@@ -8,8 +8,8 @@ use Rattle.log_disk.specs.declared.disk.LogDisk.{Ghosts}
 use Rattle.lsn_space.specs.Opening.{IsSnapshot, Opening}
 use Rattle.segment_file.specs.File.{BeginsAsLog}
 use Rattle.segment_file.specs.Log.{Log, cut_log, with_units}
-use Rattle.segment_file.specs.Packing.{BatchState}
-use Rattle.segment_file.specs.Standing.{HoldsNoneOrLog, IsShut, LogStands}
+use Rattle.segment_file.specs.PackedBatch.{BatchState}
+use Rattle.segment_file.specs.StandingLog.{HoldsNoneOrLog, IsShut, LogStands}
 use Rattle.segment_file.specs.declared.scan_result.Tail.{Tail}
 use Rattle.segment_cut.specs.Underway.{BatchesStandAt, HoldsNoneOrBatches, IsUnderway}
 

@@ -3,7 +3,7 @@ use Rattle.std.specs.Prelude.{◌≡◌, ◌⊎◌, ℕ, List, [], ◌∷◌, sl
 use Rattle.log_disk.specs.Disk.{put}
 use Rattle.segment_file.specs.File.{BeginsAsLog}
 use Rattle.segment_file.specs.Log.{Log, HoldsLog}
-use Rattle.segment_file.specs.Standing.{LogStandsAt, IsShut}
+use Rattle.segment_file.specs.StandingLog.{LogStandsAt, IsShut}
 use Rattle.segment_file.specs.declared.layout.TheConstants.{OPEN, CLOSED}
 use Rattle.segment_file.specs.declared.scan_result.Tail.{Tail}
 

@@ -8,7 +8,7 @@ use Rattle.segment_file.specs.declared.scan_result.Tail.{Tail}
 use Rattle.segment_file.specs.File.{batch, IsCountedBatch}
 use Rattle.segment_file.specs.Gates.{sealed, Midway}
 use Rattle.segment_file.specs.Log.{Log, with_units}
-use Rattle.segment_file.specs.Standing.{tail_after, LogStandsAt, LogStands, IsShut, HoldsLogOrMore}
+use Rattle.segment_file.specs.StandingLog.{tail_after, LogStandsAt, LogStands, IsShut, HoldsLogOrMore}
 use Rattle.segment_file.proofs.GateBytes.{closed-byte, behind, midway-gate, put-gate}
 use Rattle.segment_file.proofs.StandingLemmas.{stands-again, stands-more}
 

@@ -6,7 +6,7 @@ use Rattle.segment_file.specs.declared.layout.TheConstants.{OPEN, CLOSED}
 use Rattle.segment_file.specs.declared.scan_result.Tail.{Tail}
 use Rattle.segment_file.specs.File.{magic, batch, IsCountedBatch, BeginsAsLog}
 use Rattle.segment_file.specs.Gates.{sealed, Midway}
-use Rattle.segment_file.specs.Standing.{tail_at, StandsAt, AllStand, IsShut, HoldsNoneOr}
+use Rattle.segment_file.specs.StandingLog.{tail_at, StandsAt, AllStand, IsShut, HoldsNoneOr}
 use Rattle.segment_file.proofs.GateBytes.{closed-byte, behind, midway-gate, put-gate}
 use Rattle.segment_file.proofs.StandingLemmas.{holds, stands-first}
 

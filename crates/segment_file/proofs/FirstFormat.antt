@@ -5,7 +5,7 @@ use Rattle.segment_file.specs.declared.layout.TheConstants.{OPEN}
 use Rattle.segment_file.specs.declared.scan_result.Tail.{Tail}
 use Rattle.segment_file.specs.File.{magic, batch, gated, written, joined, BeginsOpen, IsFile, HoldsUnits}
 use Rattle.segment_file.specs.Log.{whole_log, IsFront, first_format, second_format, ReadsTo, HoldsLog}
-use Rattle.segment_file.specs.Standing.{StandsAt, AllStand, HoldsEither, LogStandsAt, LogStands, HoldsLogOrMore}
+use Rattle.segment_file.specs.StandingLog.{StandsAt, AllStand, HoldsEither, LogStandsAt, LogStands, HoldsLogOrMore}
 
 -- a file of the first format is read up to its last gate
 file-reads : (bytes units : List ℕ) (batches : List (List ℕ)) (rest : List ℕ) → IsFile bytes batches rest → units ≡ joined batches

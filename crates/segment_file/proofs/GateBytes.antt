@@ -7,7 +7,7 @@ use Rattle.log_disk.specs.Disk.{put, IsTorn, IsOnlyImage}
 use Rattle.segment_file.specs.declared.layout.TheConstants.{OPEN, CLOSED}
 use Rattle.segment_file.specs.File.{BeginsOpen}
 use Rattle.segment_file.specs.Gates.{Midway}
-use Rattle.segment_file.specs.Standing.{IsShut}
+use Rattle.segment_file.specs.StandingLog.{IsShut}
 use Rattle.segment_file.proofs.Seams.{slice_get-seam, slice_get-split, torn-behind, torn-byte, put-behind}
 
 -- a byte other than 0x4F opens no gate

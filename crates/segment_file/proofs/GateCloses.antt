@@ -7,8 +7,8 @@ use Rattle.log_disk.proofs.Counting.{Costs-more, Costs-then}
 use Rattle.log_disk.specs.Lengths.{GrowsAtMostTo}
 use Rattle.log_disk.proofs.Moments.{Leaves-trans, Leaves-weaken}
 use Rattle.segment_file.specs.Changes.{ClosesGate, Creates}
-use Rattle.segment_file.specs.Packing.{BatchState}
-use Rattle.segment_file.specs.Standing.{AllStand, HoldsNoneOr, IsShut}
+use Rattle.segment_file.specs.PackedBatch.{BatchState}
+use Rattle.segment_file.specs.StandingLog.{AllStand, HoldsNoneOr, IsShut}
 use Rattle.segment_file.specs.Lengths.{new_tail}
 use Rattle.segment_file.specs.declared.layout.TheConstants.{HEAD}
 use Rattle.segment_file.specs.declared.scan_result.Tail.{Tail}

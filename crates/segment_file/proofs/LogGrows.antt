@@ -5,8 +5,8 @@ use Rattle.log_disk.specs.Faults.{Rose}
 use Rattle.log_disk.specs.declared.disk.LogDisk.{Ghosts}
 use Rattle.segment_file.specs.Changes.{Appends}
 use Rattle.segment_file.specs.Log.{Log, with_units}
-use Rattle.segment_file.specs.Packing.{BatchState}
-use Rattle.segment_file.specs.Standing.{tail_after, IsShut, LogStands}
+use Rattle.segment_file.specs.PackedBatch.{BatchState}
+use Rattle.segment_file.specs.StandingLog.{tail_after, IsShut, LogStands}
 use Rattle.segment_file.specs.declared.scan_result.Tail.{Tail}
 
 module _ {D T E : Type 0} (g : Ghosts D) (tail : Tail) (given left : BatchState) (old new : D) (first : Result T E)

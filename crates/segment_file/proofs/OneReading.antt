@@ -13,7 +13,7 @@ use Rattle.segment_head.proofs.HeadLemmas.{one_head}
 use Rattle.segment_file.specs.declared.layout.TheConstants.{OPEN}
 use Rattle.segment_file.specs.File.{magic, batch, gated, joined, IsCountedBatch, AreUnits, BeginsOpen, BeginsAsLog, HasNoBatch, HoldsUnits}
 use Rattle.segment_file.specs.Log.{Log, whole_log, log_end, IsFront, first_format, second_format, ReadsTo, HoldsLog, IsBadSnapshot, IsBadBatchBehind, IsBadBatch, first_batch, later_batch}
-use Rattle.segment_file.specs.Standing.{LogStandsAt}
+use Rattle.segment_file.specs.StandingLog.{LogStandsAt}
 use Rattle.segment_file.specs.declared.scan_result.Tail.{Tail}
 use Rattle.segment_file.proofs.BatchLemmas.{count_at-batch}
 use Rattle.segment_file.proofs.FirstFormat.{units-log}

@@ -9,7 +9,7 @@ use Rattle.lsn_space.specs.Unit.{unit_bytes}
 use Rattle.segment_file.specs.declared.layout.TheConstants.{OPEN, CLOSED, MOST_UNITS}
 use Rattle.segment_file.specs.File.{magic, batch, AreUnits, IsCountedBatch}
 use Rattle.segment_file.specs.Gates.{sealed}
-use Rattle.segment_file.specs.Packing.{BatchState, units_in, IsPacked}
+use Rattle.segment_file.specs.PackedBatch.{BatchState, units_in, IsPacked}
 use Rattle.segment_file.proofs.BatchLemmas.{length-unit_bytes}
 
 units_in-unit_bytes : (units : List ℕ) → AreUnits units → units_in (flat_map unit_bytes units) ≡ units

@@ -8,7 +8,7 @@ use Rattle.segment_file.specs.declared.scan_result.Tail.{Tail}
 use Rattle.segment_file.specs.File.{BeginsOpen}
 use Rattle.segment_file.specs.Log.{Log}
 use Rattle.segment_file.specs.Scan.{Scans, scanned_log}
-use Rattle.segment_file.specs.Standing.{LogStandsAt, LogStands, IsStableGate}
+use Rattle.segment_file.specs.StandingLog.{LogStandsAt, LogStands, IsStableGate}
 use Rattle.segment_file.proofs.StandingLemmas.{recorded, whole-recorded, length-recorded}
 
 -- a log that stands, in a file that a crash leaves alone

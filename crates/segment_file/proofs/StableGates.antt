@@ -8,7 +8,7 @@ use Rattle.segment_file.specs.declared.scan_result.Tail.{Tail}
 use Rattle.segment_file.specs.File.{BeginsOpen, BeginsAsLog}
 use Rattle.segment_file.specs.Gates.{StaysClosed}
 use Rattle.segment_file.specs.Log.{Log}
-use Rattle.segment_file.specs.Standing.{LogStandsAt, LogStands, IsShut, IsStableGate, LacksGate, HoldsNoneOr}
+use Rattle.segment_file.specs.StandingLog.{LogStandsAt, LogStands, IsShut, IsStableGate, LacksGate, HoldsNoneOr}
 use Rattle.segment_file.proofs.Seams.{slice_get-seam, slice_get-drop}
 use Rattle.segment_file.proofs.StandingLemmas.{stands-again}
 

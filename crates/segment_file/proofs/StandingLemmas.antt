@@ -9,7 +9,7 @@ use Rattle.segment_file.specs.declared.layout.TheConstants.{OPEN}
 use Rattle.segment_file.specs.declared.scan_result.Tail.{Tail}
 use Rattle.segment_file.specs.File.{magic, batch, gated, joined, IsCountedBatch, BeginsOpen, HoldsUnits}
 use Rattle.segment_file.specs.Log.{Log, cut_log, with_units, second_format, ReadsTo}
-use Rattle.segment_file.specs.Standing.{StandsAt, LogStandsAt}
+use Rattle.segment_file.specs.StandingLog.{StandsAt, LogStandsAt}
 use Rattle.segment_file.proofs.BatchLemmas.{length-batch}
 use Rattle.segment_file.proofs.FileLemmas.{gated-next, joined-more, counted-more}
 

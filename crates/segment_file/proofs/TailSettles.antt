@@ -7,7 +7,7 @@ use Rattle.log_disk.proofs.Moments.{Leaves-now, Leaves-weaken}
 use Rattle.segment_file.specs.Calls.{HasStableGate}
 use Rattle.segment_file.specs.Changes.{ClosesGate, SettlesTail}
 use Rattle.segment_file.specs.Log.{Log, HoldsLog}
-use Rattle.segment_file.specs.Standing.{tail_at, IsShut, LacksGate, LogStands}
+use Rattle.segment_file.specs.StandingLog.{tail_at, IsShut, LacksGate, LogStands}
 use Rattle.segment_file.specs.declared.layout.TheConstants.{CLOSED}
 use Rattle.segment_file.specs.declared.scan_result.Tail.{Tail}
 use Rattle.segment_file.proofs.StableGates.{stays-closed, stays-stands}

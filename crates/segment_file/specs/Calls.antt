@@ -8,8 +8,8 @@ use Rattle.log_disk.specs.Lengths.{GrowsAtMostTo}
 use Rattle.log_disk.specs.declared.disk.LogDisk.{Ghosts}
 use Rattle.segment_file.specs.File.{AreUnits}
 use Rattle.segment_file.specs.Gates.{Midway, sealed}
-use Rattle.segment_file.specs.Packing.{BatchState}
-use Rattle.segment_file.specs.Standing.{IsShut, IsStableGate}
+use Rattle.segment_file.specs.PackedBatch.{BatchState}
+use Rattle.segment_file.specs.StandingLog.{IsShut, IsStableGate}
 use Rattle.segment_file.specs.declared.layout.TheConstants.{OPEN}
 
 -- the place isn't past the end of the file

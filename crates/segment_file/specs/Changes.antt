@@ -8,9 +8,9 @@ use Rattle.log_disk.specs.Lengths.{GrowsAtMostTo}
 use Rattle.log_disk.specs.declared.disk.LogDisk.{Ghosts}
 use Rattle.segment_file.specs.Gates.{StaysClosed}
 use Rattle.segment_file.specs.Log.{Log, HoldsLog, with_units}
-use Rattle.segment_file.specs.Opening.{most_reads}
-use Rattle.segment_file.specs.Packing.{BatchState}
-use Rattle.segment_file.specs.Standing.{tail_at, AllStand, HoldsLogOrMore, HoldsNoneOr, IsShut, LacksGate, LogStands}
+use Rattle.segment_file.specs.MostReads.{most_reads}
+use Rattle.segment_file.specs.PackedBatch.{BatchState}
+use Rattle.segment_file.specs.StandingLog.{tail_at, AllStand, HoldsLogOrMore, HoldsNoneOr, IsShut, LacksGate, LogStands}
 use Rattle.segment_file.specs.declared.layout.TheConstants.{CLOSED, HEAD}
 use Rattle.segment_file.specs.declared.opening.OpenFault.{OpenFault}
 use Rattle.segment_file.specs.declared.opening.OpenFault.TheVariants.{DiskFault}

@@ -1,6 +1,6 @@
 -- Where a log's file ends, by the units that were written to it.
 use Rattle.std.specs.Prelude.{ℕ, ◌+◌, ◌*◌, List, length}
-use Rattle.segment_file.specs.Standing.{tail_at}
+use Rattle.segment_file.specs.StandingLog.{tail_at}
 use Rattle.segment_file.specs.declared.layout.TheConstants.{HEAD}
 use Rattle.segment_file.specs.declared.scan_result.Tail.{Tail}
 

@@ -4,8 +4,8 @@ pub mod File
 pub mod Gates
 pub mod Lengths
 pub mod Log
-pub mod Opening
-pub mod Packing
+pub mod MostReads
+pub mod PackedBatch
 pub mod Scan
-pub mod Standing
+pub mod StandingLog
 pub mod Taking

@@ -2,7 +2,7 @@
 use Rattle.std.specs.Prelude.{ℕ, List}
 use Rattle.segment_file.specs.File.{BeginsAsLog}
 use Rattle.segment_file.specs.Log.{Log, IsBadSnapshot, IsBadBatch}
-use Rattle.segment_file.specs.Standing.{LogStandsAt}
+use Rattle.segment_file.specs.StandingLog.{LogStandsAt}
 use Rattle.segment_file.specs.declared.scan_result.Scan.{Scan}
 use Rattle.segment_file.specs.declared.scan_result.ScanFault.{ScanFault}
 use Rattle.segment_file.specs.declared.scan_result.ScanFault.TheVariants.{NotALog, BadSnapshot, BadBatch, NoMemory}

@@ -4,7 +4,7 @@ ghost use Rattle.std.specs.Prelude.{◌≤◌, ◌<◌, ◌+◌, ◌-◌, ◌*�
 ghost use Rattle.lsn_space.specs.declared.lsn.TheConstants.{LAST};
 ghost use Rattle.segment_file.specs.Calls.{HasShutGate};
 ghost use Rattle.segment_file.specs.Changes.{Appends};
-ghost use Rattle.segment_file.specs.Standing.{tail_after};
+ghost use Rattle.segment_file.specs.StandingLog.{tail_after};
 
 use crate::batch::{Batch, put_count};
 use crate::gated_write::{DiskFault, write_gated};

@@ -24,7 +24,7 @@ pub struct Batch {
 impl Model for Batch {
     ghost use Rattle.std.specs.Prelude.{drop, vec_capacity};
     ghost use Rattle.segment_file.specs.declared.layout.TheConstants.{HEAD};
-    ghost use Rattle.segment_file.specs.Packing.{BatchState, units_in, IsPacked};
+    ghost use Rattle.segment_file.specs.PackedBatch.{BatchState, units_in, IsPacked};
 
     ghost Value = { BatchState };
 

@@ -5,7 +5,7 @@ ghost use Rattle.log_disk.specs.Calls.{Settles, Uses};
 ghost use Rattle.log_disk.specs.Faults.{CountsWhere};
 ghost use Rattle.log_disk.specs.Disk.{Keeps, Leaves};
 ghost use Rattle.segment_file.specs.Changes.{OpensImage};
-ghost use Rattle.segment_file.specs.Opening.{most_reads};
+ghost use Rattle.segment_file.specs.MostReads.{most_reads};
 ghost use Rattle.segment_file.specs.declared.opening.OpenFault.TheVariants.{DiskFault};
 
 use log_disk::{Failed, LogDisk};

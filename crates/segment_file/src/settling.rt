@@ -3,7 +3,7 @@
 ghost use Rattle.std.specs.Prelude.{◌≡◌, ◌≤◌, ◌^◌, ◌∷◌, ◌⊎◌, ◌↔◌, [], IsTrue};
 ghost use Rattle.segment_file.specs.Calls.{HasStableGate, LiesWithin, LooksFor};
 ghost use Rattle.segment_file.specs.Changes.{ClosesGate, SettlesTail};
-ghost use Rattle.segment_file.specs.Standing.{LacksGate};
+ghost use Rattle.segment_file.specs.StandingLog.{LacksGate};
 
 use crate::gated_write::{DiskFault, write_synced};
 use crate::layout::{CLOSED, OPEN};

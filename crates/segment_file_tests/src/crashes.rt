@@ -1,7 +1,7 @@
 //! Logs on a disk in memory: the bytes that a call writes, and what is read after a crash at each device call.
 
 ghost use Rattle.std.specs.Prelude.{◌≡◌, ◌≤◌, ◌+◌, ◌*◌, ◌^◌, length, IfSome};
-ghost use Rattle.segment_file.specs.Standing.{IsShut};
+ghost use Rattle.segment_file.specs.StandingLog.{IsShut};
 
 use crate::scanning::{ACCOUNTS, genesis_and, is_tail};
 use log_disk::LogDisk;

@@ -1,7 +1,7 @@
 //! A log with records, written behind a closed first gate and then opened.
 
 ghost use Rattle.std.specs.Prelude.{◌≡◌, length};
-ghost use Rattle.segment_file.specs.Standing.{IsStableGate};
+ghost use Rattle.segment_file.specs.StandingLog.{IsStableGate};
 
 use crate::heads::{CUT, NONE, UNIT, head, is_opening};
 use crate::scanning::is_tail;

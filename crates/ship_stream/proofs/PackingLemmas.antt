@@ -8,7 +8,7 @@ use Rattle.log_record.specs.LogList.{units_of, end_of, size_of}
 use Rattle.log_record.specs.Spelling.{spelling, IsSpellable}
 use Rattle.log_record.proofs.BoundLemmas.{length-spelling}
 use Rattle.lsn_space.proofs.TilingLemmas.{all-push, all-weaker}
-use Rattle.ship_stream.specs.Packing.{last_group, packed_behind, frames_of, stream_of}
+use Rattle.ship_stream.specs.Frames.{last_group, packed_behind, frames_of, stream_of}
 use Rattle.ship_stream.specs.Stream.{records_of, IsFrame, IsStream}
 use Rattle.ship_stream.specs.declared.layout.TheConstants.{SHIPPED_UNITS}
 use Rattle.ship_stream.proofs.FrameLemmas.{end_of-append, some_units}

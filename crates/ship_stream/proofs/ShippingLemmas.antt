@@ -14,7 +14,7 @@ use Rattle.log_record.specs.LogList.{units_of, end_of, size_of, AreUnitsOf}
 use Rattle.log_record.specs.Spelling.{spelling, IsSpellable}
 use Rattle.log_record.proofs.BoundLemmas.{length-spelling}
 use Rattle.log_record.proofs.SpellingLemmas.{units_of-injective}
-use Rattle.ship_stream.specs.Packing.{packed_behind, frames_of, stream_of}
+use Rattle.ship_stream.specs.Frames.{packed_behind, frames_of, stream_of}
 use Rattle.ship_stream.specs.Shipping.{BeginsFrame}
 use Rattle.ship_stream.specs.Stream.{head_bytes, counted_bytes, frame_bytes, end_bytes}
 use Rattle.ship_stream.specs.declared.layout.TheConstants.{SHIPPED_UNITS}

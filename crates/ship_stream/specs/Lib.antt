@@ -1,4 +1,4 @@
 pub mod Came
-pub mod Packing
+pub mod Frames
 pub mod Shipping
 pub mod Stream

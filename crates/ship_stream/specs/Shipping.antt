@@ -2,7 +2,7 @@
 use Rattle.std.specs.Prelude.{◌≡◌, ◌<◌, ◌≤◌, ℕ, List, ◌∷◌, ◌++◌, length}
 use Rattle.log_record.specs.declared.rec.Rec.{Rec}
 use Rattle.log_record.specs.LogList.{end_of, AreUnitsOf}
-use Rattle.ship_stream.specs.Packing.{frames_of}
+use Rattle.ship_stream.specs.Frames.{frames_of}
 use Rattle.ship_stream.specs.declared.layout.TheConstants.{SHIPPED_UNITS}
 
 -- the first frame of a list with these units has so many of them

@@ -7,7 +7,7 @@ ghost use Rattle.log_record.specs.declared.rec.Rec.{Rec};
 ghost use Rattle.log_record.specs.LogList.{end_of};
 ghost use Rattle.log_record.specs.Spelling.{IsSpellable};
 ghost use Rattle.ship_stream.specs.Came.{Came, HasCome, IsBadStream};
-ghost use Rattle.ship_stream.specs.Packing.{frames_of, stream_of};
+ghost use Rattle.ship_stream.specs.Frames.{frames_of, stream_of};
 ghost use Rattle.ship_stream.specs.Stream.{records_of, HasFrames, IsStream};
 ghost use Rattle.ship_stream.specs.declared.layout.TheConstants.{SHIPPED_UNITS};
 

@@ -10,7 +10,7 @@ ghost use Rattle.log_record.specs.declared.rec.Rec.{Rec};
 ghost use Rattle.log_record.specs.LogList.{size_of, AreUnitsOf};
 ghost use Rattle.log_record.specs.Spelling.{spelling, IsSpellable};
 ghost use Rattle.lsn_space.specs.Unit.{unit_bytes};
-ghost use Rattle.ship_stream.specs.Packing.{stream_of};
+ghost use Rattle.ship_stream.specs.Frames.{stream_of};
 ghost use Rattle.log_disk.specs.Blocks.{PutsPiece};
 ghost use Rattle.ship_stream.specs.Shipping.{BeginsFrame};
 ghost use Rattle.ship_stream.specs.Stream.{head_bytes, counted_bytes};

@@ -10,7 +10,7 @@ use Rattle.log_rule.specs.declared.view.Call.{Call}
 use Rattle.log_rule.specs.declared.view.Call.TheVariants.{Emptying, Idle, Joined}
 use Rattle.log_rule.specs.declared.view.Role.TheVariants.{Active, Flusher}
 use Rattle.log_rule.specs.GroupViews.{placed_piece}
-use Rattle.log_table.specs.Hiring.{HasHired}
+use Rattle.log_table.specs.HiredWorkers.{HasHired}
 use Rattle.log_table.specs.Seats.{IsOf, view_of}
 use Rattle.test_rig.specs.NotedJobs.{MayInsert}
 use Rattle.slot_rig.specs.declared.share.Share.{Share}

@@ -1,7 +1,7 @@
 //! A worker is hired, and joins the group at its slot.
 ghost use Rattle.std.specs.Prelude.{◌≡◌, ◌+◌, ◌%◌, ◌<◌, OnOk};
 ghost use Rattle.log_record.specs.Spelling.{IsTxn};
-ghost use Rattle.log_table.specs.Hiring.{HasHired};
+ghost use Rattle.log_table.specs.HiredWorkers.{HasHired};
 ghost use Rattle.log_rule.specs.SlotViews.{step_joining};
 ghost use Rattle.slot_rig.specs.Shares.{IsJoiner, IsMember};
 ghost use Rattle.test_rig.specs.NotedJobs.{AreNoteUnits, IsNotedJob};

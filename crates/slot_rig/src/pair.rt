@@ -4,7 +4,7 @@ ghost use Rattle.log_record.specs.Spelling.{IsTxn};
 ghost use Rattle.log_rule.specs.declared.view.Call.TheVariants.{Idle};
 ghost use Rattle.log_rule.specs.declared.view.Role.TheVariants.{Flusher};
 ghost use Rattle.log_rule.specs.CrewViews.{merged_entries};
-ghost use Rattle.log_table.specs.Hiring.{HasHired};
+ghost use Rattle.log_table.specs.HiredWorkers.{HasHired};
 ghost use Rattle.log_rule.specs.May.{MayClose};
 ghost use Rattle.log_table.specs.Seats.{IsOf, view_of};
 ghost use Rattle.slot_rig.specs.Shares.{ArePair, HasBoth, HasHiredBoth, HasReleased, IsDone};

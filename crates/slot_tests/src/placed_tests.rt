@@ -2,7 +2,7 @@
 ghost use Rattle.std.specs.Prelude.{◌≡◌, ◌≤◌, [], IfOk};
 ghost use Rattle.log_rule.specs.declared.group_view.MemberStep.TheVariants.{Closes, Waits, Fills};
 ghost use Rattle.log_rule.specs.declared.view.Call.TheVariants.{Idle};
-ghost use Rattle.log_table.specs.Hiring.{HasHired};
+ghost use Rattle.log_table.specs.HiredWorkers.{HasHired};
 ghost use Rattle.log_table.specs.Seats.{key_of};
 ghost use Rattle.slot_rig.specs.Shares.{HasReleased, IsMember};
 

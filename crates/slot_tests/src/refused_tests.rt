@@ -2,7 +2,7 @@
 ghost use Rattle.std.specs.Prelude.{◌≡◌, ◌+◌, ◌≤◌, IfOk};
 ghost use Rattle.log_rule.specs.declared.group_view.MemberStep.TheVariants.{Waits};
 ghost use Rattle.log_rule.specs.declared.view.Call.TheVariants.{Idle};
-ghost use Rattle.log_table.specs.Hiring.{HasHired};
+ghost use Rattle.log_table.specs.HiredWorkers.{HasHired};
 ghost use Rattle.test_rig.specs.NotedJobs.{IsNotedJob};
 ghost use Rattle.slot_rig.specs.Shares.{HasLeft, IsMember};
 

@@ -16,10 +16,10 @@ use Rattle.lock_core.proofs.ListLemmas.{all-append}
 use Rattle.log_recovery.specs.Opened.{OpenedList, log_of, list_end, opening_before, placed, with_records}
 use Rattle.log_recovery.proofs.OpenedLemmas.{list_end-more}
 use Rattle.segment_file.specs.Log.{Log, with_units}
-use Rattle.segment_file.specs.Standing.{HoldsLogOrMore, IsShut, LogStands}
+use Rattle.segment_file.specs.StandingLog.{HoldsLogOrMore, IsShut, LogStands}
 use Rattle.segment_file.specs.declared.scan_result.Tail.{Tail}
-use Rattle.standby.specs.Applying.{Base, with_frames, place_behind, HoldsFront, Wrote, HasApplied}
-use Rattle.standby.specs.Keeping.{HasTakenList, KeepsList}
+use Rattle.standby.specs.AppliedFrames.{Base, with_frames, place_behind, HoldsFront, Wrote, HasApplied}
+use Rattle.standby.specs.TakenList.{HasTakenList, KeepsList}
 use Rattle.standby.proofs.FrameLists.{with_frames-next, place_behind-next, log_of-more, holds-front-more, holds-front-either, holds-front-behind}
 
 -- what `append` says of one frame and the disk before and after

@@ -18,7 +18,7 @@ use Rattle.standby.specs.declared.standby.Fed.TheVariants.{More, Ended}
 use Rattle.standby.specs.declared.standby.Standby.{Standby}
 use Rattle.standby.specs.declared.fault.StandbyFault.{StandbyFault}
 use Rattle.standby.specs.declared.fault.StandbyFault.TheVariants.{BadStream, Gap, StreamUnlawful, DiskFault, NoMemory}
-use Rattle.standby.specs.Applying.{Base, with_frames, HoldsFront, Wrote, HasApplied}
+use Rattle.standby.specs.AppliedFrames.{Base, with_frames, HoldsFront, Wrote, HasApplied}
 use Rattle.standby.specs.Following.{BeginsWithFrames, Follows, GoesOn, HasEnded, HasFollowed, HasFrame, HoldsFollowed, IsReason, Stops, TellsEnd, whole_frames}
 use Rattle.standby.proofs.FrameLists.{holds-front-none, holds-lawful}
 use Rattle.standby.proofs.JudgedFrames.{with_records-none}

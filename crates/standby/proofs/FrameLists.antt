@@ -11,9 +11,9 @@ use Rattle.log_recovery.specs.Recovery.{HoldsLawful}
 use Rattle.log_recovery.proofs.ListingLemmas.{units_of-append}
 use Rattle.log_recovery.proofs.OpenedLemmas.{list_end-more}
 use Rattle.segment_file.specs.Log.{with_units, HoldsLog}
-use Rattle.segment_file.specs.Standing.{HoldsLogOrMore}
+use Rattle.segment_file.specs.StandingLog.{HoldsLogOrMore}
 use Rattle.ship_stream.specs.Stream.{records_of, IsFrame}
-use Rattle.standby.specs.Applying.{with_frames, place_behind, HoldsFront}
+use Rattle.standby.specs.AppliedFrames.{with_frames, place_behind, HoldsFront}
 use Rattle.standby.proofs.JudgedFrames.{with_records-append, with_records-none}
 
 -- ---- the records of frames

@@ -19,7 +19,7 @@ use Rattle.lock_core.proofs.Fronts.{history_from-append, history_from-onto}
 use Rattle.log_recovery.specs.Opened.{OpenedList, list_end, opening_before, placed, with_records}
 use Rattle.log_recovery.proofs.ListingLemmas.{units_of-append}
 use Rattle.log_recovery.proofs.OpenedLemmas.{list_end-more, placed-end}
-use Rattle.standby.specs.Keeping.{HasTakenList}
+use Rattle.standby.specs.TakenList.{HasTakenList}
 
 -- ---- records and their units
 

@@ -9,7 +9,7 @@ use Rattle.lock_core.proofs.ListLemmas.{all-split}
 use Rattle.log_recovery.specs.Opened.{OpenedList, list_end, with_front}
 use Rattle.log_recovery.specs.Recovery.{HoldsLawful}
 use Rattle.log_recovery.proofs.OpenedLemmas.{list_end-more}
-use Rattle.ship_stream.specs.Packing.{frames_of, stream_of}
+use Rattle.ship_stream.specs.Frames.{frames_of, stream_of}
 use Rattle.ship_stream.specs.Stream.{records_of, HasFrames, IsStream}
 use Rattle.ship_stream.specs.declared.layout.TheConstants.{SHIPPED_UNITS}
 use Rattle.ship_stream.proofs.PackingLemmas.{records_of-packed, shipped-stream}

@@ -22,9 +22,9 @@ use Rattle.stream_reader.proofs.ReaderLemmas.{has-come}
 use Rattle.standby.specs.declared.standby.Standby.{Standby}
 use Rattle.standby.specs.declared.fault.StandbyFault.{StandbyFault}
 use Rattle.standby.specs.declared.fault.StandbyFault.TheVariants.{BadStream, Gap, StreamUnlawful, DiskFault, NoMemory}
-use Rattle.standby.specs.Applying.{Base, with_frames, HoldsFront, Wrote, HasApplied}
+use Rattle.standby.specs.AppliedFrames.{Base, with_frames, HoldsFront, Wrote, HasApplied}
 use Rattle.standby.specs.Following.{BeginsWithFrames, HasFrame, IsReason, Stops}
-use Rattle.standby.specs.Keeping.{HasTakenList, IsFrameFault}
+use Rattle.standby.specs.TakenList.{HasTakenList, IsFrameFault}
 use Rattle.standby.proofs.AppliedFrames.{WroteFrame, wrote-next, frame-moments}
 use Rattle.standby.proofs.FrameLists.{records_of-append, end_of-next, last-frame, list_end-frames, with_frames-next, holds-front-none, holds-front-more, holds-lawful}
 use Rattle.standby.proofs.JudgedFrames.{end_of-append}

@@ -12,7 +12,7 @@ use Rattle.ship_stream.specs.Stream.{HasFrames, IsStream}
 use Rattle.ship_stream.specs.Came.{Came, IsBadBehind}
 use Rattle.ship_stream.specs.Came.Came.{NoHead, Open, Whole}
 use Rattle.stream_reader.specs.Reader.{HasRead}
-use Rattle.standby.specs.Applying.{Base, with_frames, HoldsFront, Wrote, HasApplied}
+use Rattle.standby.specs.AppliedFrames.{Base, with_frames, HoldsFront, Wrote, HasApplied}
 use Rattle.standby.specs.declared.standby.Fed.{Fed}
 use Rattle.standby.specs.declared.standby.Fed.TheVariants.{More, Ended}
 use Rattle.standby.specs.declared.standby.Standby.{Standby}

@@ -1,3 +1,3 @@
-pub mod Applying
+pub mod AppliedFrames
 pub mod Following
-pub mod Keeping
+pub mod TakenList

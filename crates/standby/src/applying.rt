@@ -2,7 +2,7 @@
 
 ghost use Rattle.std.specs.Prelude.{◌≡◌, List, ℕ, OnOk, IfErr};
 ghost use Rattle.log_record.specs.declared.rec.Rec.{Rec};
-ghost use Rattle.standby.specs.Applying.{Base};
+ghost use Rattle.standby.specs.AppliedFrames.{Base};
 ghost use Rattle.standby.specs.Following.{HasFrame, Follows, KeepsDisk, Stops};
 
 use crate::fault::StandbyFault;

@@ -2,7 +2,7 @@
 
 ghost use Rattle.std.specs.Prelude.{◌≡◌, List, ℕ, IfOk, IfErr};
 ghost use Rattle.ship_stream.specs.Came.{IsBadBehind};
-ghost use Rattle.standby.specs.Applying.{Base};
+ghost use Rattle.standby.specs.AppliedFrames.{Base};
 ghost use Rattle.standby.specs.Following.{Follows, HasFollowed, IsFollowing, KeepsDisk};
 
 use crate::fault::StandbyFault;

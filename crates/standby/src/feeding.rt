@@ -2,7 +2,7 @@
 
 ghost use Rattle.std.specs.Prelude.{◌≡◌, ◌≢◌, ◌<◌, ◌≤◌, ◌++◌, List, ℕ, length, take, IfOk, IfErr, IfSome, IfNone};
 ghost use Rattle.log_disk.specs.Disk.{Leaves};
-ghost use Rattle.standby.specs.Applying.{Base};
+ghost use Rattle.standby.specs.AppliedFrames.{Base};
 ghost use Rattle.standby.specs.Following.{Follows, HoldsFollowed, IsFollowing, KeepsDisk, StopsBehind, TellsEnd};
 
 use crate::fault::StandbyFault;

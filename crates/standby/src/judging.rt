@@ -5,7 +5,7 @@ ghost use Rattle.lsn_space.specs.declared.lsn.TheConstants.{LAST};
 ghost use Rattle.log_record.specs.declared.rec.Rec.{Rec};
 ghost use Rattle.log_record.specs.LogList.{AreUnitsOf};
 ghost use Rattle.log_recovery.specs.Opened.{OpenedList, list_end, with_records};
-ghost use Rattle.standby.specs.Keeping.{HasTakenList, IsFrameFault};
+ghost use Rattle.standby.specs.TakenList.{HasTakenList, IsFrameFault};
 
 use crate::fault::StandbyFault;
 use lock_core::{Judge, JudgeFault};

@@ -4,7 +4,7 @@ ghost use Rattle.std.specs.Prelude.{◌≡◌, ◌++◌, List, ℕ};
 ghost use Rattle.log_record.specs.declared.rec.Rec.{Rec};
 ghost use Rattle.log_recovery.specs.Opened.{OpenedList, list_end, with_front};
 ghost use Rattle.log_recovery.specs.Recovery.{HoldsLawful};
-ghost use Rattle.ship_stream.specs.Packing.{stream_of};
+ghost use Rattle.ship_stream.specs.Frames.{stream_of};
 ghost use Rattle.standby.specs.Following.{HoldsFollowed};
 
 /// A law: what is shipped of a log's list from the end of one of its fronts on, and followed, in part or whole, by a log that held

@@ -2,7 +2,7 @@
 
 ghost use Rattle.std.specs.Prelude.{◌≡◌, [], IfOk, MatchResult};
 ghost use Rattle.log_recovery.specs.Opened.{OpenedList};
-ghost use Rattle.standby.specs.Keeping.{KeepsList};
+ghost use Rattle.standby.specs.TakenList.{KeepsList};
 ghost use Rattle.standby.specs.Following.{Follows};
 
 use lock_core::Judge;

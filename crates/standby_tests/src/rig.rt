@@ -2,9 +2,9 @@
 
 ghost use Rattle.std.specs.Prelude.{◌≡◌, List, ℕ, IfOk, IfSome, OnOk};
 ghost use Rattle.log_recovery.specs.Opened.{OpenedList};
-ghost use Rattle.standby.specs.Applying.{Base};
+ghost use Rattle.standby.specs.AppliedFrames.{Base};
 ghost use Rattle.standby.specs.Following.{Follows};
-ghost use Rattle.standby.specs.Keeping.{KeepsList};
+ghost use Rattle.standby.specs.TakenList.{KeepsList};
 
 use lock_core::Judge;
 use log_disk::LogDisk;

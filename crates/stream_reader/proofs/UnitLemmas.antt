@@ -7,7 +7,7 @@ use Rattle.std.proofs.lemmas.List.Concat.{flat_map-append}
 use Rattle.lsn_space.specs.Unit.{unit_bytes}
 use Rattle.lsn_space.proofs.TilingLemmas.{all-push}
 use Rattle.segment_file.specs.File.{AreUnits}
-use Rattle.segment_file.specs.Packing.{BatchState}
+use Rattle.segment_file.specs.PackedBatch.{BatchState}
 use Rattle.stream_reader.specs.Pushing.{PushesBytes}
 use Rattle.stream_reader.specs.Reader.{units_bytes}
 

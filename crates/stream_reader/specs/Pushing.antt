@@ -1,7 +1,7 @@
 -- How a piece of a stream goes into a batch, in units.
 use Rattle.std.specs.Prelude.{◌≡◌, ◌≤◌, ℕ, List, ◌++◌, length, take}
 use Rattle.segment_file.specs.File.{AreUnits}
-use Rattle.segment_file.specs.Packing.{BatchState}
+use Rattle.segment_file.specs.PackedBatch.{BatchState}
 use Rattle.stream_reader.specs.Reader.{units_bytes}
 
 -- so many bytes of the piece go behind the units of the batch and the bytes that wait, of which these wait then

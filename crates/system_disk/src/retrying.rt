@@ -4,7 +4,7 @@
 ghost use Rattle.std.specs.Prelude.{IfErr};
 ghost use Rattle.std.specs.Io.{ReadsAtMost, WritesAtMost};
 ghost use Rattle.std.specs.Io.KnownBytes.{ReadConsumes, WriteAppends};
-ghost use Rattle.system_disk.specs.Retrying.{WasNotInterrupted};
+ghost use Rattle.system_disk.specs.Interruption.{WasNotInterrupted};
 
 use std::fs::File;
 use std::io;

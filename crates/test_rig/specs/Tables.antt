@@ -2,7 +2,7 @@
 use Rattle.std.specs.Prelude.{◌≡◌, ◌≤◌, ℕ, List, [], ◌∷◌}
 use Rattle.log_record.specs.declared.limits.TheConstants.{MOST_BALANCE}
 use Rattle.log_rule.specs.Views.{sent_to}
-use Rattle.log_table.specs.Hiring.{HasHired}
+use Rattle.log_table.specs.HiredWorkers.{HasHired}
 use Rattle.log_table.specs.Seats.{IsOf, key_of, view_of}
 use Rattle.log_table.specs.declared.table.LogTable.{LogTable}
 use Rattle.log_table.specs.declared.table.Seat.{Seat}

@@ -4,7 +4,7 @@ ghost use Rattle.log_record.specs.declared.limits.TheConstants.{MOST_BALANCE};
 ghost use Rattle.log_record.specs.Spelling.{IsTxn};
 ghost use Rattle.lock_core.specs.Transfers.{IsAllowedJob};
 ghost use Rattle.log_rule.specs.declared.layout.TheConstants.{MOST_SLOTS};
-ghost use Rattle.log_table.specs.Hiring.{HasHired};
+ghost use Rattle.log_table.specs.HiredWorkers.{HasHired};
 ghost use Rattle.test_rig.specs.NotedJobs.{IsNew, MayInsert};
 ghost use Rattle.test_rig.specs.Tables.{AreBalances, IsTableOf};
 

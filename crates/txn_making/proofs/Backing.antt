@@ -12,7 +12,7 @@ use Rattle.lock_core.specs.Transactions.{recs_of, changes_in, has_commit, touche
 use Rattle.log_rule.specs.declared.view.Books.{Books}
 use Rattle.log_rule.specs.Books.{IsNote}
 use Rattle.txn_parts.specs.declared.release.Release.TheVariants.{Unchanged}
-use Rattle.txn_parts.specs.declared.holding.TakenAccount.{TakenAccount}
+use Rattle.txn_parts.specs.declared.taken_account.TakenAccount.{TakenAccount}
 use Rattle.txn_making.specs.Holdings.{GoesBack}
 
 note-uncommitted : (rec : Rec) → IsNote rec → commits rec ≡ false

@@ -15,12 +15,12 @@ use Rattle.log_rule.specs.declared.view.Entry.{Entry}
 use Rattle.log_rule.specs.declared.view.TakenJob.{TakenJob}
 use Rattle.log_rule.specs.Books.{balance_taken, last_commit_taken, next_of, IsNext, MayEnter}
 use Rattle.lock_core.specs.Transfers.{transfer_of, note_of}
-use Rattle.log_rule.specs.Closing.{records_of}
+use Rattle.log_rule.specs.ClosedLog.{records_of}
 use Rattle.log_table.specs.Seats.{view_of}
 use Rattle.log_rule.proofs.RecordsToPlace.{may-enter, note-next}
 use Rattle.ring_buffer.specs.Calls.{HasEntries, entry_of}
 use Rattle.txn_jobs.specs.declared.cause.Cause.{Cause}
-use Rattle.txn_parts.specs.declared.holding.TakenAccount.{TakenAccount}
+use Rattle.txn_parts.specs.declared.taken_account.TakenAccount.{TakenAccount}
 use Rattle.txn_making.specs.Holdings.{IsUnchanged}
 use Rattle.txn_making.specs.Inserts.{PutsRecord, placing_all, IsLeft, StopsFor, IsCutOff}
 use Rattle.txn_making.specs.Legs.{changes_by, HoldsJob, AddsRecords, StandsBefore, TouchesLeg}

@@ -12,7 +12,7 @@ use Rattle.log_rule.specs.Books.{taking}
 use Rattle.log_rule.specs.May.{Ascends}
 use Rattle.log_table.specs.Seats.{view_of}
 use Rattle.ring_buffer.specs.Calls.{HasEntries}
-use Rattle.txn_parts.specs.declared.holding.TakenAccount.{TakenAccount}
+use Rattle.txn_parts.specs.declared.taken_account.TakenAccount.{TakenAccount}
 use Rattle.early_locks.specs.Locks.{held_of}
 use Rattle.txn_making.specs.Holdings.{account_of, held_behind, holding_all, IsKnown, HoldsAll, TakesAll}
 use Rattle.txn_making.proofs.Held.{distinct}

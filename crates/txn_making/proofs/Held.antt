@@ -12,9 +12,9 @@ use Rattle.log_rule.specs.declared.view.View.{View}
 use Rattle.log_rule.specs.Books.{times_held, balance_taken, last_commit_taken, without}
 use Rattle.log_table.specs.Seats.{Becomes, view_of}
 use Rattle.log_rule.specs.AccountViews.{gave_account}
-use Rattle.early_locks.specs.declared.taking.Taken.{Taken}
+use Rattle.early_locks.specs.declared.taken.Taken.{Taken}
 use Rattle.early_locks.specs.Locks.{HoldsTaken, held_of, given_at}
-use Rattle.txn_parts.specs.declared.holding.TakenAccount.{TakenAccount}
+use Rattle.txn_parts.specs.declared.taken_account.TakenAccount.{TakenAccount}
 use Rattle.txn_making.specs.Holdings.{account_of, taken_of, held_behind, given_behind, Lacks, AreDistinct, with_held, KeepsGiven}
 use Rattle.txn_making.specs.Holdings.{account_given}
 use Rattle.txn_jobs.proofs.Listing.{rising-below}

@@ -12,7 +12,7 @@ use Rattle.log_rule.proofs.RecordsToPlace.{may-enter}
 use Rattle.ring_buffer.specs.Calls.{entry_of}
 use Rattle.early_locks.specs.Locks.{HoldsTaken}
 use Rattle.txn_jobs.specs.declared.cause.Cause.{Cause}
-use Rattle.txn_parts.specs.declared.holding.TakenAccount.{TakenAccount}
+use Rattle.txn_parts.specs.declared.taken_account.TakenAccount.{TakenAccount}
 use Rattle.txn_making.specs.Inserts.{placing_all, PutsRecord, IsLeft, StopsFor, IsCutOff}
 use Rattle.txn_making.specs.Legs.{MayMakeLeg, AddsRecords, leg_records}
 use Rattle.txn_making.proofs.Adding.{adds-trans, left-behind, uncommitted-behind, cut-off}

@@ -14,7 +14,7 @@ use Rattle.lock_core.specs.Records.{gain, loss}
 use Rattle.lock_core.specs.Sums.{moved}
 use Rattle.lock_core.specs.Transactions.{recs_of, changes_in, has_commit, touches, in_order}
 use Rattle.lock_core.specs.declared.job.Job.{Job}
-use Rattle.early_locks.specs.declared.taking.Taken.{Taken}
+use Rattle.early_locks.specs.declared.taken.Taken.{Taken}
 use Rattle.early_locks.specs.Locks.{HoldsTaken}
 use Rattle.log_rule.specs.declared.view.Books.{Books}
 use Rattle.log_rule.specs.declared.view.Entry.{Entry}
@@ -22,9 +22,9 @@ use Rattle.log_rule.specs.declared.view.Taken.{Taken as TakenHere}
 use Rattle.log_rule.specs.declared.view.TakenJob.{TakenJob}
 use Rattle.log_rule.specs.Books.{times_held, balance_taken, last_commit_taken, HoldsLeg, HoldsAccounts}
 use Rattle.lock_core.specs.Transfers.{transfer_of}
-use Rattle.log_rule.specs.Closing.{records_of}
+use Rattle.log_rule.specs.ClosedLog.{records_of}
 use Rattle.log_rule.proofs.Planning.{leg-sums}
-use Rattle.txn_parts.specs.declared.holding.TakenAccount.{TakenAccount}
+use Rattle.txn_parts.specs.declared.taken_account.TakenAccount.{TakenAccount}
 use Rattle.txn_jobs.specs.declared.rows.Answer.{Answer}
 use Rattle.txn_jobs.specs.declared.rows.Answer.TheVariants as answer
 use Rattle.txn_jobs.specs.Accounts.{HasAccountsOf, IsAccountOf}

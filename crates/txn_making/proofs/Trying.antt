@@ -11,8 +11,8 @@ use Rattle.log_rule.specs.declared.view.Call.TheVariants.{Idle}
 use Rattle.log_rule.specs.declared.view.Entry.{Entry}
 use Rattle.ring_buffer.specs.Calls.{HasEntries}
 use Rattle.ring_buffer.proofs.TwoCalls.{IsSameWorker-trans}
-use Rattle.early_locks.specs.declared.taking.Held.{Held}
-use Rattle.early_locks.specs.declared.taking.Taken.{Taken}
+use Rattle.early_locks.specs.declared.taken.Held.{Held}
+use Rattle.early_locks.specs.declared.taken.Taken.{Taken}
 use Rattle.early_locks.specs.Locks.{HasTaken, WasHeld, held_of}
 
 -- what a second call leaves as it was

@@ -11,7 +11,7 @@ use Rattle.log_rule.specs.Books.{balance_taken}
 use Rattle.lock_core.specs.Transfers.{transfer_of}
 use Rattle.log_table.specs.Seats.{view_of}
 use Rattle.ring_buffer.specs.Calls.{entry_of}
-use Rattle.txn_parts.specs.declared.holding.TakenAccount.{TakenAccount}
+use Rattle.txn_parts.specs.declared.taken_account.TakenAccount.{TakenAccount}
 use Rattle.txn_parts.specs.declared.ended.TransferEnd.{TransferEnd}
 pub use Rattle.txn_parts.specs.Holdings.{release_at}
 use Rattle.txn_making.specs.Holdings.{GoesBack}

@@ -13,11 +13,11 @@ use Rattle.log_rule.specs.Books.{taking}
 use Rattle.log_rule.specs.May.{HasBegunNothing}
 use Rattle.log_table.specs.Seats.{Becomes, view_of}
 use Rattle.ring_buffer.specs.Calls.{IsSameWorker, HasEntries}
-use Rattle.early_locks.specs.declared.taking.Taken.{Taken}
+use Rattle.early_locks.specs.declared.taken.Taken.{Taken}
 use Rattle.log_rule.specs.Accounts.{FollowsJob}
 use Rattle.early_locks.specs.Locks.{HasSeenDurable, held_of, given_at}
 use Rattle.txn_jobs.specs.declared.accounts.TheConstants.{MOST_PARTIES}
-use Rattle.txn_parts.specs.declared.holding.TakenAccount.{TakenAccount}
+use Rattle.txn_parts.specs.declared.taken_account.TakenAccount.{TakenAccount}
 use Rattle.txn_parts.specs.declared.release.Release.{Release}
 pub use Rattle.txn_parts.specs.Holdings.{taken_of, account_of, back_of}
 

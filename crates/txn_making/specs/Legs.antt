@@ -18,8 +18,8 @@ use Rattle.log_rule.specs.declared.view.View.{View}
 use Rattle.log_rule.specs.Accounts.{MayBeTaken}
 use Rattle.log_rule.specs.Books.{balance_taken, last_commit_taken, HoldsAccounts}
 use Rattle.lock_core.specs.Transfers.{transfer_of}
-use Rattle.log_rule.specs.Closing.{records_of}
-use Rattle.txn_parts.specs.declared.holding.TakenAccount.{TakenAccount}
+use Rattle.log_rule.specs.ClosedLog.{records_of}
+use Rattle.txn_parts.specs.declared.taken_account.TakenAccount.{TakenAccount}
 pub use Rattle.txn_parts.specs.Leg.{HasBalance, IsRefused, CanMake, CanBear, IsAfter}
 use Rattle.txn_jobs.specs.declared.rows.Answer.{Answer}
 use Rattle.txn_jobs.specs.declared.rows.Answer.TheVariants.{Done}

@@ -1,9 +1,9 @@
 -- The accounts that a transfer holds, and how they go back.
 use Rattle.std.specs.Prelude.{ℕ}
-use Rattle.early_locks.specs.declared.taking.Taken.{Taken}
+use Rattle.early_locks.specs.declared.taken.Taken.{Taken}
 use Rattle.txn_jobs.specs.declared.rows.Answer.{Answer}
 use Rattle.txn_jobs.specs.declared.rows.Answer.TheVariants.{Done, Short, Over}
-use Rattle.txn_parts.specs.declared.holding.TakenAccount.{TakenAccount}
+use Rattle.txn_parts.specs.declared.taken_account.TakenAccount.{TakenAccount}
 use Rattle.txn_parts.specs.declared.release.Release.{Release}
 use Rattle.txn_parts.specs.declared.release.Release.TheVariants.{Unchanged, Committed}
 

@@ -4,7 +4,7 @@ use Rattle.log_record.specs.declared.limits.TheConstants.{MOST_BALANCE}
 use Rattle.lock_core.specs.Alone.{after_leg}
 use Rattle.txn_jobs.specs.declared.rows.Answer.{Answer}
 use Rattle.txn_jobs.specs.declared.rows.Answer.TheVariants.{Done, Short, Over}
-use Rattle.txn_parts.specs.declared.holding.TakenAccount.{TakenAccount}
+use Rattle.txn_parts.specs.declared.taken_account.TakenAccount.{TakenAccount}
 
 -- one of the holdings is of this account, and has such a balance
 pub record HasBalance (holdings : List TakenAccount) (account : ℕ) (Such : ℕ → Type 0) : Type 0 where

@@ -8,7 +8,7 @@ ghost use Rattle.txn_jobs.specs.Accounts.{HasAccountsOf};
 ghost use Rattle.txn_parts.specs.Holdings.{account_of};
 ghost use Rattle.txn_parts.specs.Leg.{IsRefused, CanMake, CanBear, IsAfter};
 
-use crate::holding::TakenAccount;
+use crate::taken_account::TakenAccount;
 use log_record::{MOST_BALANCE, Units, spell_update};
 use lsn_space::Lsn;
 use txn_jobs::Answer;

@@ -4,20 +4,20 @@
 
 mod desk;
 mod ended;
-mod holding;
 mod leg;
 mod noting;
 mod numbered;
 mod release;
 mod relief;
+mod taken_account;
 mod waiting;
 
 pub use desk::Desk;
 pub use ended::TransferEnd;
-pub use holding::TakenAccount;
 pub use leg::{holding_of, move_amount, refusal, spell_credit, spell_debit};
 pub use noting::spell_job_note;
 pub use numbered::Numbered;
 pub use release::Release;
 pub use relief::{Relief, YieldRelief};
+pub use taken_account::TakenAccount;
 pub use waiting::{may_come, pause, see_durable};

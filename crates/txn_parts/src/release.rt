@@ -3,7 +3,7 @@ ghost use Rattle.std.specs.Prelude.{◌≡◌, ◌≤◌};
 ghost use Rattle.log_record.specs.declared.limits.TheConstants.{MOST_BALANCE};
 ghost use Rattle.txn_parts.specs.Holdings.{back_of};
 
-use crate::holding::TakenAccount;
+use crate::taken_account::TakenAccount;
 use lsn_space::Lsn;
 
 /// With which values accounts go back.

@@ -8,7 +8,7 @@ use Rattle.log_record.specs.LogList.{size_of}
 use Rattle.lock_core.specs.Alone.{planned_records, IsAllowedLeg}
 use Rattle.lock_core.specs.Transactions.{recs_of, in_order, has_commit}
 use Rattle.lock_core.specs.declared.job.Job.{Job}
-use Rattle.early_locks.specs.declared.taking.Taken.{Taken}
+use Rattle.early_locks.specs.declared.taken.Taken.{Taken}
 use Rattle.early_locks.specs.Locks.{HoldsTaken, held_of, given_at}
 use Rattle.log_table.specs.declared.table.Seat.{Seat}
 use Rattle.log_rule.specs.declared.view.Books.{Books}
@@ -19,12 +19,12 @@ use Rattle.log_rule.specs.declared.view.View.{View}
 use Rattle.log_rule.specs.Accounts.{MayBeTaken}
 use Rattle.log_rule.specs.Books.{balance_taken, last_commit_taken}
 use Rattle.lock_core.specs.Transfers.{transfer_of}
-use Rattle.log_rule.specs.Closing.{records_of}
+use Rattle.log_rule.specs.ClosedLog.{records_of}
 use Rattle.log_table.specs.Seats.{Becomes, view_of}
 use Rattle.ring_buffer.specs.Calls.{entry_of}
 use Rattle.txn_jobs.specs.declared.cause.Cause.{Cause}
 use Rattle.txn_jobs.specs.declared.cause.Cause.TheVariants.{Stop, LogEnd}
-use Rattle.txn_parts.specs.declared.holding.TakenAccount.{TakenAccount}
+use Rattle.txn_parts.specs.declared.taken_account.TakenAccount.{TakenAccount}
 use Rattle.txn_jobs.specs.declared.rows.Answer.{Answer}
 use Rattle.txn_jobs.specs.declared.rows.Answer.TheVariants as answer
 use Rattle.txn_parts.specs.declared.ended.TransferEnd.{TransferEnd}

@@ -14,7 +14,7 @@ use Rattle.log_rule.specs.declared.view.TakenJob.{TakenJob}
 use Rattle.log_rule.specs.declared.view.View.{View}
 use Rattle.log_rule.specs.Accounts.{MayBeTaken}
 use Rattle.lock_core.specs.Transfers.{transfer_of}
-use Rattle.log_rule.specs.Closing.{records_of}
+use Rattle.log_rule.specs.ClosedLog.{records_of}
 use Rattle.log_rule.specs.May.{MayTakeJob}
 use Rattle.ring_buffer.specs.Calls.{IsReady}
 use Rattle.txn_jobs.specs.declared.cause.Cause.{Cause}

@@ -9,7 +9,7 @@ use Rattle.log_rule.specs.declared.view.Entry.{Entry}
 use Rattle.log_rule.specs.declared.view.Given.{Given}
 use Rattle.log_rule.specs.declared.view.View.{View}
 use Rattle.lock_core.specs.Transfers.{transfer_of}
-use Rattle.log_rule.specs.Closing.{records_of}
+use Rattle.log_rule.specs.ClosedLog.{records_of}
 use Rattle.txn_jobs.specs.declared.cause.Cause.{Cause}
 use Rattle.txn_jobs.specs.declared.cause.Cause.TheVariants.{Stop, LogEnd}
 use Rattle.txn_jobs.specs.declared.rows.Row.{Row}

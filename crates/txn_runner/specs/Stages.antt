@@ -18,7 +18,7 @@ use Rattle.job_queue.specs.declared.rows.Rows.{Rows}
 use Rattle.job_queue.specs.Passes.{HasPassOf, TakesPlace, TakesMark, jobs_of, marks_in, places_in}
 use Rattle.txn_jobs.specs.declared.cause.Cause.{Cause}
 use Rattle.txn_parts.specs.declared.desk.Desk.{Desk}
-use Rattle.txn_parts.specs.declared.holding.TakenAccount.{TakenAccount}
+use Rattle.txn_parts.specs.declared.taken_account.TakenAccount.{TakenAccount}
 pub use Rattle.txn_parts.specs.declared.relief.Relief.{Ghosts}
 use Rattle.txn_jobs.specs.declared.rows.Row.{Row}
 use Rattle.txn_parts.specs.declared.ended.TransferEnd.{TransferEnd}

@@ -1,2 +1,2 @@
 mod AllTaken
-mod Settling
+mod ClosedLemmas

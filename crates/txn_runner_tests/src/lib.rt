@@ -6,10 +6,10 @@ mod accounts_tests;
 #[cfg(test)]
 mod alone;
 #[cfg(test)]
+mod closing_tests;
+#[cfg(test)]
 mod front_tests;
 #[cfg(test)]
 mod giving_tests;
-#[cfg(test)]
-mod settling_tests;
 #[cfg(test)]
 mod worker_tests;

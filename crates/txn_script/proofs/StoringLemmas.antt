@@ -7,7 +7,7 @@ use Rattle.std.proofs.lemmas.List.Elements.{All-weaker, recursion_from_All}
 use Rattle.lock_core.specs.declared.job.Job.{Job}
 use Rattle.txn_script.specs.declared.stored.Stored.{Stored}
 use Rattle.txn_script.specs.declared.stored.Stored.TheVariants.{Single, Long}
-use Rattle.txn_script.specs.Storing.{job_stored, IsStored}
+use Rattle.txn_script.specs.StoredJob.{job_stored, IsStored}
 
 -- beside more long ones
 module _ (long more : List Job) where

@@ -3,4 +3,4 @@ pub mod Generator
 pub mod Lines
 pub mod Reading
 pub mod Script
-pub mod Storing
+pub mod StoredJob

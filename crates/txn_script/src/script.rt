@@ -22,7 +22,7 @@ pub struct Script {
 impl Model for Script {
     ghost use Rattle.std.specs.Prelude.{List, All, map};
     ghost use Rattle.lock_core.specs.declared.job.Job.{Job};
-    ghost use Rattle.txn_script.specs.Storing.{job_stored, IsStored};
+    ghost use Rattle.txn_script.specs.StoredJob.{job_stored, IsStored};
 
     ghost Value = { List Job };
 

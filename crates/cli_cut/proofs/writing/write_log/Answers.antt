@@ -4,7 +4,7 @@ use Rattle.log_disk.specs.Faults.{HasCause}
 use Rattle.log_record.specs.LogList.{size_of}
 use Rattle.log_record.proofs.BoundLemmas.{length-spelling}
 use Rattle.log_recovery.specs.Opened.{log_of}
-use Rattle.segment_file.specs.Packing.{BatchState}
+use Rattle.segment_file.specs.PackedBatch.{BatchState}
 use Rattle.segment_file.specs.declared.layout.TheConstants.{MOST_UNITS}
 use Rattle.cli_cut.specs.Batches.{batches_of}
 use Rattle.cli_cut.proofs.ReadyLemmas.{IsGathered, IsReady, can-add, can-fit, can-open, can-place, failed-begun, failed-writes, gathered, gathered-none, gathered-underway, opened-count, opened-grows, opened-moments, ready-begun, ready-flushed, ready-last, ready-same, ready-taken, some-full}

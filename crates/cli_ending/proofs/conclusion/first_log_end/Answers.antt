@@ -3,7 +3,7 @@ use Rattle.std.proofs.Math.Seq.{split_at}
 use Rattle.std.proofs.lemmas.List.{take_all}
 use Rattle.txn_jobs.specs.declared.cause.Worked.TheVariants.{Cut}
 use Rattle.txn_jobs.specs.declared.cause.Cause.TheVariants.{LogEnd}
-use Rattle.cli_ending.specs.Ending.{AreWhole}
+use Rattle.cli_ending.specs.Conclusion.{AreWhole}
 use Rattle.cli_ending.proofs.conclusion.first_log_end.Goals as goal
 
 pub returns-in-Cut-LogEnd-clause-some : goal.returns-in-Cut-LogEnd-clause-some

@@ -1,5 +1,5 @@
 use Rattle.std.proofs.Common.{rules, sym, subst}
-use Rattle.cli_ending.specs.Ending.{NoneStopped}
+use Rattle.cli_ending.specs.Conclusion.{NoneStopped}
 use Rattle.cli_ending.proofs.conclusion.stopped.Goals as goal
 
 pub returns-in-Some-DiskFault-clause-some : goal.returns-in-Some-DiskFault-clause-some

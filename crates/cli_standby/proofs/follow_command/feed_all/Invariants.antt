@@ -1,5 +1,5 @@
 use Rattle.std.proofs.Common.{◌≡◌, [], List, ℕ}
-use Rattle.standby.specs.Applying.{Base}
+use Rattle.standby.specs.AppliedFrames.{Base}
 use Rattle.standby.specs.Following.{Follows}
 use Rattle.cli_standby.specs.Feeding.{HasFed}
 use Rattle.cli_standby.proofs.follow_command.feed_all.Given as goal

@@ -1,6 +1,6 @@
 use Rattle.std.proofs.Common.{rules, ◌≡◌, subst}
 use Rattle.std.proofs.lemmas.Result.{err_from_is_err_and}
-use Rattle.log_disk.specs.Attaching.{existing}
+use Rattle.log_disk.specs.Attachment.{existing}
 use Rattle.cli_standby.specs.Feeding.{FollowEnds}
 use Rattle.cli_standby.proofs.FollowLemmas.{ends-unopened, follow-ends}
 use Rattle.cli_standby.proofs.follow_command.follow.Goals as goal

@@ -1,7 +1,7 @@
 use Rattle.std.proofs.Common.{rules, ◌≡◌, length, sym, subst, IsSomeAnd}
 use Rattle.flushing_relief.specs.declared.relief.FlushingRelief.{FlushingRelief}
 use Rattle.log_rule.specs.May.{MayClose}
-use Rattle.log_table.specs.Hiring.{HasHired, KnowsHired}
+use Rattle.log_table.specs.HiredWorkers.{HasHired, KnowsHired}
 use Rattle.log_table.specs.Seats.{key_of, view_of}
 use Rattle.cli_threads.specs.Prepared.{HasTurned, IsLeftOf, MayBeTakenApart}
 use Rattle.cli_threads.proofs.TransferredLemmas.{MayClose-gathered, some-then}

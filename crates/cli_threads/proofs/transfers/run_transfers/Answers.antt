@@ -4,10 +4,10 @@ use mathlib.Core.Option.{some}
 use lib.ListN.{get_elem?}
 use Rattle.log_recovery.specs.Opened.{log_of}
 use Rattle.log_rule.specs.declared.view.View.{View}
-use Rattle.log_rule.specs.Closing.{HasHeardOfWorkers, IsGathered, HasLedger}
+use Rattle.log_rule.specs.ClosedLog.{HasHeardOfWorkers, IsGathered, HasLedger}
 use Rattle.log_rule.specs.Sound.{base_of}
 use Rattle.log_table.specs.declared.table.Seat.{Seat}
-use Rattle.log_table.specs.Hiring.{KnowsHired}
+use Rattle.log_table.specs.HiredWorkers.{KnowsHired}
 use Rattle.log_table.specs.Seats.{IsOf, key_of, view_of}
 use Rattle.job_queue.specs.Passes.{jobs_of, workers_of}
 use Rattle.cli_threads.specs.Gathering.{share_of}

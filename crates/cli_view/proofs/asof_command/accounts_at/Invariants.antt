@@ -1,7 +1,7 @@
 use Rattle.std.proofs.Common.{◌≡◌, ◌-◌, List, length}
 use Rattle.log_record.specs.declared.rec.Placed.{Placed}
 use Rattle.lock_core.specs.Sums.{Opening}
-use Rattle.ledger_view.specs.Viewing.{HasViewed}
+use Rattle.ledger_view.specs.ViewedAccounts.{HasViewed}
 use Rattle.cli_view.specs.Balances.{AreBalances}
 use Rattle.cli_view.proofs.asof_command.accounts_at.Given as goal
 

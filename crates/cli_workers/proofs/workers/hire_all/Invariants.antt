@@ -1,5 +1,5 @@
 use Rattle.std.proofs.Common.{◌≡◌, vec_len, vec_capacity}
-use Rattle.log_table.specs.Hiring.{HasHired}
+use Rattle.log_table.specs.HiredWorkers.{HasHired}
 use Rattle.job_queue.specs.Passes.{HasFirstPass}
 use Rattle.cli_workers.specs.Workers.{AreUnused, HandsOut}
 use Rattle.cli_workers.proofs.workers.hire_all.Given as goal

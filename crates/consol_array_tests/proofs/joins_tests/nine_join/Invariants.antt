@@ -1,4 +1,4 @@
-use Rattle.log_table.specs.Hiring.{HasHired}
+use Rattle.log_table.specs.HiredWorkers.{HasHired}
 use Rattle.consol_array_tests.proofs.joins_tests.nine_join.Given as goal
 
 abbrev pub invariant-loop-i : goal.invariant-loop-i

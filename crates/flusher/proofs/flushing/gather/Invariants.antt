@@ -1,7 +1,7 @@
 use Rattle.std.proofs.Common.{◌≡◌, ◌<◌, ◌≤◌, ◌+◌, length}
 use Rattle.log_table.specs.Seats.{Becomes, view_of}
 use Rattle.log_rule.specs.Sends.{ReadsWholeEntries}
-use Rattle.flusher.specs.Sending.{read_units}
+use Rattle.flusher.specs.SentUnits.{read_units}
 use Rattle.flusher.proofs.flushing.gather.Given as goal
 
 -- the units read so far are those of the batch

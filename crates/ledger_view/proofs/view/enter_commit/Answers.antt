@@ -6,7 +6,7 @@ use Rattle.lock_core.proofs.ListLemmas.{all-at}
 use Rattle.ledger_view.specs.declared.entries.Entry.{Entry}
 use Rattle.ledger_view.specs.declared.accounts.Account.{Account}
 use Rattle.ledger_view.specs.Entries.{net_of, balance_after}
-use Rattle.ledger_view.specs.Viewing.{account_at}
+use Rattle.ledger_view.specs.ViewedAccounts.{account_at}
 use Rattle.ledger_view.specs.Entering.{with_entry, LeadsOn, Enters}
 use Rattle.ledger_view.proofs.EnteringLemmas.{enters-none, enters-again, enters-more}
 use Rattle.ledger_view.proofs.view.enter_commit.Goals as goal

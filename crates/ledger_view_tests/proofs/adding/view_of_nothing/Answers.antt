@@ -2,7 +2,7 @@ use Rattle.std.proofs.Common.{inl, [], ap, subst}
 use Rattle.std.specs.Prelude.{IfOk}
 use Rattle.lsn_space.specs.Opening.{Opening}
 use Rattle.lock_core.specs.AccountRows.{opening_of}
-use Rattle.ledger_view.specs.Viewing.{HasViewed}
+use Rattle.ledger_view.specs.ViewedAccounts.{HasViewed}
 use Rattle.ledger_view_tests.proofs.adding.view_of_nothing.Goals as goal
 
 pub make-requires : goal.make-requires

@@ -1,5 +1,5 @@
 use Rattle.std.proofs.Common.{length}
-use Rattle.log_recovery.specs.Judging.{HasTakenFront}
+use Rattle.log_recovery.specs.JudgedUnits.{HasTakenFront}
 use Rattle.log_recovery.proofs.judging.taken_units.Given as goal
 
 abbrev pub invariant-records : goal.invariant-records

@@ -1,5 +1,5 @@
 use Rattle.std.proofs.Common.{subst, arith}
-use Rattle.log_recovery.specs.Listing.{IsBadRecAt}
+use Rattle.log_recovery.specs.ListedRecords.{IsBadRecAt}
 use Rattle.log_recovery.proofs.UnitsLemmas.{unlawful-list}
 use Rattle.log_recovery.proofs.judging.unlawful.Goals as goal
 

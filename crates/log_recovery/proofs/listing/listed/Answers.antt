@@ -1,5 +1,5 @@
 use Rattle.std.proofs.Common.{refl, subst, arith}
-use Rattle.log_recovery.specs.Listing.{IsBadRecAt}
+use Rattle.log_recovery.specs.ListedRecords.{IsBadRecAt}
 use Rattle.log_recovery.proofs.RecoveryLemmas.{scan-holds, scan-fits, lists}
 use Rattle.log_recovery.proofs.listing.listed.Goals as goal
 

@@ -1,5 +1,5 @@
 use Rattle.std.proofs.Common.{length}
-use Rattle.log_recovery.specs.Listing.{IsFront}
+use Rattle.log_recovery.specs.ListedRecords.{IsFront}
 use Rattle.log_recovery.proofs.places.first_bad.Given as goal
 
 abbrev pub invariant-records : goal.invariant-records

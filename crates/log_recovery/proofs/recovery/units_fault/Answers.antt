@@ -1,6 +1,6 @@
 use Rattle.std.proofs.Common.{subst}
 use Rattle.segment_file.specs.Log.{HoldsLog}
-use Rattle.log_recovery.specs.Judging.{IsUnitsFaultOf}
+use Rattle.log_recovery.specs.JudgedUnits.{IsUnitsFaultOf}
 use Rattle.log_recovery.proofs.recovery.units_fault.Goals as goal
 
 pub returns-in-Unlawful : goal.returns-in-Unlawful

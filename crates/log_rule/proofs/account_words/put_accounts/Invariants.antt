@@ -1,4 +1,4 @@
-use Rattle.log_rule.specs.Opening.{PutsAccounts}
+use Rattle.log_rule.specs.FirstAccounts.{PutsAccounts}
 use Rattle.log_rule.proofs.account_words.put_accounts.Given as goal
 
 abbrev pub invariant-loop-account : goal.invariant-loop-account

@@ -2,7 +2,7 @@ use Rattle.std.proofs.Common.{rules, arith, ◌≡◌, ◌<◌, ◌∙◌, ◌+�
 use Rattle.std.specs.Slots.{slots_items}
 use Rattle.lsn_space.specs.Accounts.{Accounts}
 use Rattle.slot_word.specs.AccountWord.{balance_in, last_commit_in}
-use Rattle.log_rule.specs.Closing.{ReadsRows}
+use Rattle.log_rule.specs.ClosedLog.{ReadsRows}
 use Rattle.log_rule.specs.Layout.{Account, index_of}
 use Rattle.log_rule.proofs.Gathering.{at-index}
 use Rattle.log_rule.proofs.Rows.{reads-more}

@@ -1,5 +1,5 @@
 use Rattle.std.specs.List.{AllByRecursion}
-use Rattle.log_table.specs.Hiring.{HasHired}
+use Rattle.log_table.specs.HiredWorkers.{HasHired}
 use Rattle.job_queue.specs.Passes.{IsSameQueue}
 use Rattle.run_rig.specs.Enlisted.{HasEnlisted, IsHand}
 use Rattle.run_rig.proofs.crew.hands.Given as goal

@@ -4,7 +4,7 @@ use Rattle.log_rule.specs.declared.view.Sending.{Sending}
 use Rattle.log_rule.specs.declared.view.Constants.{Constants}
 use Rattle.log_table.specs.Seats.{key_of, view_of}
 use Rattle.log_rule.specs.Views.{sent_to}
-use Rattle.segment_file.specs.Standing.{IsShut}
+use Rattle.segment_file.specs.StandingLog.{IsShut}
 use Rattle.segment_file.proofs.FirstFormat.{all-log}
 use Rattle.run_rig.proofs.FlusherOver.{MayFlush-over}
 use Rattle.run_rig.proofs.daemons.flusher_on.Goals as goal

@@ -1,6 +1,6 @@
 use Rattle.std.proofs.Common.{◌≡◌, Ok, arith}
 use Rattle.std.proofs.lemmas.Result.{err_from_is_err_and}
-use Rattle.segment_file.specs.Standing.{tail_after}
+use Rattle.segment_file.specs.StandingLog.{tail_after}
 use Rattle.segment_file.proofs.LogGrows.{appends-failed, appends-then}
 use Rattle.segment_file.proofs.appending.append.Goals as goal
 

@@ -1,6 +1,6 @@
 use Rattle.std.proofs.Common.{◌≡◌, ◌∙◌, ◌+◌, ◌*◌, ◌∷◌, [], vec_capacity, ap, sym, take, length, length-append, arith}
 use Rattle.segment_file.specs.declared.layout.TheConstants.{CLOSED}
-use Rattle.segment_file.specs.Packing.{BatchState}
+use Rattle.segment_file.specs.PackedBatch.{BatchState}
 use Rattle.segment_file.proofs.PackingLemmas.{state, packed-view, packed-again, packed-counted, packed-units_in, units_in-packed, length-packed, length-sealed}
 use Rattle.segment_file.proofs.PackingLemmas.{length-opened, opened-body}
 use Rattle.segment_file.proofs.opened_write.write_opened.Goals as goal

@@ -2,7 +2,7 @@ use Rattle.std.proofs.Common.{◌≡◌, ◌≤◌, ◌∙◌, ◌+◌, sym, sub
 use Rattle.std.proofs.lemmas.Result.{err_from_is_err_and}
 use Rattle.log_disk.proofs.Counting.{Costs-more, CountsWhere-after}
 use Rattle.log_disk.proofs.Moments.{Leaves-trans, Leaves-weaken}
-use Rattle.segment_file.specs.Opening.{most_reads}
+use Rattle.segment_file.specs.MostReads.{most_reads}
 use Rattle.segment_file.proofs.Results.{IfOk-each}
 use Rattle.segment_file.proofs.opening.open_image.Goals as goal
 

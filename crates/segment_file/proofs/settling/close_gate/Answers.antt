@@ -2,7 +2,7 @@ use Rattle.std.proofs.Common.{◌≡◌, ◌≤◌, ◌∷◌, [], length, true�
 use Rattle.log_disk.specs.Disk.{put}
 use Rattle.log_disk.proofs.Moments.{Leaves-call, Leaves-trans, Leaves-weaken}
 use Rattle.log_disk.proofs.Uses.{HasCause-then}
-use Rattle.segment_file.specs.Standing.{LacksGate}
+use Rattle.segment_file.specs.StandingLog.{LacksGate}
 use Rattle.segment_file.specs.declared.layout.TheConstants.{CLOSED}
 use Rattle.segment_file.proofs.Results.{OnOk-both}
 use Rattle.segment_file.proofs.StableGates.{stays-closed, stays-closed-torn, stable-shut, put-shut}

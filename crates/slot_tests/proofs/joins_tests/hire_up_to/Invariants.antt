@@ -1,4 +1,4 @@
-use Rattle.log_table.specs.Hiring.{HasHired}
+use Rattle.log_table.specs.HiredWorkers.{HasHired}
 use Rattle.slot_tests.proofs.joins_tests.hire_up_to.Given as goal
 
 abbrev pub invariant-loop-worker : goal.invariant-loop-worker

@@ -1,4 +1,4 @@
-use Rattle.log_table.specs.Hiring.{HasHired}
+use Rattle.log_table.specs.HiredWorkers.{HasHired}
 use Rattle.slot_tests.proofs.refused_tests.reserve_ring.Given as goal
 
 abbrev pub invariant-loop-i : goal.invariant-loop-i

@@ -2,7 +2,7 @@ use Rattle.std.proofs.Common.{◌≡◌, ◌≤◌, ◌-◌, List, length}
 use Rattle.log_record.specs.declared.rec.Rec.{Rec}
 use Rattle.log_record.specs.LogList.{AreUnitsOf}
 use Rattle.log_recovery.specs.Opened.{OpenedList, list_end}
-use Rattle.standby.specs.Keeping.{HasTakenList}
+use Rattle.standby.specs.TakenList.{HasTakenList}
 use Rattle.standby.proofs.JudgedFrames.{HasTakenTo}
 use Rattle.standby.proofs.judging.judge_frame.Given as goal
 

@@ -1,5 +1,5 @@
 use Rattle.std.proofs.Common.{List, ℕ}
-use Rattle.standby.specs.Applying.{Base}
+use Rattle.standby.specs.AppliedFrames.{Base}
 use Rattle.standby.specs.Following.{Follows}
 use Rattle.standby_tests.proofs.rig.feed_all.Given as goal
 

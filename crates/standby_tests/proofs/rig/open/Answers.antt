@@ -2,7 +2,7 @@ use Rattle.std.proofs.Common.{◌≡◌, ◌≤◌, ◌^◌, ◌∙◌, sym, ap,
 use Rattle.log_disk.specs.Disk.{IsOnlyImage}
 use Rattle.log_recovery.specs.Opened.{log_of}
 use Rattle.segment_file.proofs.Scanned.{all-stands, stands-stable, stands-within}
-use Rattle.standby.specs.Keeping.{KeepsList}
+use Rattle.standby.specs.TakenList.{KeepsList}
 use Rattle.standby_tests.proofs.rig.open.Goals as goal
 
 pub settle-requires-clause-stable : goal.settle-requires-clause-stable

@@ -1,5 +1,5 @@
 use Rattle.std.proofs.Common.{rules, ◌∙◌, ◌∷◌, [], ap, length, length-append, arith}
-use Rattle.segment_file.specs.Packing.{BatchState}
+use Rattle.segment_file.specs.PackedBatch.{BatchState}
 use Rattle.stream_reader.proofs.UnitLemmas.{pushing-more, pushes-whole}
 use Rattle.stream_reader.proofs.units.push_whole.Goals as goal
 

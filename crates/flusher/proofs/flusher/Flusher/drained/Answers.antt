@@ -2,7 +2,7 @@ use Rattle.std.proofs.Common.{arith, refl, ◌≡◌, ◌∙◌, sym, ap, subst}
 use Rattle.std.proofs.lemmas.Bool.{eqb-true}
 use Rattle.log_table.specs.Seats.{Becomes, view_of}
 use Rattle.log_rule.specs.Views.{sent_to}
-use Rattle.flusher.specs.Sending.{asked}
+use Rattle.flusher.specs.SentUnits.{asked}
 use Rattle.flusher.proofs.Flushes.{MayFlush-step, seen-newer}
 use Rattle.flusher.proofs.ReadUp.{Becomes-asked}
 use Rattle.flusher.proofs.flusher.Flusher.drained.Goals as goal

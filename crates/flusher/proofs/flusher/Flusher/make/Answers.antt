@@ -1,5 +1,5 @@
 use Rattle.std.proofs.Common.{sym, subst}
-use Rattle.flusher.specs.Keeping.{KeepsLog, sent_by, read_by}
+use Rattle.flusher.specs.KeptLog.{KeepsLog, sent_by, read_by}
 use Rattle.flusher.proofs.Keeps.{KeepsLog-first}
 use Rattle.flusher.proofs.flusher.Flusher.make.Goals as goal
 

@@ -3,7 +3,7 @@ use Rattle.std.proofs.lemmas.Int.{to_z-of_z}
 use Rattle.std.proofs.lemmas.Result.{on_ok_weaker}
 use Rattle.ledger_view.specs.declared.accounts.Account.{Account}
 use Rattle.ledger_view.specs.Entries.{net_of}
-use Rattle.ledger_view.specs.Viewing.{account_at}
+use Rattle.ledger_view.specs.ViewedAccounts.{account_at}
 use Rattle.ledger_view.proofs.EnteringLemmas.{next-entered, first-entered, set-entered}
 use Rattle.ledger_view.proofs.accounts.Accounts.enter.Goals as goal
 

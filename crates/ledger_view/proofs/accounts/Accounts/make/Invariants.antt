@@ -1,5 +1,5 @@
 use Rattle.std.proofs.Common.{◌≡◌, replicate}
-use Rattle.ledger_view.specs.Viewing.{untouched}
+use Rattle.ledger_view.specs.ViewedAccounts.{untouched}
 use Rattle.ledger_view.proofs.accounts.Accounts.make.Given as goal
 
 abbrev pub invariant-accounts : goal.invariant-accounts

@@ -1,7 +1,7 @@
 use Rattle.std.proofs.Common.{◌≡◌, ◌<◌, ◌∙◌, ℕ, length, sym, subst, arith}
 use Rattle.std.proofs.lemmas.Int.{ints}
 use Rattle.log_record.specs.Spelling.{IsBalance}
-use Rattle.ledger_view.specs.Viewing.{balance_to, AddUp}
+use Rattle.ledger_view.specs.ViewedAccounts.{balance_to, AddUp}
 use Rattle.ledger_view.proofs.EntryLemmas.{no_entry, add_up-rises, next-adds, none-behind}
 use Rattle.ledger_view.proofs.entries.Entries.balance_to.Goals as goal
 

@@ -2,7 +2,7 @@ use Rattle.std.proofs.Common.{◌∙◌, ◌++◌, ◌∷◌, [], List, ap}
 use Rattle.std.proofs.lemmas.Result.{on_ok_weaker}
 use Rattle.ledger_view.specs.declared.entries.Entry.{Entry}
 use Rattle.ledger_view.specs.Rows.{entry_of_row, entries_of_rows}
-use Rattle.ledger_view.specs.Viewing.{last_balance}
+use Rattle.ledger_view.specs.ViewedAccounts.{last_balance}
 use Rattle.ledger_view.proofs.RowLemmas.{entries_of_rows-append, last_balance-some}
 use Rattle.ledger_view.proofs.entries.Entries.push.Goals as goal
 

@@ -5,7 +5,7 @@ use Rattle.lock_core.specs.History.{entry_at}
 use Rattle.lock_core.specs.Sums.{Opening}
 use Rattle.lock_core.specs.Taking.{HasJudged, IsTakeFault}
 use Rattle.ledger_view.specs.Entering.{AddsEntry, CanAdd}
-use Rattle.ledger_view.specs.Viewing.{HasViewed}
+use Rattle.ledger_view.specs.ViewedAccounts.{HasViewed}
 use Rattle.ledger_view.proofs.ViewLemmas.{adds-fault, adds-taken, other-kinds, views-plain}
 use Rattle.ledger_view.proofs.view.View.add.Goals as goal
 

@@ -4,7 +4,7 @@ use Rattle.lock_core.specs.Sums.{Opening}
 use Rattle.ledger_view.specs.declared.accounts.Account.{Account}
 use Rattle.ledger_view.specs.Entries.{EndsAt}
 use Rattle.ledger_view.specs.Marks.{IsEndIn}
-use Rattle.ledger_view.specs.Viewing.{account_at, HasViewed}
+use Rattle.ledger_view.specs.ViewedAccounts.{account_at, HasViewed}
 use Rattle.ledger_view.proofs.EndLemmas.{end-viewed}
 use Rattle.ledger_view.proofs.EntryLemmas.{add_up-rises}
 use Rattle.std.specs.List.Sorted.{IsNonDecreasingBy}

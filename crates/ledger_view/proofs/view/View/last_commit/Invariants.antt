@@ -2,7 +2,7 @@ use Rattle.std.proofs.Common.{◌≡◌, ◌≤◌, ◌⊎◌, List}
 use Rattle.log_record.specs.declared.rec.Placed.{Placed}
 use Rattle.lock_core.specs.Sums.{Opening}
 use Rattle.ledger_view.specs.Entries.{EndsAt}
-use Rattle.ledger_view.specs.Viewing.{HasViewed}
+use Rattle.ledger_view.specs.ViewedAccounts.{HasViewed}
 use Rattle.ledger_view.proofs.view.View.last_commit.Given as goal
 
 abbrev pub invariant-accounts : goal.invariant-accounts

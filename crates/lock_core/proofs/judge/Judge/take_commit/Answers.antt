@@ -1,6 +1,6 @@
 use Rattle.std.proofs.Common.{arith, ◌∙◌, ◌+◌, ◌∷◌, ap, subst}
 use Rattle.log_record.specs.declared.rec.Rec.TheVariants.{Commit}
-use Rattle.lock_core.specs.Keeping.{KeepsLedger}
+use Rattle.lock_core.specs.KeptLedger.{KeepsLedger}
 use Rattle.lock_core.proofs.judge.Judge.take_commit.Goals as goal
 
 pub returns-clause-taken : goal.returns-clause-taken

@@ -1,6 +1,6 @@
 use Rattle.std.proofs.Common.{subst, sym, inr, refl}
 use Rattle.lock_core.specs.Transactions.{own_records_of, updates_of}
-use Rattle.lock_core.specs.Keeping.{KeepsRecords}
+use Rattle.lock_core.specs.KeptLedger.{KeepsRecords}
 use Rattle.lock_core.proofs.ChainLemmas.{chain-inside}
 use Rattle.lock_core.proofs.KeepingLemmas.{keeps-ended}
 use Rattle.lock_core.proofs.transactions.Transactions.end.Goals as goal

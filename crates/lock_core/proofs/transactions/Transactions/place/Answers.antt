@@ -1,6 +1,6 @@
 use Rattle.std.proofs.Common.{subst, sym}
 use Rattle.lock_core.specs.Transactions.{own_records_of, updates_of}
-use Rattle.lock_core.specs.Keeping.{KeepsRecords}
+use Rattle.lock_core.specs.KeptLedger.{KeepsRecords}
 use Rattle.lock_core.proofs.ChainLemmas.{chain-inside}
 use Rattle.lock_core.proofs.transactions.Transactions.place.Goals as goal
 

@@ -1,6 +1,6 @@
 use Rattle.std.proofs.Common.{arith, ℕ, length, ◌∙◌, sym, subst}
 use Rattle.std.specs.Slots.{slots_items}
-use Rattle.log_rule.specs.Closing.{IsGathered, ReadsRows, in_use}
+use Rattle.log_rule.specs.ClosedLog.{IsGathered, ReadsRows, in_use}
 use Rattle.log_table.specs.Seats.{view_of, key_of}
 use Rattle.log_rule.proofs.Gathering.{IsClosed, closes}
 use Rattle.log_table.proofs.table.LogTable.close.Goals as goal

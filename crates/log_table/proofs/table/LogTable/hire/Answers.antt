@@ -1,7 +1,7 @@
 use Rattle.std.proofs.Common.{rules, ◌≡◌, ◌∙◌, ap, sym, subst}
 use Rattle.std.specs.List.{list_any}
 use lib.Dec.{eqb}
-use Rattle.log_table.specs.Hiring.{KnowsHired}
+use Rattle.log_table.specs.HiredWorkers.{KnowsHired}
 use Rattle.log_table.specs.Seats.{view_of, key_of}
 use Rattle.log_table.proofs.Hired.{hired_numbers-lacks, KnowsHired-more, after_hire}
 use Rattle.log_table.proofs.table.LogTable.hire.Goals as goal

@@ -1,7 +1,7 @@
 use Rattle.std.proofs.Common.{rules, ◌≤◌, ◌∙◌, ◌*◌, ◌+◌, List, ℕ, replicate, length, subst, sym, ap}
 use Rattle.lsn_space.specs.declared.lsn.TheConstants.{LAST}
 use Rattle.log_rule.specs.declared.layout.TheConstants.{STRIDE, RING}
-use Rattle.log_rule.specs.Opening.{PutsAccounts}
+use Rattle.log_rule.specs.FirstAccounts.{PutsAccounts}
 use Rattle.log_rule.proofs.Starting.{start-allowed, shared_words}
 use Rattle.log_table.proofs.table.LogTable.make.Goals as goal
 

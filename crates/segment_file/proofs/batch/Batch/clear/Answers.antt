@@ -1,5 +1,5 @@
 use Rattle.std.proofs.Common.{vec_capacity, ap, refl, arith}
-use Rattle.segment_file.specs.Packing.{BatchState}
+use Rattle.segment_file.specs.PackedBatch.{BatchState}
 use Rattle.segment_file.proofs.PackingLemmas.{packed-clear, packed-units_in, units_in-packed}
 use Rattle.segment_file.proofs.batch.Batch.clear.Goals as goal
 

@@ -1,5 +1,5 @@
 use Rattle.std.proofs.Common.{length, ap, arith}
-use Rattle.segment_file.specs.Packing.{BatchState}
+use Rattle.segment_file.specs.PackedBatch.{BatchState}
 use Rattle.segment_file.proofs.PackingLemmas.{length-packed}
 use Rattle.segment_file.proofs.batch.Batch.count.Goals as goal
 

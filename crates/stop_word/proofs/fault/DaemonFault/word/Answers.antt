@@ -1,5 +1,5 @@
 use Rattle.std.proofs.Common.{ap, sym}
-use Rattle.stop_word.specs.Stopping.{stop_word}
+use Rattle.stop_word.specs.StopWord.{stop_word}
 use Rattle.stop_word.proofs.fault.DaemonFault.word.Goals as goal
 
 pub returns-in-WriteFault : goal.returns-in-WriteFault

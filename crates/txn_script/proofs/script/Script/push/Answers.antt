@@ -2,7 +2,7 @@ use Rattle.std.proofs.Common.{◌≡◌, ◌∙◌, ap, ◌++◌, ◌∷◌, [],
 use Rattle.std.proofs.lemmas.Result.{IfOk-weaker, on_err_weaker}
 use Rattle.lock_core.specs.declared.job.Job.{Job}
 use Rattle.txn_script.specs.declared.stored.Stored.TheVariants.{Long}
-use Rattle.txn_script.specs.Storing.{job_stored}
+use Rattle.txn_script.specs.StoredJob.{job_stored}
 use Rattle.txn_script.proofs.StoringLemmas.{job_stored-long, jobs_stored-append, jobs_stored-push}
 use Rattle.txn_script.proofs.script.Script.push.Goals as goal
 

@@ -1,7 +1,7 @@
 use Rattle.std.proofs.Common.{◌∙◌, ◌++◌, ◌∷◌, [], None, ap, refl, map}
 use Rattle.std.proofs.lemmas.Result.{IfOk-weaker, on_err_weaker}
 use Rattle.txn_script.specs.declared.stored.Stored.TheVariants.{Single}
-use Rattle.txn_script.specs.Storing.{job_stored}
+use Rattle.txn_script.specs.StoredJob.{job_stored}
 use Rattle.txn_script.proofs.StoringLemmas.{jobs_stored-push}
 use Rattle.txn_script.proofs.script.Script.push_leg.Goals as goal
 

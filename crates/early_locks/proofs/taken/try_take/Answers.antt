@@ -4,7 +4,7 @@ use Rattle.log_table.specs.Seats.{Becomes, view_of}
 use Rattle.log_rule.specs.AccountViews.{saw_account, took_account}
 use Rattle.slot_word.specs.AccountWord.{word_of}
 use Rattle.slot_word.proofs.AccountWordLemmas.{balance_back, last_commit_back}
-use Rattle.early_locks.proofs.taking.try_take.Goals as goal
+use Rattle.early_locks.proofs.taken.try_take.Goals as goal
 
 pub returns-in-Ok-clause-taken : goal.returns-in-Ok-clause-taken
 returns-in-Ok-clause-taken c =

@@ -3,7 +3,7 @@ ghost use Rattle.std.specs.Prelude.{◌≡◌, [], ◌∷◌, None, IfOk, IfSome
 ghost use Rattle.lock_core.specs.Transfers.{IsAllowedJob};
 ghost use Rattle.job_queue.specs.Passes.{workers_of};
 ghost use Rattle.run_rig.specs.Enlisted.{HasEnlisted};
-ghost use Rattle.txn_runner_tests.specs.Settled.{SettlesOne};
+ghost use Rattle.txn_runner_tests.specs.OneClosed.{ClosesOne};
 
 use crate::alone::NeverRests;
 use log_table::Closed;
@@ -33,8 +33,8 @@ fn one_job<R: Wait>(rt: &R, alloc: Global) -> Result<Jobs, NoMemory>
 
 /// A witness that all that `close` asks for, and the premise of what it says of the log, can be met at
 /// once behind a transfer: so here the log and its accounts are known without a premise.
-fn settle_one<R: Wait + Abort>(rt: &R, alloc: Global) -> Result<Closed, NoMemory>
-    ensures { IfOk result (SettlesOne 4 ((100, 0) ∷ (0, 0) ∷ []) 1 (record { legs = (0, 1, 30) ∷ []; note = None })) }
+fn close_one<R: Wait + Abort>(rt: &R, alloc: Global) -> Result<Closed, NoMemory>
+    ensures { IfOk result (ClosesOne 4 ((100, 0) ∷ (0, 0) ∷ []) 1 (record { legs = (0, 1, 30) ∷ []; note = None })) }
 {
     let (table, mut flusher_seat) = table_of(alloc, (100, 0), 4)?;
     let mut seat = worker(&table, &mut flusher_seat, 0, 1);
@@ -60,7 +60,7 @@ fn settle_one<R: Wait + Abort>(rt: &R, alloc: Global) -> Result<Closed, NoMemory
 
 #[test]
 fn the_closed_table_has_the_new_balances(rt: HostRuntime) -> Result<(), Fail> {
-    let closed = settle_one(&rt, rt.alloc())?;
+    let closed = close_one(&rt, rt.alloc())?;
     let first = (closed.balance(0), closed.mark(0));
     let second = (closed.balance(1), closed.mark(1));
     let found = (closed.lsn(), first, second);

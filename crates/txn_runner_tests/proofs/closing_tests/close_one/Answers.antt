@@ -5,8 +5,8 @@ use Rattle.job_queue.specs.Passes.{AreAllTaken, places_back, marks_back}
 use Rattle.job_queue.specs.Rule.{counted}
 use Rattle.txn_runner.specs.Working.{jobs_of, places_in, marks_in}
 use Rattle.txn_runner_tests.proofs.AllTaken.{alone-all, knows}
-use Rattle.txn_runner_tests.proofs.Settling.{one-job, settles-one}
-use Rattle.txn_runner_tests.proofs.settling_tests.settle_one.Goals as goal
+use Rattle.txn_runner_tests.proofs.ClosedLemmas.{one-job, closes-one}
+use Rattle.txn_runner_tests.proofs.closing_tests.close_one.Goals as goal
 
 pub returns : goal.returns
 returns g c =
@@ -28,6 +28,6 @@ returns g c =
     let taken = ap (λ m. m.0.books.jobs) c.leave.ensures.view.me
     ∙ (own.jobs ∙ one-job (jobs_of queue) _ script first c.work_queue.result rows (view_of c.work_queue.new.seat)
     (knows queue rows own.pass).rising own.places own.all all own.works) in
-    settles-one 4 _ (key_of c.in_ok-table.table) _ (view_of c.worker-seat.new.flusher_seat) (view_of c.leave.new.seat) (view_of c.merge.new.seat) c.close.result
+    closes-one 4 _ (key_of c.in_ok-table.table) _ (view_of c.worker-seat.new.flusher_seat) (view_of c.leave.new.seat) (view_of c.merge.new.seat) c.close.result
     c.in_ok-table.ensures.start c.in_ok-table.ensures.rows c.worker-seat.ensures.flusher_seat.knows (ap (λ m. m.0) c.merge.ensures.view.me) taken
     c.close.ensures.gathered c.close.ensures.released c.close.ensures.accounts

@@ -1,7 +1,7 @@
 use Rattle.std.proofs.Common.{◌≡◌, ◌≤◌}
 use Rattle.std.specs.Slots.{slots_items}
-use Rattle.log_rule.specs.Closing.{in_use}
-use Rattle.log_table.proofs.closing.count_in_use.Given as goal
+use Rattle.log_rule.specs.ClosedLog.{in_use}
+use Rattle.log_table.proofs.closed.count_in_use.Given as goal
 
 abbrev pub invariant-loop-slot : goal.invariant-loop-slot
 invariant-loop-slot l = record {

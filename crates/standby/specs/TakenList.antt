@@ -9,7 +9,7 @@ use Rattle.lock_core.specs.AccountRows.{opening_of}
 use Rattle.lock_core.specs.Taking.{HasJudged}
 use Rattle.lock_core.specs.declared.judge.Judge.{Judge}
 use Rattle.log_recovery.specs.Opened.{OpenedList, log_of, list_end, opening_before, placed, with_records}
-use Rattle.segment_file.specs.Standing.{LogStands, IsShut}
+use Rattle.segment_file.specs.StandingLog.{LogStands, IsShut}
 use Rattle.segment_file.specs.declared.scan_result.Tail.{Tail}
 use Rattle.standby.specs.declared.fault.StandbyFault.{StandbyFault}
 use Rattle.standby.specs.declared.fault.StandbyFault.TheVariants.{BadStream, Gap, StreamUnlawful, DiskFault, NoMemory}

@@ -7,7 +7,7 @@ use Rattle.log_record.specs.LogList.{AreUnitsOf, units_of}
 use Rattle.log_table.specs.declared.table.Seat.{Seat}
 use Rattle.log_table.specs.Seats.{view_of}
 use Rattle.segment_file.specs.Log.{Log, with_units, HoldsLog}
-use Rattle.segment_file.specs.Standing.{LogStands, HoldsLogOrMore}
+use Rattle.segment_file.specs.StandingLog.{LogStands, HoldsLogOrMore}
 use Rattle.segment_file.specs.declared.scan_result.Tail.{Tail}
 
 -- what the flusher's seat sent, and what it read behind that and did not send

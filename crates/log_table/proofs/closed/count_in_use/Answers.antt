@@ -3,7 +3,7 @@ use Rattle.std.specs.Slots.{slots_items}
 use Rattle.log_rule.specs.Layout.{Slot, index_of}
 use Rattle.log_rule.proofs.Gathering.{at-index}
 use Rattle.log_rule.proofs.Vacancy.{in_use-more}
-use Rattle.log_table.proofs.closing.count_in_use.Goals as goal
+use Rattle.log_table.proofs.closed.count_in_use.Goals as goal
 
 pub loop-slot-preserved : goal.loop-slot-preserved
 loop-slot-preserved c =

@@ -10,11 +10,11 @@ use Rattle.log_table.specs.declared.closing.Closed.{Closed}
 use Rattle.log_rule.specs.declared.start.Start.{Start}
 use Rattle.lsn_space.specs.Tiling.{IsTiling}
 use Rattle.log_rule.specs.Books.{task_of, times_taken}
-use Rattle.log_rule.specs.Closing.{IsGathered, IsLedger, HasLedger, history_of}
+use Rattle.log_rule.specs.ClosedLog.{IsGathered, IsLedger, HasLedger, history_of}
 use Rattle.log_rule.specs.CrewViews.{takes_in}
-use Rattle.log_table.specs.Hiring.{KnowsHired}
+use Rattle.log_table.specs.HiredWorkers.{KnowsHired}
 use Rattle.log_rule.specs.Sound.{base_of}
-use Rattle.txn_runner_tests.specs.Settled.{SettlesOne}
+use Rattle.txn_runner_tests.specs.OneClosed.{ClosesOne}
 use Rattle.txn_jobs.specs.declared.cause.Worked.{Worked}
 use Rattle.txn_jobs.specs.declared.cause.Worked.TheVariants.{All, Cut}
 use Rattle.job_queue.specs.declared.rows.Rows.{Rows}
@@ -57,10 +57,10 @@ pub one-taken : (number : ℕ) (job : TakenJob) → times_taken number (job ∷ 
 one-taken number job = few (job.number == number)
 
 -- the table is closed once the flusher's seat took in the seat of its only worker, which took one job
-pub settles-one : (start : ℕ) (accounts : List (ℕ × ℕ)) (key : Start) (job : Job) (flusher_seat other view : View) (closed : Closed) → key.start ≡ start
+pub closes-one : (start : ℕ) (accounts : List (ℕ × ℕ)) (key : Start) (job : Job) (flusher_seat other view : View) (closed : Closed) → key.start ≡ start
     → key.accounts.rows ≡ accounts → KnowsHired key 1 flusher_seat → view ≡ takes_in flusher_seat other → other.books.jobs ≡ record { number = 1; job = job } ∷ []
-    → IsGathered closed.tail view → closed.exposed ≡ closed.tail → HasLedger (base_of key) view closed.accounts.rows → SettlesOne start accounts 1 job closed
-settles-one start accounts key job flusher_seat other view closed start_is rows_are knows takes taken gathered released settled =
+    → IsGathered closed.tail view → closed.exposed ≡ closed.tail → HasLedger (base_of key) view closed.accounts.rows → ClosesOne start accounts 1 job closed
+closes-one start accounts key job flusher_seat other view closed start_is rows_are knows takes taken gathered released ledger =
     let starts : view.constants.start ≡ start = ap (λ (v : View). v.constants.start) takes ∙ (ap (λ (c : Constants). c.start) knows.constants ∙ start_is) in
     let jobs : view.books.jobs ≡ record { number = 1; job = job } ∷ [] = ap (λ (v : View). v.books.jobs) takes
     ∙ (ap (λ (b : Books). b.jobs ++ other.books.jobs) knows.books ∙ taken) in record {
@@ -72,5 +72,5 @@ settles-one start accounts key job flusher_seat other view closed start_is rows_
       spelled = gathered.spelled;
       released = released;
       ledger = subst (λ (l : List TakenJob). IsLedger (base_of key) (history_of (base_of key) view.entries) (map task_of l) closed.accounts.rows) jobs
-          (settled.ledger (λ number. subst (λ (l : List TakenJob). times_taken number l ≤ 1) (sym jobs) (one-taken number (record { number = 1; job = job }))));
+          (ledger.ledger (λ number. subst (λ (l : List TakenJob). times_taken number l ≤ 1) (sym jobs) (one-taken number (record { number = 1; job = job }))));
     }

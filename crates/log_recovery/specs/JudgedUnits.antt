@@ -14,7 +14,7 @@ use Rattle.lock_core.specs.AccountRows.{opening_of}
 use Rattle.lock_core.specs.Sums as sums
 use Rattle.log_recovery.specs.declared.judging.UnitsFault.{UnitsFault}
 use Rattle.log_recovery.specs.declared.judging.UnitsFault.TheVariants as fault
-use Rattle.log_recovery.specs.Listing.{IsBadRecAt}
+use Rattle.log_recovery.specs.ListedRecords.{IsBadRecAt}
 
 -- the records before this rest of the units are taken
 pub record HasTakenFront {T : Type 0} (HasTaken : sums.Opening → T → List Placed → Type 0) (opening : Opening)

@@ -12,7 +12,7 @@ use Rattle.log_recovery.specs.Opened.{OpenedList, with_records}
 use Rattle.log_recovery.specs.Recovery.{HoldsLawful}
 use Rattle.segment_file.specs.declared.scan_result.Tail.{Tail}
 use Rattle.ship_stream.specs.Stream.{records_of}
-use Rattle.standby.specs.Keeping.{KeepsList}
+use Rattle.standby.specs.TakenList.{KeepsList}
 
 -- what a standby begins with: the list of the opened log, where the log goes on in its file, and the disk
 pub record Base (D : Type 0) : Type 0 where
