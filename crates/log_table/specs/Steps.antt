@@ -6,13 +6,37 @@ use Rattle.slot_word.specs.AccountWord.{word_of}
 use Rattle.slot_word.specs.SlotWord.{word_of as state_word}
 use Rattle.log_rule.specs.AccountViews.{saw_account, took_account, gave_account}
 use Rattle.log_rule.specs.CrewViews.{hires, hired}
-use Rattle.log_rule.specs.Events.{IsStep, none}
-use Rattle.log_rule.specs.Layout.{Account, Slot}
+use Rattle.log_rule.specs.declared.view.View.{View}
+use Rattle.log_rule.specs.Events.{Event, IsStep, none}
+use Rattle.log_rule.specs.Layout.{Word, Account, Slot, Stop}
 use Rattle.log_rule.specs.May.{IsOwnWord}
+use Rattle.log_rule.specs.Moments.{HoldsAtOnce}
 use Rattle.log_rule.specs.SlotViews.{saw_slot, TellsWaiting}
 use Rattle.log_table.specs.declared.table.LogTable.{LogTable}
 use Rattle.log_table.specs.declared.table.Seat.{Seat}
 use Rattle.log_table.specs.Seats.{IsOf, Becomes, view_of, number_of, key_of}
+
+-- the seat loads this word, and has this view behind it
+pub record LoadsWord (table : LogTable) (place : Word) (word : ℕ) (after : View) (effect : Event) (old new : Seat) : Type 0 where
+  pub view : Becomes old new after
+  pub event : IsStep (key_of table) (number_of old) place word word (view_of old) after effect
+
+-- the seat changes the word so, whatever it was, and has this view behind it
+pub record ChangesWord (table : LogTable) (place : Word) (change : ℕ → ℕ) (after : View) (effect : Event) (old new : Seat) : Type 0 where
+  pub view : Becomes old new after
+  pub event : (found : ℕ) → IsStep (key_of table) (number_of old) place found (change found) (view_of old) after effect
+
+-- the seat loads the stop word, and has this view behind it; the word that it saw before stays, where that isn't 0
+pub record LoadsStop (table : LogTable) (word : ℕ) (after : View) (old new : Seat) : Type 0 where
+  pub loads : LoadsWord table Stop word after none old new
+  pub open loads use *
+  pub stays : (view_of old).seen.stop ≢ 0 → word ≡ (view_of old).seen.stop
+
+-- As the seat changes the word so, the rule holds of all seats' views, with this one's as it is then.
+pub record ChangesAtOnce (table : LogTable) (place : Word) (change : ℕ → ℕ) (after : View) (effect : Event) (old new : Seat) : Type 0 where
+  pub changes : ChangesWord table place change after effect old new
+  pub open changes use *
+  pub at_once : HoldsAtOnce (key_of table) (number_of new) (view_of new)
 
 -- the account's word is loaded; that of an account which the seat holds is as it was taken
 pub record LoadsAccount (table : LogTable) (account : ℕ) (old new : Seat) (word : AccountWord) : Type 0 where

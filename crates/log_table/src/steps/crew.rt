@@ -1,10 +1,11 @@
 //! The crew: how many workers are active.
 ghost use Rattle.std.specs.Prelude.{◌≡◌, ◌+◌, ◌-◌, ◌%◌, ◌^◌, ℕ};
 ghost use Rattle.log_rule.specs.declared.view.Role.TheVariants.{Fresh};
-ghost use Rattle.log_rule.specs.Events.{IsStep, none};
+ghost use Rattle.log_rule.specs.Events.{none};
 ghost use Rattle.log_rule.specs.Layout.{Crew};
 ghost use Rattle.log_rule.specs.May.{MayLeave};
-ghost use Rattle.log_table.specs.Seats.{IsOf, Becomes, view_of, number_of, key_of};
+ghost use Rattle.log_table.specs.Seats.{IsOf, view_of};
+ghost use Rattle.log_table.specs.Steps.{ChangesWord, LoadsWord};
 ghost use Rattle.log_rule.specs.Views.{saw_crew};
 ghost use Rattle.log_rule.specs.CrewViews.{enrolled, retired};
 
@@ -17,9 +18,7 @@ impl LogTable {
     pub fn enroll(&self, seat: &mut Seat)
         requires seat { IsOf self.now seat.old }
         requires fresh { (view_of seat.old).standing.role ≡ Fresh }
-        ensures view { Becomes seat.old seat.new (enrolled (view_of seat.old)) }
-        ensures event { (found : ℕ) → IsStep (key_of self.now) (number_of seat.old) Crew found (found + 1)
-            (view_of seat.old) (enrolled (view_of seat.old)) none }
+        ensures { ChangesWord self.now Crew (λ found. found + 1) (enrolled (view_of seat.old)) none seat.old seat.new }
     {
         self.table
             .shared
@@ -30,9 +29,7 @@ impl LogTable {
     pub fn leave(&self, seat: &mut Seat)
         requires seat { IsOf self.now seat.old }
         requires may { MayLeave (view_of seat.old) }
-        ensures view { Becomes seat.old seat.new (retired (view_of seat.old)) }
-        ensures event { (found : ℕ) → IsStep (key_of self.now) (number_of seat.old) Crew found (found - 1)
-            (view_of seat.old) (retired (view_of seat.old)) none }
+        ensures { ChangesWord self.now Crew (λ found. found - 1) (retired (view_of seat.old)) none seat.old seat.new }
     {
         self.table
             .shared
@@ -43,9 +40,7 @@ impl LogTable {
     /// enrolled, its view is quiet: none will ever be at work again, but those made later.
     pub fn load_crew(&self, seat: &mut Seat) -> u64
         requires { IsOf self.now seat.old }
-        ensures view { Becomes seat.old seat.new (saw_crew result (view_of seat.old)) }
-        ensures event { IsStep (key_of self.now) (number_of seat.old) Crew result result
-            (view_of seat.old) (saw_crew result (view_of seat.old)) none }
+        ensures { LoadsWord self.now Crew result (saw_crew result (view_of seat.old)) none seat.old seat.new }
     {
         self.table.shared.load::<LoadCrew>(&mut seat.base, CREW)
     }

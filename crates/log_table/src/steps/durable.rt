@@ -1,10 +1,10 @@
 //! Durable: everything below is on the disk.
-ghost use Rattle.std.specs.Prelude.{◌≡◌, ◌≤◌, ℕ};
+ghost use Rattle.std.specs.Prelude.{◌≡◌, ◌≤◌};
 ghost use Rattle.log_rule.specs.Events.{IsStep, flushes, none};
 ghost use Rattle.log_rule.specs.Layout.{Durable};
 ghost use Rattle.log_rule.specs.May.{MaySend};
-ghost use Rattle.log_rule.specs.Moments.{HoldsAtOnce};
 ghost use Rattle.log_table.specs.Seats.{IsOf, Becomes, view_of, number_of, key_of};
+ghost use Rattle.log_table.specs.Steps.{ChangesAtOnce};
 ghost use Rattle.log_rule.specs.Sends.{IsDurableToFlusher};
 ghost use Rattle.log_rule.specs.Views.{saw_durable, has_sent};
 
@@ -19,8 +19,7 @@ fn store_durable_as<S: Stepper>(table: &LogTable, seat: &mut Seat, to: Lsn)
     requires seat { IsOf table.now seat.old }
     requires next { MaySend to (view_of seat.old) }
     requires named { (S.key ≡ key_of table.now) × (S.seat ≡ number_of seat.old) }
-    ensures view { Becomes seat.old seat.new (has_sent to (view_of seat.old)) }
-    ensures at_once { HoldsAtOnce (key_of table.now) (number_of seat.old) (has_sent to (view_of seat.old)) }
+    ensures { ChangesAtOnce table.now Durable (λ _. to) (has_sent to (view_of seat.old)) (flushes to) seat.old seat.new }
 {
     table
         .table
@@ -50,10 +49,7 @@ impl LogTable {
     pub fn store_durable(&self, seat: &mut Seat, to: Lsn)
         requires seat { IsOf self.now seat.old }
         requires next { MaySend to (view_of seat.old) }
-        ensures view { Becomes seat.old seat.new (has_sent to (view_of seat.old)) }
-        ensures at_once { HoldsAtOnce (key_of self.now) (number_of seat.new) (view_of seat.new) }
-        ensures event { (found : ℕ) → IsStep (key_of self.now) (number_of seat.old) Durable found to
-            (view_of seat.old) (has_sent to (view_of seat.old)) (flushes to) }
+        ensures { ChangesAtOnce self.now Durable (λ _. to) (has_sent to (view_of seat.old)) (flushes to) seat.old seat.new }
     {
         store_durable_as::<Brand>(self, seat, to);
     }

@@ -1,9 +1,8 @@
 //! A seat takes a job, and looks whether the log has stopped.
-ghost use Rattle.std.specs.Prelude.{◌≡◌, ◌≢◌};
-ghost use Rattle.log_rule.specs.Events.{IsStep, none};
-ghost use Rattle.log_rule.specs.Layout.{Stop};
+ghost use Rattle.std.specs.Prelude.{◌≡◌};
 ghost use Rattle.log_rule.specs.May.{MayTakeJob};
-ghost use Rattle.log_table.specs.Seats.{IsOf, Becomes, view_of, number_of, key_of};
+ghost use Rattle.log_table.specs.Seats.{IsOf, view_of};
+ghost use Rattle.log_table.specs.Steps.{LoadsStop};
 ghost use Rattle.log_rule.specs.AccountViews.{took_job};
 
 use crate::plays::{TakeJob, Task};
@@ -17,8 +16,7 @@ fn take_job_as<N: Task>(table: &LogTable, seat: &mut Seat, number: u32, job: &Jo
     requires seat { IsOf table.now seat.old }
     requires may { MayTakeJob table.now.accounts number job.now (view_of seat.old) }
     requires named { (N.number ≡ number) × (N.job ≡ job.now) }
-    ensures view { Becomes seat.old seat.new (took_job number job.now result (view_of seat.old)) }
-    ensures stays { (view_of seat.old).seen.stop ≢ 0 → result ≡ (view_of seat.old).seen.stop }
+    ensures { LoadsStop table.now result (took_job number job.now result (view_of seat.old)) seat.old seat.new }
 {
     table.table.shared.load::<TakeJob<N>>(&mut seat.base, STOP)
 }
@@ -29,10 +27,7 @@ impl LogTable {
     pub fn take_job(&self, seat: &mut Seat, number: u32, job: &Job) -> u64
         requires seat { IsOf self.now seat.old }
         requires may { MayTakeJob self.now.accounts number job.now (view_of seat.old) }
-        ensures view { Becomes seat.old seat.new (took_job number job.now result (view_of seat.old)) }
-        ensures stays { (view_of seat.old).seen.stop ≢ 0 → result ≡ (view_of seat.old).seen.stop }
-        ensures event { IsStep (key_of self.now) (number_of seat.old) Stop result result
-            (view_of seat.old) (took_job number job.now result (view_of seat.old)) none }
+        ensures { LoadsStop self.now result (took_job number job.now result (view_of seat.old)) seat.old seat.new }
     {
         take_job_as::<Brand>(self, seat, number, job)
     }

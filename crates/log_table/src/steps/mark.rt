@@ -1,10 +1,11 @@
 //! The release marks: where a released range ends, at the place of its base.
 ghost use Rattle.std.specs.Prelude.{◌≡◌, ◌%◌, ℕ};
-ghost use Rattle.log_rule.specs.Events.{IsStep, marks, looks_mark};
+ghost use Rattle.log_rule.specs.Events.{marks, looks_mark};
 ghost use Rattle.log_rule.specs.Layout.{Mark};
 ghost use Rattle.log_rule.specs.MarkViews.{marked, saw_mark};
 ghost use Rattle.log_rule.specs.May.{MayMark, MayLookMark};
-ghost use Rattle.log_table.specs.Seats.{IsOf, Becomes, view_of, number_of, key_of};
+ghost use Rattle.log_table.specs.Seats.{IsOf, view_of, number_of};
+ghost use Rattle.log_table.specs.Steps.{ChangesWord, LoadsWord};
 
 use crate::indexing::mark_place;
 use crate::plays::{LoadMark, StoreMark};
@@ -17,9 +18,8 @@ impl LogTable {
     pub fn store_mark(&self, seat: &mut Seat, base: Lsn, end: Lsn)
         requires seat { IsOf self.now seat.old }
         requires next { MayMark base end (view_of seat.old) }
-        ensures view { Becomes seat.old seat.new (marked (view_of seat.old)) }
-        ensures event { (found : ℕ) → IsStep (key_of self.now) (number_of seat.old) (Mark (base % self.now.ring)) found end
-            (view_of seat.old) (marked (view_of seat.old)) (marks (number_of seat.old)) }
+        ensures { ChangesWord self.now (Mark (base % self.now.ring)) (λ _. end)
+            (marked (view_of seat.old)) (marks (number_of seat.old)) seat.old seat.new }
     {
         let index = mark_place(self.ring, base);
         self.table
@@ -33,9 +33,8 @@ impl LogTable {
     pub fn load_mark(&self, seat: &mut Seat, base: Lsn) -> Lsn
         requires seat { IsOf self.now seat.old }
         requires next { MayLookMark base (view_of seat.old) }
-        ensures view { Becomes seat.old seat.new (saw_mark result (view_of seat.old)) }
-        ensures event { IsStep (key_of self.now) (number_of seat.old) (Mark (base % self.now.ring)) result result
-            (view_of seat.old) (saw_mark result (view_of seat.old)) (looks_mark (number_of seat.old)) }
+        ensures { LoadsWord self.now (Mark (base % self.now.ring)) result
+            (saw_mark result (view_of seat.old)) (looks_mark (number_of seat.old)) seat.old seat.new }
     {
         let index = mark_place(self.ring, base);
         Lsn::new(self.table.shared.load::<LoadMark>(&mut seat.base, index) as u32)

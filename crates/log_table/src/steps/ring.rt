@@ -4,6 +4,7 @@ ghost use Rattle.log_rule.specs.Events.{IsStep, fills, none};
 ghost use Rattle.log_rule.specs.Layout.{Ring};
 ghost use Rattle.log_rule.specs.May.{MayFill, MayRead};
 ghost use Rattle.log_table.specs.Seats.{IsOf, Becomes, view_of, number_of, key_of};
+ghost use Rattle.log_table.specs.Steps.{ChangesWord};
 ghost use Rattle.log_rule.specs.Sends.{ReadsWholeEntries};
 ghost use Rattle.log_rule.specs.Views.{filled, has_read};
 
@@ -19,9 +20,8 @@ impl LogTable {
     pub fn store_ring(&self, seat: &mut Seat, at: Lsn, unit: u64)
         requires seat { IsOf self.now seat.old }
         requires next { MayFill self.now.slots at unit (view_of seat.old) }
-        ensures view { Becomes seat.old seat.new (filled unit (view_of seat.old)) }
-        ensures event { (found : ℕ) → IsStep (key_of self.now) (number_of seat.old) (Ring (at % self.now.ring)) found unit
-            (view_of seat.old) (filled unit (view_of seat.old)) (fills (number_of seat.old)) }
+        ensures { ChangesWord self.now (Ring (at % self.now.ring)) (λ _. unit)
+            (filled unit (view_of seat.old)) (fills (number_of seat.old)) seat.old seat.new }
     {
         let index = RING + place(at, self.ring);
         self.table

@@ -8,7 +8,7 @@ ghost use Rattle.log_rule.specs.Events.{IsStep, closes, hears, joins, none, refu
 ghost use Rattle.log_rule.specs.Layout.{Slot, Base};
 ghost use Rattle.log_rule.specs.May.{MayJoinSlot, MayCloseSlot, MayStoreBase, MayStoreGranted, MayStoreRefused, MayPublish, MayLoadBase, MayReopen, MayReleaseSlot};
 ghost use Rattle.log_table.specs.Seats.{IsOf, Becomes, view_of, number_of, key_of};
-ghost use Rattle.log_table.specs.Steps.{LoadsSlot};
+ghost use Rattle.log_table.specs.Steps.{ChangesWord, LoadsSlot};
 ghost use Rattle.log_rule.specs.SlotViews.{joined_slot, lost_join, closed_slot, stored_base, published, heard_base, reopened, IsGatheringWord, TellsMember, released_piece, HasToRelease};
 
 use crate::plays::{
@@ -129,9 +129,8 @@ impl LogTable {
         requires seat { IsOf self.now seat.old }
         requires slot { slot < self.now.slots }
         requires next { MayPublish slot word (view_of seat.old) }
-        ensures view { Becomes seat.old seat.new (published (view_of seat.old)) }
-        ensures event { (found : ℕ) → IsStep (key_of self.now) (number_of seat.old) (Slot slot) found (word_of word)
-            (view_of seat.old) (published (view_of seat.old)) (tells (number_of seat.old)) }
+        ensures { ChangesWord self.now (Slot slot) (λ _. word_of word)
+            (published (view_of seat.old)) (tells (number_of seat.old)) seat.old seat.new }
     {
         let place = slot_place(self.ring, slot);
         let told = word.pack();
@@ -181,9 +180,8 @@ impl LogTable {
         requires seat { IsOf self.now seat.old }
         requires slot { slot < self.now.slots }
         requires next { MayReopen slot (view_of seat.old) }
-        ensures view { Becomes seat.old seat.new (reopened (view_of seat.old)) }
-        ensures event { (found : ℕ) → IsStep (key_of self.now) (number_of seat.old) (Slot slot) found 0
-            (view_of seat.old) (reopened (view_of seat.old)) (reopens (number_of seat.old)) }
+        ensures { ChangesWord self.now (Slot slot) (λ _. 0)
+            (reopened (view_of seat.old)) (reopens (number_of seat.old)) seat.old seat.new }
     {
         let place = slot_place(self.ring, slot);
         self.table.shared.store::<Reopen>(&mut seat.base, place, 0);

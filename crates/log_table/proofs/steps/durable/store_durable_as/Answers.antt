@@ -1,4 +1,4 @@
-use Rattle.std.proofs.Common.{arith, ◌≡◌, ◌∙◌, ℕ, refl, sym, ap, subst}
+use Rattle.std.proofs.Common.{arith, ◌≡◌, ℕ, sym, ap, subst}
 use Rattle.atomic_table.specs.Table.{Allows}
 use Rattle.log_rule.specs.declared.layout.TheConstants.{DURABLE}
 use Rattle.log_rule.specs.declared.start.Start.{Start}
@@ -8,6 +8,8 @@ use Rattle.log_rule.specs.Sound.{Ruled}
 use Rattle.log_table.specs.Seats.{view_of, number_of, key_of}
 use Rattle.log_rule.specs.Views.{has_sent}
 use Rattle.log_rule.proofs.Allowing.{store_durable-allowed}
+use Rattle.log_rule.proofs.Flushing.{send-step}
+use Rattle.log_table.proofs.Stepping.{becomes_as, at_once-becomes}
 use Rattle.log_table.proofs.steps.durable.store_durable_as.Goals as goal
 
 pub store-requires : goal.store-requires
@@ -24,14 +26,10 @@ store-requires g c = (
       c.args.table.now.opened),
 )
 
-pub returns-clause-view : goal.returns-clause-view
-returns-clause-view g c = let step = c.store.ensures in record {
-  table_is = step.0;
-  number = step.1;
-  me = step.2.0 ∙ ap (λ n. (has_sent n (view_of c.args.seat.now), c.args.seat.now.base.me.1)) c.units.ensures;
-  worker = refl;
-}
-
-pub returns-clause-at_once : goal.returns-clause-at_once
-returns-clause-at_once g c = subst (λ (who : Start × ℕ × ℕ). HoldsAtOnce who.0 who.1 (has_sent who.2 (view_of c.args.seat.now)))
-    (λ i. (c.requires.named.0 i, c.requires.named.1 i, c.units.ensures i)) c.store.ensures.2.1
+pub returns : goal.returns
+returns g c =
+    let sent = becomes_as _ (ap (λ n. has_sent n (view_of c.args.seat.now)) c.units.ensures) c.store.ensures in record {
+      changes = record { view = sent; event = send-step _ _ _ _ c.requires.next };
+      at_once = at_once-becomes _ _ _ _ sent (subst (λ (who : Start × ℕ × ℕ). HoldsAtOnce who.0 who.1 (has_sent who.2 (view_of c.args.seat.now)))
+          (λ i. (c.requires.named.0 i, c.requires.named.1 i, c.units.ensures i)) c.store.ensures.2.1);
+    }

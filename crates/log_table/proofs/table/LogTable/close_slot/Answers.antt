@@ -1,6 +1,6 @@
 use Rattle.std.proofs.Common.{arith, ◌≡◌, ◌/◌, ◌∙◌, ap, subst}
 use Rattle.slot_word.specs.declared.phase.Phase.TheVariants as kind
-use Rattle.slot_word.specs.SlotWord.{packed}
+use Rattle.slot_word.specs.SlotWord.{packed, word_of}
 use Rattle.log_table.specs.Seats.{view_of, number_of, key_of}
 use Rattle.log_rule.specs.SlotViews.{closed_slot, IsGatheringWord}
 use Rattle.log_rule.proofs.SlotAllowing.{close_slot-allowed}
@@ -21,17 +21,15 @@ swap-word-requires c =
 pub unpack-requires : goal.unpack-requires
 unpack-requires c = c.swap-word.ensures.2.1.slot_word
 
+-- the word that was found is that of the answer
+found : (c : goal.After-unpack) → c.swap-word.result ≡ word_of c.unpack.result
+found c = let state = c.unpack.ensures in word-of_state _ c.unpack.result c.swap-word.type_inv state.phase state.total state.remaining
+
 pub returns-clause-view : goal.returns-clause-view
-returns-clause-view c =
-    let state = c.unpack.ensures in
-    let is = word-of_state _ c.unpack.result c.swap-word.type_inv state.phase state.total state.remaining in
-    becomes_as _ (ap (λ word. closed_slot word (view_of c.args.seat.now)) is) c.swap-word.ensures
+returns-clause-view c = becomes_as _ (ap (λ word. closed_slot word (view_of c.args.seat.now)) (found c)) c.swap-word.ensures
 
 pub returns-clause-gathers : goal.returns-clause-gathers
-returns-clause-gathers c =
-    let state = c.unpack.ensures in
-    let is = word-of_state _ c.unpack.result c.swap-word.type_inv state.phase state.total state.remaining in
-    subst (IsGatheringWord ((view_of c.args.seat.now).constants.ring / 4)) is c.swap-word.ensures.2.1
+returns-clause-gathers c = subst (IsGatheringWord ((view_of c.args.seat.now).constants.ring / 4)) (found c) c.swap-word.ensures.2.1
 
 pub returns-clause-event : goal.returns-clause-event
 returns-clause-event c = close-step _ _ _ _ _ c.args.self.now.slotted c.requires.slot c.requires.next _

@@ -7,8 +7,5 @@ use Rattle.log_table.proofs.table.LogTable.load_crew.Goals as goal
 pub load-requires : goal.load-requires
 load-requires c = (c.requires.table_is, omega (arith, c.args.self.now.sized), load_crew-allowed _ _ _ _)
 
-pub returns-clause-event : goal.returns-clause-event
-returns-clause-event c = crew-looks _ _ _ _
-
-pub returns-clause-view : goal.returns-clause-view
-returns-clause-view c = becomes c.load.ensures
+pub returns : goal.returns
+returns c = record { view = becomes c.load.ensures; event = crew-looks _ _ _ _ }

@@ -1,7 +1,9 @@
-use Rattle.std.proofs.Common.{arith, ◌%◌, ◌<◌, mod-lt}
-use Rattle.log_table.specs.Seats.{number_of, key_of}
+use Rattle.std.proofs.Common.{arith, ◌%◌, ◌<◌, mod-lt, sym, ap}
+use Rattle.log_rule.specs.MarkViews.{saw_mark}
+use Rattle.log_table.specs.Seats.{view_of, number_of, key_of}
 use Rattle.log_rule.proofs.Allowing.{load_mark-allowed}
 use Rattle.log_rule.proofs.Exposing.{look-step}
+use Rattle.log_table.proofs.Stepping.{becomes_as}
 use Rattle.log_table.proofs.table.LogTable.load_mark.Goals as goal
 
 pub load-requires : goal.load-requires
@@ -14,5 +16,5 @@ load-requires c =
           c.mark_place-index.result c.args.self.now.ring c.args.base c.mark_place-index.ensures c.args.self.now.keyed below c.requires.next,
     )
 
-pub returns-clause-event : goal.returns-clause-event
-returns-clause-event c = look-step _ _ _ _ _ c.args.self.now.keyed c.requires.next _
+pub returns : goal.returns
+returns c = record { view = becomes_as _ (ap (λ n. saw_mark n (view_of c.args.seat.now)) (sym c.new.ensures)) c.load.ensures; event = look-step _ _ _ _ _ c.args.self.now.keyed c.requires.next _ }

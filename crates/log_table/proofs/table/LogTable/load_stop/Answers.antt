@@ -7,11 +7,8 @@ use Rattle.log_table.proofs.table.LogTable.load_stop.Goals as goal
 pub load-requires : goal.load-requires
 load-requires c = (c.requires.table_is, omega (arith, c.args.self.now.sized), load_stop-allowed _ _ _ _)
 
-pub returns-clause-event : goal.returns-clause-event
-returns-clause-event c = stop-looks _ _ _ _
-
-pub returns-clause-view : goal.returns-clause-view
-returns-clause-view c = becomes c.load.ensures
-
-pub returns-clause-stays : goal.returns-clause-stays
-returns-clause-stays c = c.load.ensures.2.1
+pub returns : goal.returns
+returns c = record {
+  loads = record { view = becomes c.load.ensures; event = stop-looks _ _ _ _ };
+  stays = c.load.ensures.2.1;
+}

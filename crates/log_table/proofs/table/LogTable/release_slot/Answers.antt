@@ -1,4 +1,5 @@
-use Rattle.std.proofs.Common.{arith, ◌/◌, ap, subst}
+use Rattle.std.proofs.Common.{arith, ◌≡◌, ◌/◌, ap, subst}
+use Rattle.slot_word.specs.SlotWord.{word_of}
 use Rattle.log_table.specs.Seats.{view_of, number_of, key_of}
 use Rattle.log_rule.specs.SlotViews.{released_piece, HasToRelease}
 use Rattle.log_rule.proofs.SlotReleased.{release_slot-allowed, release-step, less-minus}
@@ -16,17 +17,15 @@ fetch_sub-word-requires c = (
 pub unpack-requires : goal.unpack-requires
 unpack-requires c = c.fetch_sub-word.ensures.2.1.slot_word
 
+-- the word that was found is that of the answer
+found : (c : goal.After-unpack) → c.fetch_sub-word.result ≡ word_of c.unpack.result
+found c = let state = c.unpack.ensures in word-of_state _ c.unpack.result c.fetch_sub-word.type_inv state.phase state.total state.remaining
+
 pub returns-clause-view : goal.returns-clause-view
-returns-clause-view c =
-    let state = c.unpack.ensures in
-    let is = word-of_state _ c.unpack.result c.fetch_sub-word.type_inv state.phase state.total state.remaining in
-    becomes_as _ (ap (λ word. released_piece word (view_of c.args.seat.now)) is) c.fetch_sub-word.ensures
+returns-clause-view c = becomes_as _ (ap (λ word. released_piece word (view_of c.args.seat.now)) (found c)) c.fetch_sub-word.ensures
 
 pub returns-clause-told : goal.returns-clause-told
-returns-clause-told c =
-    let state = c.unpack.ensures in
-    let is = word-of_state _ c.unpack.result c.fetch_sub-word.type_inv state.phase state.total state.remaining in
-    subst (HasToRelease ((view_of c.args.seat.now).constants.ring / 4) c.args.n (view_of c.args.seat.now).call) is c.fetch_sub-word.ensures.2.1
+returns-clause-told c = subst (HasToRelease ((view_of c.args.seat.now).constants.ring / 4) c.args.n (view_of c.args.seat.now).call) (found c) c.fetch_sub-word.ensures.2.1
 
 pub returns-clause-event : goal.returns-clause-event
 returns-clause-event c = release-step _ _ _ _ _ _ c.args.self.now.slotted c.requires.slot c.requires.next _ _ (less-minus _ _)

@@ -13,8 +13,5 @@ store-requires c = (
       c.args.self.now.keyed c.args.self.now.slotted c.requires.slot c.requires.next,
 )
 
-pub returns-clause-view : goal.returns-clause-view
-returns-clause-view c = becomes c.store.ensures
-
-pub returns-clause-event : goal.returns-clause-event
-returns-clause-event c = reopen-step _ _ _ _ _ c.args.self.now.slotted c.requires.slot c.requires.next
+pub returns : goal.returns
+returns c = record { view = becomes c.store.ensures; event = reopen-step _ _ _ _ _ c.args.self.now.slotted c.requires.slot c.requires.next }

@@ -17,8 +17,5 @@ store-requires c =
           (subst (λ (end : ℕ). MayMark c.args.base end (view_of c.args.seat.now)) (sym c.units.ensures) c.requires.next),
     )
 
-pub returns-clause-event : goal.returns-clause-event
-returns-clause-event c = mark-step _ _ _ _ _ _ c.args.self.now.keyed c.requires.next
-
-pub returns-clause-view : goal.returns-clause-view
-returns-clause-view c = becomes c.store.ensures
+pub returns : goal.returns
+returns c = record { view = becomes c.store.ensures; event = mark-step _ _ _ _ _ _ c.args.self.now.keyed c.requires.next }

@@ -24,8 +24,5 @@ store-requires c =
           c.requires.next),
     )
 
-pub returns-clause-event : goal.returns-clause-event
-returns-clause-event c = fill-step _ _ _ _ _ _ _ c.args.self.now.keyed c.args.self.now.slotted c.requires.next
-
-pub returns-clause-view : goal.returns-clause-view
-returns-clause-view c = becomes c.store.ensures
+pub returns : goal.returns
+returns c = record { view = becomes c.store.ensures; event = fill-step _ _ _ _ _ _ _ c.args.self.now.keyed c.args.self.now.slotted c.requires.next }

@@ -7,8 +7,5 @@ use Rattle.log_table.proofs.table.LogTable.store_stop.Goals as goal
 pub store-requires : goal.store-requires
 store-requires c = (c.requires.seat.table_is, omega (arith, c.args.self.now.sized), store_stop-allowed _ _ _ _ _ c.requires.may)
 
-pub returns-clause-event : goal.returns-clause-event
-returns-clause-event c = stop-step _ _ _ _ c.requires.may
-
-pub returns-clause-view : goal.returns-clause-view
-returns-clause-view c = becomes c.store.ensures
+pub returns : goal.returns
+returns c = record { view = becomes c.store.ensures; event = stop-step _ _ _ _ c.requires.may }
