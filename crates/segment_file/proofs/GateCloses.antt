@@ -1,5 +1,6 @@
 -- A gate that is closed for good, and what a call does that closes one first.
-use Rattle.std.proofs.Common.{◌≡◌, ◌≤◌, ◌∙◌, ◌↔◌, ap, refl, ℕ, ◌+◌, ◌*◌, List, Result, Ok, Err, length, arith}
+use Rattle.std.proofs.Common.{◌≡◌, ◌≤◌, ◌∙◌, ◌↔◌, ap, refl, ℕ, ◌+◌, ◌*◌, List, Result, Ok, IsErrAnd, length, arith}
+use Rattle.std.proofs.lemmas.Result.{err_from_is_err_and}
 use Rattle.log_disk.specs.Disk.{IsOnlyImage, Leaves}
 use Rattle.log_disk.specs.Faults.{raised, Rose}
 use Rattle.log_disk.specs.declared.disk.LogDisk.{Ghosts}
@@ -20,9 +21,9 @@ module _ {D T E : Type 0} (g : Ghosts D) (given : BatchState) (old mid : D) (fir
   closed-none honest = Leaves-weaken g.moment g.images_since _ _ old mid (stays-none given.units _) (closes.moments honest)
 
   -- no log was made, as the gate wasn't closed
-  pub creates-failed : Rose (g.faults old) (g.faults mid) → {E : Type 0} (answer : Result Tail E) (fault : E) → answer ≡ Err fault
+  pub creates-failed : Rose (g.faults old) (g.faults mid) → {E : Type 0} (Q : E → Type 0) (answer : Result Tail E) → IsErrAnd answer Q
       → Creates g (λ t. t) 6 7 given given old mid answer
-  creates-failed rose answer fault is = rw is (record {
+  creates-failed rose Q answer is = rw (err_from_is_err_and answer is).1 (record {
     moments = closed-none;
     created = λ honest. tt;
     shut = λ honest. tt;
@@ -51,9 +52,9 @@ module _ {D T E : Type 0} (g : Ghosts D) (given : BatchState) (old mid : D) (fir
     both-length honest = omega (arith, closes.length honest, creates.length (closes.honest.0 honest))
 
     -- and failed
-    pub creates-cut : Rose (g.faults mid) (g.faults new) → {E : Type 0} (answer : Result Tail E) (fault : E) → answer ≡ Err fault
+    pub creates-cut : Rose (g.faults mid) (g.faults new) → {E : Type 0} (Q : E → Type 0) (answer : Result Tail E) → IsErrAnd answer Q
         → Creates g (λ t. t) 6 7 given left old new answer
-    creates-cut rose answer fault is = rw is (record {
+    creates-cut rose Q answer is = rw (err_from_is_err_and answer is).1 (record {
       moments = both-moments;
       created = λ honest. tt;
       shut = λ honest. tt;

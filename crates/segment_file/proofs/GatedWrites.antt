@@ -1,5 +1,6 @@
 -- A body that is written behind a gate, and then the gate's byte: what the two writes do together.
-use Rattle.std.proofs.Common.{◌≡◌, ◌≤◌, ◌∙◌, inl, inr, subst, ℕ, ◌+◌, List, [], ◌∷◌, Result, Err, OnOk, arith}
+use Rattle.std.proofs.Common.{◌≡◌, ◌≤◌, ◌∙◌, inl, inr, subst, ℕ, ◌+◌, List, [], ◌∷◌, Result, IsErrAnd, OnOk, arith}
+use Rattle.std.proofs.lemmas.Result.{err_from_is_err_and}
 use Rattle.log_disk.specs.Disk.{put, IsOnlyImage, IsTorn}
 use Rattle.log_disk.specs.Faults.{Rose}
 use Rattle.log_disk.specs.declared.disk.LogDisk.{Ghosts}
@@ -12,9 +13,9 @@ use Rattle.segment_file.specs.declared.layout.TheConstants.{OPEN}
 module _ {D T E : Type 0} (g : Ghosts D) (at : ℕ) (body : List ℕ) (old mid : D) (first : Result T E)
     (wrote : WritesSynced g (at + 1) body old mid first) where
   -- the first of them failed
-  pub gated-failed : Rose (g.faults old) (g.faults mid) → {U F : Type 0} (answer : Result U F) (fault : F) → answer ≡ Err fault
+  pub gated-failed : Rose (g.faults old) (g.faults mid) → {U F : Type 0} (Q : F → Type 0) (answer : Result U F) → IsErrAnd answer Q
       → WritesGated g at body old mid answer
-  gated-failed rose answer fault is = rw is (record {
+  gated-failed rose Q answer is = rw (err_from_is_err_and answer is).1 (record {
     written = λ honest. tt;
     settled = λ honest. tt;
     moments = λ honest. Leaves-weaken g.moment g.images_since _ _ old mid (λ c torn. inl torn) wrote.moments;

@@ -17,4 +17,5 @@ pub mod Scanned
 pub mod Seams
 pub mod StableGates
 pub mod StandingLemmas
+pub mod SyncedWrites
 pub mod TailSettles

@@ -1,5 +1,6 @@
 -- A batch that was written behind the gate at the tail, and the answer where the log then goes on.
-use Rattle.std.proofs.Common.{◌≡◌, subst, ℕ, ◌+◌, ◌*◌, length, refl, Result, Ok, Err, arith}
+use Rattle.std.proofs.Common.{◌≡◌, subst, ℕ, ◌+◌, ◌*◌, length, refl, Result, Ok, IsErrAnd, arith}
+use Rattle.std.proofs.lemmas.Result.{err_from_is_err_and}
 use Rattle.log_disk.specs.Disk.{IsOnlyImage}
 use Rattle.log_disk.specs.Faults.{Rose}
 use Rattle.log_disk.specs.declared.disk.LogDisk.{Ghosts}
@@ -12,9 +13,9 @@ use Rattle.segment_file.specs.declared.scan_result.Tail.{Tail}
 module _ {D T E : Type 0} (g : Ghosts D) (tail : Tail) (given left : BatchState) (old new : D) (first : Result T E)
     (appends : Appends g (λ _. tail_after tail given.units) tail given left old new first) where
   -- it failed
-  pub appends-failed : Rose (g.faults old) (g.faults new) → {F : Type 0} (answer : Result Tail F) (fault : F) → answer ≡ Err fault
+  pub appends-failed : Rose (g.faults old) (g.faults new) → {F : Type 0} (Q : F → Type 0) (answer : Result Tail F) → IsErrAnd answer Q
       → Appends g (λ t. t) tail given left old new answer
-  appends-failed rose answer fault is = rw is (record {
+  appends-failed rose Q answer is = rw (err_from_is_err_and answer is).1 (record {
     moments = appends.moments;
     appended = λ honest. tt;
     shut = λ honest. tt;

@@ -1,5 +1,5 @@
 -- Units in the bytes of a batch.
-use Rattle.std.proofs.Common.{◌≡◌, ◌≤◌, ◌<◌, ◌∙◌, sym, ap, refl, ℕ, zero, suc, slice_index, ◌+◌, ◌*◌, ◌^◌, List, [], ◌∷◌, ◌++◌, length, take, drop, arith, append_assoc, length-append, subst}
+use Rattle.std.proofs.Common.{◌≡◌, ◌≤◌, ◌<◌, ◌∙◌, sym, ap, ap₂, refl, ℕ, zero, suc, slice_index, ◌+◌, ◌*◌, ◌^◌, List, [], ◌∷◌, ◌++◌, length, take, drop, arith, append_assoc, length-append, subst}
 use Rattle.std.specs.List.{flat_map}
 use Rattle.std.specs.Int.{w32, w64, to_be_bytes, from_be_bytes}
 use Rattle.std.proofs.Math.Seq.{take-append_seam}
@@ -44,6 +44,21 @@ pub packed-view : (bytes units : List ℕ) (room capacity : ℕ) (now : BatchSta
     → IsPacked bytes now.units now.room capacity
 packed-view bytes units room capacity now packed view = subst (λ s. IsPacked bytes s.units s.room capacity) view packed
 
+-- so many bytes has a batch of the units that are seen
+pub length-seen : (bytes units : List ℕ) (room capacity : ℕ) (now : BatchState) → IsPacked bytes units room capacity → state units room ≡ now
+    → length bytes ≡ 11 + 8 * length now.units
+length-seen bytes units room capacity now packed view =
+    omega (arith, ap length packed.whole, length-unit_bytes units, ap (λ (s : BatchState). length s.units) view)
+
+-- where the view has room for another unit, so have its parts
+pub room-seen : (units : List ℕ) (room : ℕ) (now : BatchState) → state units room ≡ now → length now.units < now.room → length units < room
+room-seen units room now view has = subst (λ (s : BatchState). length s.units < s.room) (sym view) has
+
+-- the view of a batch whose units were had by this change
+pub view-after : (change : List ℕ → List ℕ) (units more : List ℕ) (room : ℕ) (now : BatchState) → state units room ≡ now → more ≡ change units
+    → state more room ≡ state (change now.units) now.room
+view-after change units more room now view same = ap (λ us. state us room) same ∙ ap (λ (s : BatchState). state (change s.units) s.room) view
+
 module _ (bytes units : List ℕ) (room capacity : ℕ) (packed : IsPacked bytes units room capacity) where
   pub length-packed : length bytes ≡ 11 + 8 * length units
   length-packed = omega (arith, ap length packed.whole, length-unit_bytes units)
@@ -86,52 +101,70 @@ module _ (bytes units : List ℕ) (room capacity : ℕ) (packed : IsPacked bytes
     fits = omega (arith, packed.fits, grown);
   }
 
-  -- with the number of units put in front of them
-  module _ (count : ℕ) (new : List ℕ) (count_is : count ≡ length units) (is : new ≡ take 7 bytes ++ to_be_bytes w32 count ++ drop 11 bytes) where
-    pub counted-batch : new ≡ magic ++ batch units
-    unfolding batch
-    counted-batch = rw (is, count_is, packed.whole) refl
+  -- with a number put in front of its units
+  module _ (count : ℕ) (new : List ℕ) (is : new ≡ take 7 bytes ++ to_be_bytes w32 count ++ drop 11 bytes) where
+    numbered : new ≡ magic ++ to_be_bytes w32 count ++ flat_map unit_bytes units
+    numbered = rw (is, packed.whole) refl
 
-    pub packed-counted : (now : ℕ) → capacity ≤ now → IsPacked new units room now
-    packed-counted now grown = record {
+    pub length-numbered : length new ≡ 11 + 8 * length units
+    length-numbered = omega (arith, ap length numbered, length-unit_bytes units)
+
+    -- there is room for the next gate and one byte more
+    pub room-numbered : length new + 2 ≤ capacity
+    room-numbered = omega (arith, length-numbered, packed.few, packed.fits)
+
+    packed-numbered : (now : ℕ) → capacity ≤ now → IsPacked new units room now
+    packed-numbered now grown = record {
       each = packed.each;
       number = count;
-      whole = rw (is, packed.whole) refl;
+      whole = numbered;
       few = packed.few;
       small = packed.small;
       fits = omega (arith, packed.fits, grown);
     }
 
-    -- and with the next gate behind
-    pub counted-sealed : new ++ CLOSED ∷ [] ≡ magic ++ sealed units
-    counted-sealed = ap (λ bs. bs ++ CLOSED ∷ []) counted-batch ∙ append_assoc magic (batch units) (CLOSED ∷ [])
-
-    pub counted-body : (full body : List ℕ) → full ≡ new ++ CLOSED ∷ [] → body ≡ drop 7 full → body ≡ sealed units
-    counted-body full body full_is back = back ∙ ap (drop 7) (full_is ∙ counted-sealed)
-
-    -- with an open gate in place of the last magic byte
-    module _ (opened : List ℕ) (opened_is : opened ≡ take 6 new ++ (OPEN ∷ []) ++ drop 7 new) where
-      opened-batch : opened ≡ take 6 magic ++ (OPEN ∷ batch units)
-      opened-batch = opened_is ∙ ap (λ bs. take 6 bs ++ (OPEN ∷ []) ++ drop 7 bs) counted-batch
+    -- with a byte in place of the last magic byte
+    module _ (gate : ℕ) (opened : List ℕ) (opened_is : opened ≡ take 6 new ++ (gate ∷ []) ++ drop 7 new) where
+      opened-bytes : opened ≡ take 6 magic ++ (gate ∷ to_be_bytes w32 count ++ flat_map unit_bytes units)
+      opened-bytes = opened_is ∙ ap (λ bs. take 6 bs ++ (gate ∷ []) ++ drop 7 bs) numbered
 
       pub length-opened : length opened ≡ 11 + 8 * length units
-      length-opened = omega (arith, ap length opened-batch, length-sealed units, length-append (batch units) (CLOSED ∷ []))
+      length-opened = omega (arith, ap length opened-bytes, length-unit_bytes units)
 
-      pub opened-body : (full body : List ℕ) → full ≡ opened ++ CLOSED ∷ [] → body ≡ drop 6 full → body ≡ OPEN ∷ sealed units
-      opened-body full body full_is back = back ∙ ap (drop 6) (full_is ∙ ap (λ bs. bs ++ CLOSED ∷ []) opened-batch)
+      -- and that byte, 49, put back behind a cut, which leaves the next gate out
+      module _ (cut restored full : List ℕ) (n : ℕ) (n_is : n ≡ length opened) (full_is : full ≡ opened ++ CLOSED ∷ []) (cut_is : cut ≡ take n full)
+          (restored_is : restored ≡ take 6 cut ++ (49 ∷ []) ++ drop 7 cut) where
+        restored-numbered : restored ≡ new
+        restored-numbered =
+            let same : cut ≡ opened = cut_is ∙ ap₂ take n_is full_is ∙ take-append_seam opened (CLOSED ∷ []) in
+            restored_is ∙ ap (λ bs. take 6 bs ++ (49 ∷ []) ++ drop 7 bs) (same ∙ opened-bytes) ∙ sym numbered
 
-      -- and that byte, 49, put back
-      pub counted-again : (cut restored : List ℕ) (n : ℕ) → n ≡ length opened → cut ≡ take n (opened ++ CLOSED ∷ [])
-          → restored ≡ take 6 cut ++ (49 ∷ []) ++ drop 7 cut → restored ≡ new
-      counted-again cut restored n n_is cut_is restored_is =
-          let same : cut ≡ opened = cut_is ∙ ap (λ n. take n (opened ++ CLOSED ∷ [])) n_is ∙ take-append_seam opened (CLOSED ∷ []) in
-          restored_is ∙ ap (λ bs. take 6 bs ++ (49 ∷ []) ++ drop 7 bs) (same ∙ opened-batch) ∙ sym counted-batch
+        -- so it is a batch as before
+        pub packed-again : (now : ℕ) → capacity ≤ now → IsPacked restored units room now
+        packed-again now grown = subst (λ bs. IsPacked bs units room now) (sym restored-numbered) (packed-numbered now grown)
 
-      -- so it is a batch as before
-      pub packed-again : (cut restored : List ℕ) (n now : ℕ) → n ≡ length opened → cut ≡ take n (opened ++ CLOSED ∷ [])
-          → restored ≡ take 6 cut ++ (49 ∷ []) ++ drop 7 cut → capacity ≤ now → IsPacked restored units room now
-      packed-again cut restored n now n_is cut_is restored_is grown =
-          subst (λ bs. IsPacked bs units room now) (sym (counted-again cut restored n n_is cut_is restored_is)) (packed-counted now grown)
+        pub units-again : units_in (drop 11 restored) ≡ units
+        units-again = ap (λ bs. units_in (drop 11 bs)) (restored-numbered ∙ numbered) ∙ units_in-unit_bytes units packed.each
+
+    -- with the number of units in front of them it is a batch
+    module _ (count_is : count ≡ length units) where
+      counted-batch : new ≡ magic ++ batch units
+      unfolding batch
+      counted-batch = rw (numbered, count_is) refl
+
+      -- and with the next gate behind
+      pub counted-sealed : new ++ CLOSED ∷ [] ≡ magic ++ sealed units
+      counted-sealed = ap (λ bs. bs ++ CLOSED ∷ []) counted-batch ∙ append_assoc magic (batch units) (CLOSED ∷ [])
+
+      pub counted-body : (full body : List ℕ) → full ≡ new ++ CLOSED ∷ [] → body ≡ drop 7 full → body ≡ sealed units
+      counted-body full body full_is back = back ∙ ap (drop 7) (full_is ∙ counted-sealed)
+
+      -- and with an open gate in place of the last magic byte
+      pub opened-body : (opened full body : List ℕ) → opened ≡ take 6 new ++ (OPEN ∷ []) ++ drop 7 new → full ≡ opened ++ CLOSED ∷ []
+          → body ≡ drop 6 full → body ≡ OPEN ∷ sealed units
+      opened-body opened full body opened_is full_is back =
+          let opened_batch : opened ≡ take 6 magic ++ (OPEN ∷ batch units) = opened_is ∙ ap (λ bs. take 6 bs ++ (OPEN ∷ []) ++ drop 7 bs) counted-batch in
+          back ∙ ap (drop 6) (full_is ∙ ap (λ bs. bs ++ CLOSED ∷ []) opened_batch)
 
 pub packed-none : (room capacity : ℕ) (bytes : List ℕ) → bytes ≡ magic ++ to_be_bytes w32 0 → room < 2 ^ 32 → 13 + 8 * room ≤ capacity → IsPacked bytes [] room capacity
 packed-none room capacity bytes is small fits = record { each = tt; number = 0; whole = is; few = omega arith; small = small; fits = fits }

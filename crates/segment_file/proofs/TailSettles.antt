@@ -1,5 +1,6 @@
 -- A gate at a log's tail that was closed for good: the log stands as before.
-use Rattle.std.proofs.Common.{◌≡◌, ◌⊎◌, ◌≤◌, refl, ℕ, List, [], ◌∷◌, Result, Ok, Err}
+use Rattle.std.proofs.Common.{◌≡◌, ◌⊎◌, ◌≤◌, refl, ℕ, List, [], ◌∷◌, Result, Ok, IsErrAnd}
+use Rattle.std.proofs.lemmas.Result.{err_from_is_err_and}
 use Rattle.log_disk.specs.Disk.{put, IsOnlyImage, Leaves}
 use Rattle.log_disk.specs.Faults.{Rose}
 use Rattle.log_disk.specs.declared.disk.LogDisk.{Ghosts}
@@ -29,9 +30,9 @@ module _ {D T E : Type 0} (g : Ghosts D) (at next : ℕ) (old new : D) (image : 
       (closes.moments honest) c left)
 
   -- the gate wasn't closed
-  pub settles-failed : Rose (g.faults old) (g.faults new) → {F : Type 0} (answer : Result Tail F) (fault : F) → answer ≡ Err fault
+  pub settles-failed : Rose (g.faults old) (g.faults new) → {F : Type 0} (Q : F → Type 0) (answer : Result Tail F) → IsErrAnd answer Q
       → SettlesTail g at next old new answer
-  settles-failed rose answer fault is = rw is (record {
+  settles-failed rose Q answer is = rw (err_from_is_err_and answer is).1 (record {
     moments = held-since;
     stand = stands-now;
     shut = λ honest. tt;

@@ -1,13 +1,11 @@
 use Rattle.std.proofs.Common.{◌≡◌, Ok, arith}
-use Rattle.std.proofs.lemmas.Result.{err_from_is_err_and}
 use Rattle.segment_file.specs.StandingLog.{tail_after}
 use Rattle.segment_file.proofs.LogGrows.{appends-failed, appends-then}
 use Rattle.segment_file.proofs.appending.append.Goals as goal
 
 pub returns-in_err-append_sealed : goal.returns-in_err-append_sealed
 returns-in_err-append_sealed g c =
-    let failed = err_from_is_err_and c.from_residual.result c.from_residual.ensures.1 in
-    appends-failed g.D.LogDisk _ _ _ _ _ _ c.append_sealed.ensures c.in_err-append_sealed.ensures.cause.failed _ failed.0 failed.1
+    appends-failed g.D.LogDisk _ _ _ _ _ _ c.append_sealed.ensures c.in_err-append_sealed.ensures.cause.failed _ _ c.from_residual.ensures.1
 
 pub returns : goal.returns
 returns g c =

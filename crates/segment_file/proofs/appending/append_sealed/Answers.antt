@@ -4,15 +4,13 @@ use Rattle.log_disk.proofs.Moments.{Leaves-weaken}
 use Rattle.segment_file.specs.File.{batch}
 use Rattle.segment_file.proofs.Appends.{holds-either, all_stand-more}
 use Rattle.segment_file.proofs.GateBytes.{shut-within, next-shut}
-use Rattle.segment_file.proofs.PackingLemmas.{packed-view, counted-body, packed-counted, length-packed, length-sealed, counted}
+use Rattle.segment_file.proofs.PackingLemmas.{packed-view, counted-body, room-numbered, length-sealed, counted}
 use Rattle.segment_file.proofs.Results.{IfOk-each, OnOk-both}
 use Rattle.segment_file.proofs.appending.append_sealed.Goals as goal
 
 pub push_reserved-requires : goal.push_reserved-requires
 push_reserved-requires g c =
-    let packed = packed-view _ _ _ _ _ c.batch.invariant c.batch.view_is in
-    let numbered = packed-counted _ _ _ _ packed _ _ c.count-count.ensures c.put_count.ensures.bytes _ c.put_count.ensures.capacity in
-    omega (arith, length-packed _ _ _ _ numbered, numbered.few, numbered.fits)
+    omega (arith, room-numbered _ _ _ _ c.batch.invariant _ _ c.put_count.ensures.bytes, c.put_count.ensures.capacity)
 
 pub write_gated-appended-requires-clause-within : goal.write_gated-appended-requires-clause-within
 write_gated-appended-requires-clause-within g c = λ honest. shut-within _ _ (c.requires.shut honest) _ (g.met.D.LogDisk.read_is_image _ honest)
@@ -20,7 +18,7 @@ write_gated-appended-requires-clause-within g c = λ honest. shut-within _ _ (c.
 pub returns : goal.returns
 returns g c =
     let batch_is = packed-view _ _ _ _ _ c.batch.invariant c.batch.view_is in
-    let body = counted-body _ _ _ _ batch_is _ _ c.count-count.ensures c.put_count.ensures.bytes _ _
+    let body = counted-body _ _ _ _ batch_is _ _ c.put_count.ensures.bytes c.count-count.ensures _ _
     (c.as_slice.ensures.value ∙ c.push_reserved.ensures.items) c.split_at.ensures.back in
     let counted = counted _ _ _ _ batch_is c.requires.some c.requires.most in
     let gated = c.write_gated-appended.ensures in

@@ -1,19 +1,16 @@
 use Rattle.std.proofs.Common.{◌≡◌, ◌+◌, ◌*◌, Ok, arith}
-use Rattle.std.proofs.lemmas.Result.{err_from_is_err_and}
 use Rattle.segment_file.specs.Lengths.{new_tail}
 use Rattle.segment_file.proofs.GateCloses.{creates-failed, creates-cut, creates-then}
 use Rattle.segment_file.proofs.creating.create.Goals as goal
 
 pub returns-in_err-close_gate : goal.returns-in_err-close_gate
 returns-in_err-close_gate g c =
-    let failed = err_from_is_err_and c.from_residual.result c.from_residual.ensures.1 in
-    creates-failed g.D.LogDisk _ _ _ _ c.close_gate.ensures c.in_err-close_gate.ensures.cause.failed _ failed.0 failed.1
+    creates-failed g.D.LogDisk _ _ _ _ c.close_gate.ensures c.in_err-close_gate.ensures.cause.failed _ _ c.from_residual.ensures.1
 
 pub returns-in_err-create_sealed : goal.returns-in_err-create_sealed
 returns-in_err-create_sealed g c =
-    let failed = err_from_is_err_and c.from_residual-in_err-create_sealed.result c.from_residual-in_err-create_sealed.ensures.1 in
     creates-cut g.D.LogDisk _ _ _ _ c.close_gate.ensures c.in_ok-close_gate.ensures.cause.fine _ _ _ c.create_sealed.ensures
-    c.in_err-create_sealed.ensures.cause.failed _ failed.0 failed.1
+    c.in_err-create_sealed.ensures.cause.failed _ _ c.from_residual-in_err-create_sealed.ensures.1
 
 pub returns : goal.returns
 returns g c =

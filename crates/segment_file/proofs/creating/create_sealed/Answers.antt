@@ -4,15 +4,13 @@ use Rattle.log_disk.proofs.Moments.{Leaves-weaken}
 use Rattle.segment_file.specs.File.{magic, batch}
 use Rattle.segment_file.proofs.Creates.{holds-none_or, all_stand-first}
 use Rattle.segment_file.proofs.GateBytes.{shut-within, next-shut}
-use Rattle.segment_file.proofs.PackingLemmas.{packed-view, counted-sealed, packed-counted, length-packed, length-sealed, counted}
+use Rattle.segment_file.proofs.PackingLemmas.{packed-view, counted-sealed, room-numbered, length-sealed, counted}
 use Rattle.segment_file.proofs.Results.{IfOk-each, OnOk-both}
 use Rattle.segment_file.proofs.creating.create_sealed.Goals as goal
 
 pub push_reserved-requires : goal.push_reserved-requires
 push_reserved-requires g c =
-    let view = packed-view _ _ _ _ _ c.batch.invariant c.batch.view_is in
-    let now = packed-counted _ _ _ _ view _ _ c.count-count.ensures c.put_count.ensures.bytes _ c.put_count.ensures.capacity in
-    omega (arith, length-packed _ _ _ _ now, now.few, now.fits)
+    omega (arith, room-numbered _ _ _ _ c.batch.invariant _ _ c.put_count.ensures.bytes, c.put_count.ensures.capacity)
 
 pub write_gated-created-requires-clause-within : goal.write_gated-created-requires-clause-within
 write_gated-created-requires-clause-within g c = λ honest. shut-within 0 _ (c.requires.shut honest) _ (g.met.D.LogDisk.read_is_image _ honest)
@@ -21,7 +19,7 @@ pub returns : goal.returns
 returns g c =
     let batch_is = packed-view _ _ _ _ _ c.batch.invariant c.batch.view_is in
     let body = c.as_slice.ensures.value ∙ c.push_reserved.ensures.items
-    ∙ counted-sealed _ _ _ _ batch_is _ _ c.count-count.ensures c.put_count.ensures.bytes in
+    ∙ counted-sealed _ _ _ _ batch_is _ _ c.put_count.ensures.bytes c.count-count.ensures in
     let counted = counted _ _ _ _ batch_is c.requires.some c.requires.most in
     let gated = c.write_gated-created.ensures in
     let image = g.met.D.LogDisk.read_is_image c.args.disk.now in

@@ -1,15 +1,14 @@
-use Rattle.std.proofs.lemmas.Result.{err_from_is_err_and}
+use Rattle.std.proofs.Common.{rules}
 use Rattle.segment_file.proofs.GatedWrites.{gated-failed, gated-then}
 use Rattle.segment_file.proofs.gated_write.write_gated.Goals as goal
 
 pub returns-in_err-write_synced : goal.returns-in_err-write_synced
 returns-in_err-write_synced g c =
-    let failed = err_from_is_err_and c.from_residual.result c.from_residual.ensures.1 in
     gated-failed g.D.LogDisk c.args.at c.args.body.now _ _ _ c.write_synced.ensures
-    c.in_err-write_synced.ensures.cause.failed _ failed.0 failed.1
+    c.in_err-write_synced.ensures.cause.failed _ _ c.from_residual.ensures.1
 
 pub returns : goal.returns
 returns g c =
     let wrote = c.in_ok-write_synced.ensures in
     gated-then g.D.LogDisk c.args.at c.args.body.now _ _ _ c.write_synced.ensures wrote.written wrote.settled
-    wrote.cause.fine _ _ c.write_synced-2.ensures
+    wrote.cause.fine _ _ (search rules)

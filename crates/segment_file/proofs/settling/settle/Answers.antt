@@ -1,14 +1,12 @@
 use Rattle.std.proofs.Common.{refl}
-use Rattle.std.proofs.lemmas.Result.{err_from_is_err_and}
 use Rattle.segment_file.proofs.TailSettles.{settles-failed, settles-then}
 use Rattle.segment_file.proofs.settling.settle.Goals as goal
 
 pub returns-in_err-close_gate : goal.returns-in_err-close_gate
 returns-in_err-close_gate g c =
-    let failed = err_from_is_err_and c.from_residual.result c.from_residual.ensures.1 in
     settles-failed g.D.LogDisk c.args.at c.args.next _ _ (g.met.D.LogDisk.read_is_image _)
     g.met.D.LogDisk.counts_now g.met.D.LogDisk.only_now
-    c.requires.stable _ c.close_gate.ensures c.in_err-close_gate.ensures.cause.failed _ failed.0 failed.1
+    c.requires.stable _ c.close_gate.ensures c.in_err-close_gate.ensures.cause.failed _ _ c.from_residual.ensures.1
 
 pub returns : goal.returns
 returns g c =

@@ -1,16 +1,15 @@
 use Rattle.std.proofs.Common.{rules, arith, length, ap}
-use Rattle.segment_file.proofs.PackingLemmas.{packed-view, length-packed, unit-at}
+use Rattle.segment_file.proofs.PackingLemmas.{packed-view, length-seen, unit-at}
 use Rattle.segment_file.proofs.batch.Batch.at.Goals as goal
 
 pub split_at-requires : goal.split_at-requires
 split_at-requires c =
-    let packed = packed-view _ _ _ _ _ c.self.invariant c.self.view_is in
-    omega (arith, length-packed _ _ _ _ packed, ap length c.as_slice.ensures.value, c.requires)
+    omega (arith, length-seen _ _ _ _ _ c.self.invariant c.self.view_is, ap length c.as_slice.ensures.value, c.requires)
 
 pub unreachable-requires : goal.unreachable-requires
 unreachable-requires c =
-    let packed = packed-view _ _ _ _ _ c.self.invariant c.self.view_is in
-    absurd (omega (arith, length-packed _ _ _ _ packed, ap length c.as_slice.ensures.value, c.requires, c.in-None.ensures.none, c.split_at.ensures.back_len))
+    let long = length-seen _ _ _ _ _ c.self.invariant c.self.view_is in
+    absurd (omega (arith, long, ap length c.as_slice.ensures.value, c.requires, c.in-None.ensures.none, c.split_at.ensures.back_len))
 
 pub returns : goal.returns
 returns c =
