@@ -1,5 +1,5 @@
 -- What a seat is that has joined a group, and what it was since.
-use Rattle.std.proofs.Common.{arith, ◌≡◌, ◌∙◌, ℕ, ◌<◌, ◌≤◌, false, List, [], ◌∷◌, length, ap, refl, sym, subst}
+use Rattle.std.proofs.Common.{arith, ◌≡◌, ◌∙◌, ℕ, ◌<◌, ◌≤◌, false, List, [], ◌∷◌, length, ap, refl, rules, sym, subst}
 use Rattle.std.specs.List.{AllByRecursion}
 use Rattle.log_record.specs.Spelling.{IsTxn, spelling}
 use Rattle.lock_core.specs.declared.job.Job.{Job}
@@ -21,36 +21,31 @@ use Rattle.consol_array.specs.declared.call.Joined.{Joined}
 use Rattle.consol_array.specs.Joining.{HasJoined}
 use Rattle.consol_array.specs.Members.{IsAtStep}
 use Rattle.test_rig.specs.NotedJobs.{MayInsert}
-use Rattle.consol_array_tests.specs.Shares.{GoesOn, HasShare}
+use Rattle.consol_array_tests.specs.Shares.{GoesOn, HasShare, IsShare}
 
 IsSameWorker-refl : (seat : Seat) → IsSameWorker seat seat
-IsSameWorker-refl seat = record {
-  table_is = refl;
-  number = refl;
-  slots = refl;
-  worker = refl;
-  constants = refl;
-  standing = refl;
-  grows = omega arith;
-  exposed = omega arith;
-  durable = omega arith;
-  steps = omega arith;
+IsSameWorker-refl seat = search rules
+
+IsShare-joined : (table : LogTable) (old new : Seat) (n : ℕ) (units : List ℕ) (joined : Joined) → HasJoined table old new n joined → n ≡ length units
+    → units ≡ spelling (next_of (view_of old).books) → IsShare table joined units (piece_joining joined.offset (view_of old)) new
+IsShare-joined table old new n units joined has n-is units-are = record {
+  slot_below = has.slot_below;
+  offset_is = refl;
+  size_is = has.size_is ∙ (n-is ∙ ap length units-are);
+  whole = refl;
+  units_are = units-are;
+  tail_seen = omega (arith, ap (λ me. me.0.seen.tail) has.becomes.me);
+  durable_seen = omega (arith, ap (λ me. me.0.seen.durable) has.becomes.me);
 }
 
 pub HasShare-joined : (table : LogTable) (old new : Seat) (n : ℕ) (units : List ℕ) (joined : Joined) → HasJoined table old new n joined → n ≡ length units
     → units ≡ spelling (next_of (view_of old).books) → HasShare table joined units (step_joining joined.offset) new
 HasShare-joined table old new n units joined has n-is units-are = record {
-  slot_below = has.slot_below;
   piece = piece_joining joined.offset (view_of old);
-  call = ap (λ me. me.0.call) has.becomes.me;
-  offset_is = refl;
-  size_is = has.size_is ∙ (n-is ∙ ap length units-are);
-  whole = refl;
-  units_are = units-are;
   first = new;
+  share = IsShare-joined table old new n units joined has n-is units-are;
+  call = ap (λ me. me.0.call) has.becomes.me;
   same = IsSameWorker-refl new;
-  tail_seen = omega (arith, ap (λ me. me.0.seen.tail) has.becomes.me);
-  durable_seen = omega (arith, ap (λ me. me.0.seen.durable) has.becomes.me);
 }
 
 -- at another step the share is the same
@@ -58,17 +53,11 @@ pub HasShare-since : (table : LogTable) (joined : Joined) (units : List ℕ) (be
     → (has : HasShare table joined units before old) → IsSameWorker old new → IsAtStep joined.slot has.piece step (view_of new)
     → HasShare table joined units step new
 HasShare-since table joined units before step old new has same call = record {
-  slot_below = has.slot_below;
   piece = has.piece;
-  call = call;
-  offset_is = has.offset_is;
-  size_is = has.size_is;
-  whole = has.whole;
-  units_are = has.units_are;
   first = has.first;
+  share = has.share;
+  call = call;
   same = IsSameWorker-trans has.first old new has.same same;
-  tail_seen = has.tail_seen;
-  durable_seen = has.durable_seen;
 }
 
 -- both are the same worker's as the first

@@ -14,19 +14,24 @@ use Rattle.ring_buffer.specs.Calls.{IsSameWorker}
 use Rattle.consol_array.specs.declared.call.Joined.{Joined}
 use Rattle.consol_array.specs.Members.{IsAtStep}
 
--- the seat is a member of the group at the slot, at this step, with a piece for a record of these units; `first` is the seat as it joined
-pub record HasShare (table : LogTable) (joined : Joined) (units : List ℕ) (step : MemberStep) (seat : Seat) : Type 0 where
+-- a piece for a record of these units, of a group at a slot of the table; `first` is the seat as it joined the group
+pub record IsShare (table : LogTable) (joined : Joined) (units : List ℕ) (piece : Piece) (first : Seat) : Type 0 where
   pub slot_below : joined.slot < table.slots
-  pub piece : Piece
-  pub call : IsAtStep joined.slot piece step (view_of seat)
   pub offset_is : piece.offset ≡ joined.offset
   pub size_is : joined.n ≡ piece.size
   pub whole : piece.size ≡ length (spelling piece.rec)
   pub units_are : units ≡ spelling piece.rec
-  pub first : Seat
-  pub same : IsSameWorker first seat
   pub tail_seen : (view_of first).seen.tail ≤ piece.tail
   pub durable_seen : (view_of first).seen.durable ≤ piece.durable
+
+-- the seat is a member of the group, at this step, with a piece for a record of these units
+pub record HasShare (table : LogTable) (joined : Joined) (units : List ℕ) (step : MemberStep) (seat : Seat) : Type 0 where
+  pub piece : Piece
+  pub first : Seat
+  pub share : IsShare table joined units piece first
+  pub open share use *
+  pub call : IsAtStep joined.slot piece step (view_of seat)
+  pub same : IsSameWorker first seat
 
 -- once nothing is under way, the worker may take a job of this number and place for it alone
 pub record GoesOn (number : ℕ) (view : View) : Type 0 where

@@ -42,23 +42,23 @@ module _ (opening : Opening) (units rest : List ℕ) (old : View) (entries : Lis
   pub given-fits : opening.state.end + length units ≤ LAST → lsn + length (spelling rec) ≤ LAST
   given-fits fits = omega (arith, size-fits, given.left)
 
+  grown : (entry : Placed) → reverse (entries ++ entry ∷ []) ≡ entry ∷ reverse entries
+  grown entry = reverse-append entries (entry ∷ [])
+
+  shorter : (after : List ℕ) → after ≡ drop (length (spelling rec)) rest → length after + length (spelling rec) ≡ length rest
+  shorter after dropped = omega (arith, size-fits, ap length dropped ∙ length-drop (length (spelling rec)) rest)
+
+  some : 0 < length (spelling rec)
+  some = omega (arith, ap length (spelling-parts_of rec))
+
   -- the record is given, and as its entry is noted
   pub given-next : (after : List ℕ) (new : View) (entry : Placed) → after ≡ drop (length (spelling rec)) rest → entry.rec ≡ rec
       → entry.end ≡ lsn + length (spelling rec) → HasViewed opening new (entry_at lsn rec ∷ reverse entries)
       → IsGiven opening units after new (entries ++ entry ∷ []) entry.end
   given-next after new entry dropped rec-is end-is viewed =
-      let shorter = ap length dropped ∙ length-drop (length (spelling rec)) rest in
-      let some : 0 < length (spelling rec) = omega (arith, ap length (spelling-parts_of rec)) in
-      let longer = length-append entries (entry ∷ []) in
-      record {
-        viewed = subst (HasViewed opening new) (ap (λ e. e ∷ reverse entries) (sym noted) ∙ sym grown) viewed;
-        place = ap (end_from opening.state.end) (sym grown);
-        left = omega (arith, size-fits, given.left, shorter, end-is);
-        few = omega (arith, size-fits, given.few, shorter, some, longer);
+      let noted : entry ≡ entry_at lsn rec = λ i. record { end = end-is i; rec = rec-is i } in record {
+        viewed = subst (HasViewed opening new) (ap (λ e. e ∷ reverse entries) (sym noted) ∙ sym (grown entry)) viewed;
+        place = ap (end_from opening.state.end) (sym (grown entry));
+        left = omega (arith, size-fits, given.left, shorter after dropped, end-is);
+        few = omega (arith, size-fits, given.few, shorter after dropped, some, length-append entries (entry ∷ []));
       }
-    where
-      grown : reverse (entries ++ entry ∷ []) ≡ entry ∷ reverse entries
-      grown = reverse-append entries (entry ∷ [])
-
-      noted : entry ≡ entry_at lsn rec
-      noted = λ i. record { end = end-is i; rec = rec-is i }

@@ -1,6 +1,8 @@
 //! A judge behind the opening that a cut log leaves.
 
-ghost use Rattle.std.specs.Prelude.{◌≡◌, [], IfOk};
+ghost use Rattle.std.specs.Prelude.{◌≡◌, ◌≤◌, ◌+◌, [], length, IfOk};
+ghost use Rattle.lsn_space.specs.declared.lsn.TheConstants.{LAST};
+ghost use Rattle.log_record.specs.Spelling.{IsSpellable, spelling};
 ghost use Rattle.lock_core.specs.Taking.{HasJudged};
 ghost use Rattle.lock_core.specs.Witness.{snapshot, cut};
 
@@ -53,9 +55,16 @@ fn are_its_updates(rt: &impl Abort, changes: &[Change]) -> Result<(), Fail> {
     Ok(())
 }
 
-/// The record was refused by this test.
-fn is_refused(rt: &impl Abort, found: Result<(), JudgeFault>, why: Why) {
-    assert_eq!(rt; found, Err(JudgeFault::Why(why)));
+/// A judge behind the log that was cut refuses the record by this test.
+fn is_refused(rt: &impl Abort, alloc: Global, rec: &Rec, why: Why) -> Result<(), Fail>
+    requires spellable { IsSpellable rec.now }
+    requires fits { 9 + length (spelling rec.now) ≤ LAST }
+{
+    let Ok(mut judge) = judge_behind(alloc) else {
+        return Err(Fail::new("no memory for a judge"));
+    };
+    assert_eq!(rt; judge.take(Lsn::new(9), rec), Err(JudgeFault::Why(why)));
+    Ok(())
 }
 
 /// 30 from account 1 to account 0 goes on behind the log that was cut.
@@ -94,29 +103,21 @@ fn goes_on(rt: HostRuntime) -> Result<(), Fail> {
 /// A transaction of the log that was cut is ended.
 #[test]
 fn refuses_an_old_transaction(rt: HostRuntime) -> Result<(), Fail> {
-    let Ok(mut judge) = judge_behind(rt.alloc()) else {
-        return Err(Fail::new("no memory for a judge"));
-    };
     let again = Rec::Update {
         txn: 1,
         account: 1,
         delta: -30,
         prev: Lsn::new(9),
     };
-    is_refused(&rt, judge.take(Lsn::new(9), &again), Why::Ended);
-    Ok(())
+    is_refused(&rt, rt.alloc(), &again, Why::Ended)
 }
 
 /// No account is opened behind accounts.
 #[test]
 fn refuses_an_account(rt: HostRuntime) -> Result<(), Fail> {
-    let Ok(mut judge) = judge_behind(rt.alloc()) else {
-        return Err(Fail::new("no memory for a judge"));
-    };
     let third = Rec::Genesis {
         account: 2,
         balance: 7,
     };
-    is_refused(&rt, judge.take(Lsn::new(9), &third), Why::Genesis);
-    Ok(())
+    is_refused(&rt, rt.alloc(), &third, Why::Genesis)
 }

@@ -34,6 +34,17 @@ once-all x zero less = absurd (omega (arith, less))
 once-all zero (suc n) less = refl
 once-all (suc x) (suc n) less = once-all x n (omega (arith, less))
 
+-- the first of rising numbers, of which the least is one, is the least
+least-first : (low x : ℕ) (xs : List ℕ) → low ≤ x → AllByRecursion (λ y. x < y) xs → times low (x ∷ xs) ≡ 1 → x ≡ low
+least-first low x xs above rises once = dite (dec_lt low x)
+    (λ less. absurd (omega (
+      arith,
+      once,
+      same-less low x less,
+      times-below low xs (all-weaker (λ y. x < y) (λ y. low < y) xs (λ y over. omega (arith, over, less)) rises),
+    )))
+    (λ more. omega (arith, more, above))
+
 -- rising numbers, of which each of these is one, are these
 counted-of : (low n : ℕ) (xs : List ℕ) → Rises xs → AllByRecursion (λ x. low ≤ x) xs → AllByRecursion (λ x. x < low + n) xs
     → ((x : ℕ) → low ≤ x → x < low + n → times x xs ≡ 1) → xs ≡ counted low n
@@ -41,37 +52,33 @@ counted-of low zero [] rises above below each = refl
 counted-of low zero (x ∷ xs) rises above below each = absurd (omega (arith, above.0, below.0))
 counted-of low (suc n) [] rises above below each = absurd (let none : 0 ≡ 1 = each low (omega arith) (omega arith) in omega (arith, none))
 counted-of low (suc n) (x ∷ xs) rises above below each =
-    let first : x ≡ low = dite (dec_lt low x)
-    (λ less. absurd (omega (
-      arith,
-      each low (omega arith) (omega arith),
-      same-less low x less,
-      times-below low xs
-          (all-weaker (λ y. x < y) (λ y. low < y) xs (λ y over. omega (arith, over, less)) rises.0),
-    )))
-    (λ more. omega (arith, more, above.0)) in
+    let first : x ≡ low = least-first low x xs above.0 rises.0 (each low (omega arith) (omega arith)) in
     let rest : xs ≡ counted (suc low) n = counted-of (suc low) n xs rises.1
     (all-weaker (λ y. x < y) (λ y. suc low ≤ y) xs (λ y over. omega (arith, over, first)) rises.0)
     (all-weaker (λ y. y < low + suc n) (λ y. y < suc low + n) xs (λ y under. omega (arith, under)) below.1)
     (λ y from to. omega (arith, each y (omega (arith, from)) (omega (arith, to)), same-more y x (omega (arith, first, from)))) in
     λ i. first i ∷ rest i
 
+-- of the numbers below all that one pass took in the end each is one of its places, once
+once-placed : (count : ℕ) (places marks : List ℕ) → AreMarks count marks → AreAllTaken count places marks → 1 ≤ length marks
+    → (x : ℕ) → x < count → times x places ≡ 1
+once-placed count places marks behind taken some' x below = omega (
+  arith,
+  taken.once x,
+  once-all x taken.next (omega (arith, below, taken.all some')),
+  times-below x marks (all-weaker (λ mark. count ≤ mark) (λ mark. x < mark) marks (λ mark over. omega (arith, over, below)) behind),
+)
+
+at_least : (xs : List ℕ) → AllByRecursion (λ x. 0 ≤ x) xs
+at_least [] = tt
+at_least (x ∷ xs) = (omega arith, at_least xs)
+
 -- where one pass alone took all that was taken, and its mark, its places are all, in order
 all-counted : (count : ℕ) (places marks : List ℕ) → Rises places → ArePlaces count places → AreMarks count marks → AreAllTaken count places marks
     → 1 ≤ length marks → places ≡ counted 0 count
 all-counted count places marks rises are behind taken some' = counted-of 0 count places rises (at_least places)
     (all-weaker (λ x. x < count) (λ x. x < 0 + count) places (λ x under. omega (arith, under)) are)
-    (λ x from to. omega (
-      arith,
-      taken.once x,
-      once-all x taken.next (omega (arith, to, taken.all some')),
-      times-below x marks
-          (all-weaker (λ mark. count ≤ mark) (λ mark. x < mark) marks (λ mark over. omega (arith, over, to)) behind),
-    ))
-  where
-    at_least : (xs : List ℕ) → AllByRecursion (λ x. 0 ≤ x) xs
-    at_least [] = tt
-    at_least (x ∷ xs) = (omega arith, at_least xs)
+    (λ x from to. once-placed count places marks behind taken some' x (omega (arith, to)))
 
 -- what a worker's pass took
 pub record Knows (count : ℕ) (places marks : List ℕ) : Type 0 where

@@ -6,7 +6,7 @@ use Rattle.log_rule.specs.declared.view.View.{View}
 use Rattle.log_rule.specs.declared.view.Books.{Books}
 use Rattle.log_rule.specs.declared.view.Constants.{Constants}
 use Rattle.log_rule.specs.declared.view.Entry.{Entry}
-use Rattle.log_table.specs.declared.closing.Closed.{Closed}
+use Rattle.log_table.specs.declared.closed.Closed.{Closed}
 use Rattle.log_rule.specs.declared.start.Start.{Start}
 use Rattle.lsn_space.specs.Tiling.{IsTiling}
 use Rattle.log_rule.specs.Books.{task_of, times_taken}
@@ -56,14 +56,23 @@ few false = omega arith
 pub one-taken : (number : ℕ) (job : TakenJob) → times_taken number (job ∷ []) ≤ 1
 one-taken number job = few (job.number == number)
 
+-- where the flusher's seat took in the seat of its only worker, the log starts where it did, and the one job of that worker was taken
+module _ (key : Start) (flusher_seat other view : View) where
+  starts-as : KnowsHired key 1 flusher_seat → view ≡ takes_in flusher_seat other → view.constants.start ≡ key.start
+  starts-as knows takes = ap (λ (v : View). v.constants.start) takes ∙ ap (λ (c : Constants). c.start) knows.constants
+
+  took-one : (job : Job) → KnowsHired key 1 flusher_seat → view ≡ takes_in flusher_seat other
+      → other.books.jobs ≡ record { number = 1; job = job } ∷ [] → view.books.jobs ≡ record { number = 1; job = job } ∷ []
+  took-one job knows takes taken = ap (λ (v : View). v.books.jobs) takes
+      ∙ (ap (λ (b : Books). b.jobs ++ other.books.jobs) knows.books ∙ taken)
+
 -- the table is closed once the flusher's seat took in the seat of its only worker, which took one job
 pub closes-one : (start : ℕ) (accounts : List (ℕ × ℕ)) (key : Start) (job : Job) (flusher_seat other view : View) (closed : Closed) → key.start ≡ start
     → key.accounts.rows ≡ accounts → KnowsHired key 1 flusher_seat → view ≡ takes_in flusher_seat other → other.books.jobs ≡ record { number = 1; job = job } ∷ []
     → IsGathered closed.tail view → closed.exposed ≡ closed.tail → HasLedger (base_of key) view closed.accounts.rows → ClosesOne start accounts 1 job closed
 closes-one start accounts key job flusher_seat other view closed start_is rows_are knows takes taken gathered released ledger =
-    let starts : view.constants.start ≡ start = ap (λ (v : View). v.constants.start) takes ∙ (ap (λ (c : Constants). c.start) knows.constants ∙ start_is) in
-    let jobs : view.books.jobs ≡ record { number = 1; job = job } ∷ [] = ap (λ (v : View). v.books.jobs) takes
-    ∙ (ap (λ (b : Books). b.jobs ++ other.books.jobs) knows.books ∙ taken) in record {
+    let starts = starts-as key flusher_seat other view knows takes ∙ start_is in
+    let jobs = took-one key flusher_seat other view job knows takes taken in record {
       key = key;
       start_is = start_is;
       rows_are = rows_are;
