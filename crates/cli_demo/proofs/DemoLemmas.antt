@@ -96,10 +96,10 @@ each-generated rows same = subst (All (λ (row : ℕ × ℕ). IsBalance row.0)) 
 pub end-opening : end_of generated_opening.records ≡ 128
 end-opening = end_of-genesis 0 balances ∙ ap (λ n. 2 * n) (length-replicate {A = ℕ} 64 1000000)
 
-marks-none : (n balance account : ℕ) → (row (replicate n (balance, 0)) account).1 ≡ 0
-marks-none zero balance account = refl
-marks-none (suc n) balance zero = refl
-marks-none (suc n) balance (suc account) = marks-none n balance account
+last_commits-none : (n balance account : ℕ) → (row (replicate n (balance, 0)) account).1 ≡ 0
+last_commits-none zero balance account = refl
+last_commits-none (suc n) balance zero = refl
+last_commits-none (suc n) balance (suc account) = last_commits-none n balance account
 
 kept-opening : (rows : List (ℕ × ℕ)) → rows ≡ generated_rows → KeepsRows rows (base_in generated_opening) (placed generated_opening)
 kept-opening rows same = subst (λ rs. KeepsRows rs (base_in generated_opening) (placed generated_opening))

@@ -3,7 +3,7 @@ ghost use Rattle.std.specs.Prelude.{◌≡◌, ◌≤◌, [], IfOk};
 ghost use Rattle.job_queue.specs.Passes.{HasFirstPass, HasPassOf, marks_back, marks_in, passes_out, workers_of};
 
 use job_queue::{Jobs, Queue, Rows};
-use lock_core::Job;
+use lock_core::{Job, Leg};
 use std::alloc::Global;
 use std::process::Abort;
 use std::sync::Wait;
@@ -43,7 +43,7 @@ fn takes<R: Wait + Abort>(rt: &R, queue: &Queue, rows: &mut Rows, number: u32, a
     assert_eq!(rt; taken, number);
     assert_eq!(rt;
         job.legs.as_slice(),
-        [(0, 1, amount)].as_slice(),
+        [Leg::from((0, 1, amount))].as_slice(),
         "{number}"
     );
 }

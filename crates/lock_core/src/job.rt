@@ -7,10 +7,45 @@ use arrayvec::ArrayVec;
 use log_record::{LONGEST_NOTE, MOST_LEGS, Text};
 use std::marker::Model;
 
+/// A leg of a transfer: who pays, who receives, and how much. Contracts see the three, in this order.
+#[derive(Clone, Copy, Debug, Default, PartialEq, Eq)]
+pub struct Leg {
+    /// The account that pays.
+    pub payer: u32,
+
+    /// The account that receives.
+    pub payee: u32,
+
+    pub amount: u32,
+}
+
+impl Model for Leg {
+    ghost use Rattle.std.specs.Prelude.{ℕ};
+
+    ghost Value = { ℕ × ℕ × ℕ };
+
+    ghost view = { λ leg. (leg.payer, leg.payee, leg.amount) };
+
+    ghost inverse = { λ leg. record { payer = leg.0; payee = leg.1; amount = leg.2 } };
+}
+
+impl From<(u32, u32, u32)> for Leg {
+    fn from(leg: (u32, u32, u32)) -> Leg
+        ensures { result ≡ leg }
+    {
+        let (payer, payee, amount) = leg;
+        Leg {
+            payer,
+            payee,
+            amount,
+        }
+    }
+}
+
 /// The legs of a transfer, at most `MOST_LEGS`. Contracts see the list of them.
 #[derive(Debug, Drop)]
 pub struct Legs {
-    legs: ArrayVec<(u32, u32, u32), 8>,
+    legs: ArrayVec<Leg, 8>,
 }
 
 impl Model for Legs {
@@ -31,8 +66,8 @@ impl Legs {
         }
     }
 
-    /// Appends a leg: the account that pays, the account that receives, and the amount.
-    pub fn push(&mut self, leg: (u32, u32, u32))
+    /// Appends a leg.
+    pub fn push(&mut self, leg: Leg)
         requires { length self.old < MOST_LEGS }
         ensures { self.new ≡ self.old ++ leg ∷ [] }
     {
@@ -56,7 +91,7 @@ impl Legs {
     }
 
     /// The legs, in their order.
-    pub fn as_slice(&self) -> &[(u32, u32, u32)]
+    pub fn as_slice(&self) -> &[Leg]
         ensures legs { result.now ≡ self.now }
         ensures few { length self.now ≤ MOST_LEGS }
     {
@@ -146,7 +181,7 @@ impl Job {
     }
 
     /// The leg of a transfer that has no other, and no note.
-    pub fn single(&self) -> Option<(u32, u32, u32)>
+    pub fn single(&self) -> Option<Leg>
         ensures some { IfSome result (λ leg. self.now ≡ record { legs = leg ∷ []; note = None }) }
         ensures none { IfNone result ((leg : ℕ × ℕ × ℕ) → self.now ≡ record { legs = leg ∷ []; note = None } → ⊥) }
     {
@@ -157,7 +192,7 @@ impl Job {
     }
 
     /// Makes this the transfer of one leg and no note. What it has of that already isn't written again.
-    pub fn become_single(&mut self, leg: (u32, u32, u32))
+    pub fn become_single(&mut self, leg: Leg)
         ensures { self.new ≡ record { legs = leg ∷ []; note = None } }
     {
         self.legs.clear();
@@ -168,7 +203,7 @@ impl Job {
     }
 
     /// The transfer of one leg and no note.
-    pub fn of_leg(leg: (u32, u32, u32)) -> Job
+    pub fn of_leg(leg: Leg) -> Job
         ensures { result ≡ record { legs = leg ∷ []; note = None } }
     {
         let mut job = Job::new();

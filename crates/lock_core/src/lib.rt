@@ -15,7 +15,7 @@ mod transactions;
 mod update;
 mod update_links;
 
-pub use job::{Job, Legs, Remark};
+pub use job::{Job, Leg, Legs, Remark};
 pub use judge::Judge;
 pub use laws::{
     allowed_jobs, another_number, balances_in_range, cut_log_goes_on, done_in_any_order,

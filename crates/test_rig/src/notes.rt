@@ -6,7 +6,7 @@ ghost use Rattle.ring_buffer.specs.Calls.{HasReserved};
 ghost use Rattle.test_rig.specs.NotedJobs.{AreNoteUnits, IsNotedJob, MayInsert};
 ghost use Rattle.test_rig.specs.Tables.{KeepsStanding};
 
-use lock_core::{Job, Legs, Remark};
+use lock_core::{Job, Leg, Legs, Remark};
 use log_record::{Rec, Text, Units, spell};
 use log_table::{LogTable, Seat};
 use lsn_space::Lsn;
@@ -19,7 +19,7 @@ pub fn noted_job(note: &[u8]) -> Option<Job>
 {
     let remark = Remark::new(note)?;
     let mut legs = Legs::new();
-    legs.push((0, 1, 30));
+    legs.push(Leg::from((0, 1, 30)));
     Some(Job {
         legs,
         note: Some(remark),

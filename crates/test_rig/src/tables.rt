@@ -8,7 +8,7 @@ ghost use Rattle.log_table.specs.HiredWorkers.{HasHired};
 ghost use Rattle.test_rig.specs.NotedJobs.{IsNew, MayInsert};
 ghost use Rattle.test_rig.specs.Tables.{AreBalances, IsTableOf};
 
-use lock_core::{Job, Legs};
+use lock_core::{Job, Leg, Legs};
 use log_table::{LogTable, Seat, Start};
 use lsn_space::{Balances, Lsn, NoMemory};
 use std::alloc::Global;
@@ -66,6 +66,6 @@ pub fn job_of(amount: u32) -> Job
     ensures allowed { IsAllowedJob 2 result }
 {
     let mut legs = Legs::new();
-    legs.push((0, 1, amount));
+    legs.push(Leg::from((0, 1, amount)));
     Job { legs, note: None }
 }

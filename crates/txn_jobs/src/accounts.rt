@@ -22,11 +22,13 @@ pub fn list_accounts(job: &Job, accounts: &mut ArrayVec<u32, MOST_PARTIES>)
     accounts.clear();
     // Most transfers have one leg, and one comparison puts its two accounts in order.
     if let [leg] = job.legs.as_slice() {
-        return pair(leg.0, leg.1, accounts);
+        let leg = *leg;
+        return pair(leg.payer, leg.payee, accounts);
     }
     'legs: for leg in job.legs.as_slice() {
-        add(accounts, leg.0);
-        add(accounts, leg.1);
+        let leg = *leg;
+        add(accounts, leg.payer);
+        add(accounts, leg.payee);
     }
 }
 

@@ -83,17 +83,16 @@ touches-behind : (account : ℕ) (changes : List Change) (less more : Change) �
 touches-behind account changes less more before = or_right (more.account == account) _
     (or_right (less.account == account) (touches account changes) before)
 
-touches-more : (legs : List (ℕ × ℕ × ℕ)) (i : ℕ) (changes : List Change) (less more : Change) → i < length legs
-    → less.account ≡ (get_or legs i (0, 0, 0)).0
-    → more.account ≡ (get_or legs i (0, 0, 0)).1 → All (TouchesLeg changes) (take i legs)
+touches-more : (legs : List (ℕ × ℕ × ℕ)) (i : ℕ) (leg : ℕ × ℕ × ℕ) (changes : List Change) (less more : Change) → i < length legs
+    → leg ≡ get_or legs i leg → less.account ≡ leg.0 → more.account ≡ leg.1 → All (TouchesLeg changes) (take i legs)
     → All (TouchesLeg (more ∷ less ∷ changes)) (take (i + 1) legs)
-touches-more legs i changes less more within pays receives before = All-more (TouchesLeg (more ∷ less ∷ changes)) legs i (0, 0, 0) within
+touches-more legs i leg changes less more within is pays receives before = All-more (TouchesLeg (more ∷ less ∷ changes)) legs i leg within
     (All-weaker (TouchesLeg changes) (TouchesLeg (more ∷ less ∷ changes))
-    (λ leg both. (touches-behind leg.0 changes less more both.0, touches-behind leg.1 changes less more both.1)) (take i legs) before) (
-      or_right (more.account == _) _ (or_left (less.account == _) (touches _ changes) (eq-eqb less.account _ pays)),
-      or_left
-          (more.account == _) _ (eq-eqb more.account _ receives),
-    )
+    (λ leg both. (touches-behind leg.0 changes less more both.0, touches-behind leg.1 changes less more both.1)) (take i legs) before)
+    (subst (TouchesLeg (more ∷ less ∷ changes)) is (
+      or_right (more.account == leg.0) _ (or_left (less.account == leg.0) (touches leg.0 changes) (eq-eqb less.account leg.0 pays)),
+      or_left (more.account == leg.1) _ (eq-eqb more.account leg.1 receives),
+    ))
 
 -- what a leg makes of each holding
 pub paid-taken : (leg : ℕ × ℕ × ℕ) (old new : List TakenAccount) → AllZip (IsAfter leg) old new → map taken_of new ≡ map taken_of old
@@ -165,10 +164,7 @@ module _ (accounts number : ℕ) (job : Job) (holdings : List TakenAccount) (boo
         touched = of-leg holding.taken.account only;
       }
 
-  module _ (legs : List (ℕ × ℕ × ℕ)) (same : legs ≡ job.legs) (within : i < length legs) where
-    abbrev leg : ℕ × ℕ × ℕ
-    leg = get_or legs i (0, 0, 0)
-
+  module _ (legs : List (ℕ × ℕ × ℕ)) (leg : ℕ × ℕ × ℕ) (same : legs ≡ job.legs) (within : i < length legs) (is : leg ≡ get_or legs i leg) where
     abbrev rest : List (ℕ × ℕ × ℕ)
     rest = drop (i + 1) job.legs
 
@@ -176,7 +172,8 @@ module _ (accounts number : ℕ) (job : Job) (holdings : List TakenAccount) (boo
     behind = planned_from number last_commit (after_leg leg balances) (i + 1) rest
 
     split : drop i job.legs ≡ leg ∷ rest
-    split = subst (λ list. drop i list ≡ leg ∷ drop (i + 1) list) same (drop_more legs i (0, 0, 0) within)
+    split = subst (λ list. drop i list ≡ leg ∷ drop (i + 1) list) same
+        (drop_more legs i leg within ∙ ap (λ first. first ∷ drop (i + 1) legs) (sym is))
 
     left-at : IsLeft (planned_from number last_commit balances i (leg ∷ rest)) books
     left-at = subst (λ legs. IsLeft (planned_from number last_commit balances i legs) books) split stands.left
@@ -185,14 +182,15 @@ module _ (accounts number : ℕ) (job : Job) (holdings : List TakenAccount) (boo
     outcome-at = stands.outcome ∙ ap (λ legs. outcome_from i legs balances) split
 
     leg-allowed : IsAllowedLeg accounts leg
-    leg-allowed = subst (All (IsAllowedLeg accounts)) (sym same) (All-from_recursion
-        (IsAllowedLeg accounts) job.legs holds.allowed.job.legs.each) i (0, 0, 0) within
+    leg-allowed = subst (IsAllowedLeg accounts) (sym is) (subst (All (IsAllowedLeg accounts)) (sym same)
+        (All-from_recursion (IsAllowedLeg accounts) job.legs holds.allowed.job.legs.each) i leg within)
 
     leg-number : IsLeg (i + 1)
     leg-number = (omega arith, omega (arith, ap length same, holds.allowed.job.legs.few))
 
     pub leg-accounts : HasAccountsOf (map account_of holdings) leg
-    leg-accounts = subst (All (HasAccountsOf (map account_of holdings))) (sym same) holds.all i (0, 0, 0) within
+    leg-accounts = subst (HasAccountsOf (map account_of holdings)) (sym is)
+        (subst (All (HasAccountsOf (map account_of holdings))) (sym same) holds.all i leg within)
 
     pub leg-most : leg.2 ≤ MOST_BALANCE
     leg-most = leg-allowed.most
@@ -293,7 +291,7 @@ module _ (accounts number : ℕ) (job : Job) (holdings : List TakenAccount) (boo
         touched' : All (TouchesLeg (changes_by books')) (take (i + 1) job.legs)
         touched' = subst (λ (p : List (ℕ × ℕ × ℕ) × List Change). All (TouchesLeg p.1) (take (i + 1) p.0))
             (λ k. (same k, sym changes' k))
-            (touches-more legs i changes less more within refl refl
+            (touches-more legs i leg changes less more within is refl refl
             (subst (λ list. All (TouchesLeg changes) (take i list)) (sym same) stands.touched))
 
         pub stands-next : StandsBefore (i + 1) number job holdings' books'

@@ -6,6 +6,7 @@ ghost use Rattle.txn_making.specs.Inserts.{HasAdded, IsCutOff};
 ghost use Rattle.txn_making.specs.Legs.{HoldsJob, StandsBefore, ReachesEnd, MayMakeLeg, AddsLeg};
 
 use crate::inserting::insert_units;
+use lock_core::Leg;
 use log_record::Units;
 use schedule_hook::Gate;
 use std::sync::Wait;
@@ -48,7 +49,7 @@ pub fn make_legs<R: Wait, Q: Relief, G: Gate>(
 fn make_leg<R: Wait, Q: Relief, G: Gate>(
     desk: &mut Desk<'_, R, Q, G>,
     number: u32,
-    leg: (u32, u32, u32),
+    leg: Leg,
     holdings: &[TakenAccount],
     units: &mut Units,
 ) -> Result<(), Cause>
@@ -59,10 +60,9 @@ fn make_leg<R: Wait, Q: Relief, G: Gate>(
     ensures added { OnErr result (HasAdded desk.old desk.new) }
     ensures cut { IfErr result (IsCutOff (view_at desk.new)) }
 {
-    let (payer, payee, amount) = leg;
-    spell_debit(units, number, holding_of(holdings, payer), amount);
+    spell_debit(units, number, holding_of(holdings, leg.payer), leg.amount);
     insert_units(desk, units)?;
-    spell_credit(units, number, holding_of(holdings, payee), amount);
+    spell_credit(units, number, holding_of(holdings, leg.payee), leg.amount);
     insert_units(desk, units)?;
     Ok(())
 }

@@ -9,21 +9,22 @@ ghost use Rattle.txn_parts.specs.Holdings.{account_of};
 ghost use Rattle.txn_parts.specs.Leg.{IsRefused, CanMake, CanBear, IsAfter};
 
 use crate::taken_account::TakenAccount;
+use lock_core::Leg;
 use log_record::{MOST_BALANCE, Units, spell_update};
 use lsn_space::Lsn;
 use txn_jobs::Answer;
 
 /// The answer that refuses the leg at this place, from 1, on the balances as they are now. None: it can be made.
-pub fn refusal(holdings: &[TakenAccount], leg: (u32, u32, u32), place: u32) -> Option<Answer>
+pub fn refusal(holdings: &[TakenAccount], leg: Leg, place: u32) -> Option<Answer>
     requires both { HasAccountsOf (map account_of holdings.now) leg }
     requires amount { leg.2 ≤ MOST_BALANCE }
     ensures refused { IfSome result (IsRefused holdings.now leg place) }
     ensures fits { IfNone result (CanMake holdings.now leg) }
 {
-    if holding_of(holdings, leg.0).balance < leg.2 {
+    if holding_of(holdings, leg.payer).balance < leg.amount {
         return Some(Answer::Short(place));
     }
-    if holding_of(holdings, leg.1).balance > MOST_BALANCE - leg.2 {
+    if holding_of(holdings, leg.payee).balance > MOST_BALANCE - leg.amount {
         return Some(Answer::Over(place));
     }
     None
@@ -65,7 +66,7 @@ pub fn spell_credit(units: &mut Units, number: u32, holding: &TakenAccount, amou
 }
 
 /// Moves the leg's amount from the balance of its payer to that of its payee.
-pub fn move_amount(holdings: &mut [TakenAccount], leg: (u32, u32, u32))
+pub fn move_amount(holdings: &mut [TakenAccount], leg: Leg)
     requires { All (CanBear leg) holdings.old }
     ensures { AllZip (IsAfter leg) holdings.old holdings.new }
 {
@@ -74,14 +75,13 @@ pub fn move_amount(holdings: &mut [TakenAccount], leg: (u32, u32, u32))
     }
 }
 
-fn bear(holding: &mut TakenAccount, leg: (u32, u32, u32))
+fn bear(holding: &mut TakenAccount, leg: Leg)
     requires { CanBear leg holding.old }
     ensures { IsAfter leg holding.old holding.new }
 {
-    let (payer, payee, amount) = leg;
-    if holding.taken.account == payer {
-        holding.balance -= amount;
-    } else if holding.taken.account == payee {
-        holding.balance += amount;
+    if holding.taken.account == leg.payer {
+        holding.balance -= leg.amount;
+    } else if holding.taken.account == leg.payee {
+        holding.balance += leg.amount;
     }
 }

@@ -1,6 +1,6 @@
 //! The order in which a transfer takes its accounts.
 use arrayvec::ArrayVec;
-use lock_core::{Job, Legs};
+use lock_core::{Job, Leg, Legs};
 use log_record::MOST_LEGS;
 use std::process::Abort;
 use txn_runner::{MOST_PARTIES, list_accounts};
@@ -25,7 +25,7 @@ fn takes(
     let mut legs = Legs::new();
     for leg in list {
         assert!(rt; legs.as_slice().len() < usize::from(MOST_LEGS));
-        legs.push(*leg);
+        legs.push(Leg::from(*leg));
     }
     list_accounts(&Job { legs, note: None }, accounts);
     assert_eq!(rt; accounts.as_slice(), wanted, "{list:?}");

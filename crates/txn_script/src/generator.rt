@@ -14,6 +14,7 @@ ghost use Rattle.txn_script.specs.Generator.{number_after, leg_from, generated_b
 ghost use Rattle.txn_script.specs.Script.{IsAllowedJob};
 
 use crate::script::Script;
+use lock_core::Leg;
 use lsn_space::NoMemory;
 use std::alloc::Global;
 
@@ -44,14 +45,18 @@ fn following(x: u32) -> u32
 }
 
 /// The leg of the transfer that this number makes.
-fn leg_of(x: u32) -> (u32, u32, u32)
+fn leg_of(x: u32) -> Leg
     ensures { result ≡ leg_from x }
 {
     let payer = x % GENERATED_ACCOUNTS;
     let payee = (payer + 1 + x / GENERATED_ACCOUNTS % (GENERATED_ACCOUNTS - 1))
         % GENERATED_ACCOUNTS;
     let amount = 1 + x / 4096 % 9;
-    (payer, payee, amount)
+    Leg {
+        payer,
+        payee,
+        amount,
+    }
 }
 
 /// A law: generated transfers are as many as were asked for, and a log of `GENERATED_ACCOUNTS` accounts allows each.

@@ -16,6 +16,6 @@ pub use generator::{
 };
 pub use laws::format_numbers;
 pub use lines::written_lines;
-pub use lock_core::{Job, Legs, Remark, allowed_jobs};
+pub use lock_core::{Job, Leg, Legs, Remark, allowed_jobs};
 pub use opening::{balances, balances_one_reading};
 pub use script::{Script, parse, script_one_reading};

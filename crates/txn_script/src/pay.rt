@@ -6,7 +6,7 @@ ghost use Rattle.txn_script.specs.Reading.{IsDigit, EndsNumber, BeginsLeg, EndsL
 ghost use Rattle.txn_script.specs.Script.{spaced, leg_text, legs_text, note_text, job_text, IsAllowedLeg, AreAllowedLegs, IsAllowedJob};
 ghost use Rattle.lock_core.specs.declared.job.Job.{Job};
 
-use lock_core::{Job, Legs, Remark};
+use lock_core::{Job, Leg, Legs, Remark};
 use log_record::{MOST_BALANCE, MOST_LEGS};
 use lsn_space::number;
 
@@ -51,7 +51,7 @@ fn take_legs(bytes: &[u8], accounts: u32) -> Option<(Legs, &[u8])>
             return None;
         }
         let (leg, after) = take_leg(rest, accounts)?;
-        legs.push(leg);
+        legs.push(Leg::from(leg));
         rest = after;
     }
     if legs.as_slice().is_empty() {
@@ -74,22 +74,25 @@ fn take_leg(bytes: &[u8], accounts: u32) -> Option<((u32, u32, u32), &[u8])>
     ensures none { IfNone result ((leg : ℕ × ℕ × ℕ) (rest : List ℕ) → IsAllowedLeg accounts leg → EndsNumber rest
         → bytes.now ≡ leg_text leg ++ rest → ⊥) }
 {
-    let (from, rest) = take_number(bytes)?;
-    let (to, rest) = take_number(rest)?;
+    let (payer, rest) = take_number(bytes)?;
+    let (payee, rest) = take_number(rest)?;
     let (amount, rest) = take_number(rest)?;
-    let leg = (from, to, amount);
-    if is_allowed(leg, accounts) {
+    let leg = (payer, payee, amount);
+    if is_allowed(Leg::from(leg), accounts) {
         Some((leg, rest))
     } else {
         None
     }
 }
 
-fn is_allowed(leg: (u32, u32, u32), accounts: u32) -> bool
+fn is_allowed(leg: Leg, accounts: u32) -> bool
     ensures { IsTrue result ↔ IsAllowedLeg accounts leg }
 {
-    let (from, to, amount) = leg;
-    from < accounts && to < accounts && from != to && amount >= 1 && amount <= MOST_BALANCE
+    leg.payer < accounts
+        && leg.payee < accounts
+        && leg.payer != leg.payee
+        && leg.amount >= 1
+        && leg.amount <= MOST_BALANCE
 }
 
 /// The number that the bytes begin with, behind a space, and what follows it.

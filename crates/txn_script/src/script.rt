@@ -7,7 +7,7 @@ use crate::fault::ParseFault;
 use crate::lines::take_line;
 use crate::pay::read_job;
 use crate::stored::Stored;
-use lock_core::Job;
+use lock_core::{Job, Leg};
 use lsn_space::NoMemory;
 use std::alloc::Global;
 use std::marker::Model;
@@ -59,7 +59,7 @@ impl Script {
     }
 
     /// Adds the transfer of one leg and no note behind the others, so that no `Job` is made of it.
-    pub fn push_leg(&mut self, leg: (u32, u32, u32)) -> Result<(), NoMemory>
+    pub fn push_leg(&mut self, leg: Leg) -> Result<(), NoMemory>
         ensures added { IfOk result (λ _. self.new ≡ self.old ++ record { legs = leg ∷ []; note = None } ∷ []) }
         ensures kept { OnErr result (self.new ≡ self.old) }
     {

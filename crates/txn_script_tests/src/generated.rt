@@ -3,7 +3,7 @@
 use std::alloc::AllocGlobal;
 use std::process::Abort;
 use std::test::Fail;
-use txn_script::{Job, Script, make};
+use txn_script::{Job, Leg, Script, make};
 
 fn script_of<R: AllocGlobal>(rt: &R, n: u32, seed: u32) -> Result<Script, Fail> {
     make(rt.alloc(), n, seed).map_err(|_| Fail::new("no memory"))
@@ -17,7 +17,7 @@ fn is_count(rt: &impl Abort, seed: u32, found: u64, count: u64) {
 /// The transfer of this seed has this leg alone, and no note.
 fn is_noteless(rt: &impl Abort, seed: u32, job: &Job, leg: (u32, u32, u32)) {
     let found = (job.legs.as_slice(), job.note.is_none());
-    assert_eq!(rt; found, ([leg].as_slice(), true), "{seed}");
+    assert_eq!(rt; found, ([Leg::from(leg)].as_slice(), true), "{seed}");
 }
 
 /// The first transfers of this seed, so many, have these legs.
@@ -60,9 +60,9 @@ fn mix_of(script: &Script) -> u64 {
     let mut taken = 0u64;
     for place in 0..script.count() {
         let job = script.job(place);
-        for (payer, payee, amount) in job.legs.as_slice() {
-            taken = taken.saturating_add((*payer as u64).saturating_mul(*amount as u64));
-            given = given.saturating_add((*payee as u64).saturating_mul(*amount as u64));
+        for leg in job.legs.as_slice() {
+            taken = taken.saturating_add((leg.payer as u64).saturating_mul(leg.amount as u64));
+            given = given.saturating_add((leg.payee as u64).saturating_mul(leg.amount as u64));
         }
     }
     2_080_000_000u64.saturating_add(given).saturating_sub(taken)

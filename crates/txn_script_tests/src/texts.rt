@@ -3,7 +3,7 @@
 use std::alloc::AllocGlobal;
 use std::process::Abort;
 use std::test::Fail;
-use txn_script::{Job, ParseFault, Script, balances, parse};
+use txn_script::{Job, Leg, ParseFault, Script, balances, parse};
 
 /// This is the balance, and no commit, of the account at this place of the text.
 fn is_balance(rt: &impl Abort, text: &[u8], found: (u32, u32), balance: u32) {
@@ -123,10 +123,23 @@ fn note_of(job: &Job) -> &[u8] {
 /// The legs of a transfer, and its note.
 type Transfer<'a> = (&'a [(u32, u32, u32)], &'a [u8]);
 
+/// These are legs of these payers, payees and amounts.
+fn are_legs(legs: &[Leg], want: &[(u32, u32, u32)]) -> bool {
+    legs.len() == want.len()
+        && legs
+            .iter()
+            .zip(want)
+            .all(|(leg, want)| *leg == Leg::from(*want))
+}
+
 /// This is the transfer at this place of the text.
 fn is_job(rt: &impl Abort, text: &[u8], place: usize, job: &Job, want: Transfer<'_>) {
-    let found = (job.legs.as_slice(), note_of(job));
-    assert_eq!(rt; found, want, "{text:?}, transfer {place}");
+    let (legs, note) = want;
+    assert!(rt;
+        are_legs(job.legs.as_slice(), legs),
+        "{text:?}, transfer {place}"
+    );
+    assert_eq!(rt; note_of(job), note, "{text:?}, transfer {place}");
 }
 
 /// The text is read as this one transfer.

@@ -1,4 +1,7 @@
+use Rattle.std.proofs.Common.{ℕ, ◌∙◌, ap, pos, neg_ℤ}
 use Rattle.std.proofs.lemmas.Result.{err_from_is_err_and}
+use Rattle.log_record.specs.Spelling.{spelling}
+use Rattle.log_record.specs.declared.rec.Rec.TheVariants.{Update}
 use Rattle.txn_parts.proofs.DeskLemmas.{WorksOn-trans}
 use Rattle.txn_making.proofs.Making.{enters-first, spells-first, cut-first, enters-second, spells-second, cut-second, leg-made}
 use Rattle.txn_making.proofs.legs.make_leg.Goals as goal
@@ -9,7 +12,10 @@ insert_units-requires-clause-next g c = enters-first _ _ _ _ c.args.desk.now.sea
 pub insert_units-requires-clause-spelled : goal.insert_units-requires-clause-spelled
 insert_units-requires-clause-spelled g c =
     let payer = c.holding_of.ensures in
-    spells-first _ _ _ _ c.args.desk.now.seat.now c.requires.leg _ _ c.spell_debit.ensures payer.found payer.account
+    spells-first _ _ _ _ c.args.desk.now.seat.now c.requires.leg _ c.holding_of.result.now
+    (c.spell_debit.ensures ∙ ap (λ (leg : ℕ × ℕ × ℕ). spelling (Update c.args.number c.holding_of.result.now.taken.account
+    (neg_ℤ (pos leg.2)) c.holding_of.result.now.taken.mark)) c.leg.view_is)
+    payer.found (payer.account ∙ ap (λ (leg : ℕ × ℕ × ℕ). leg.0) c.leg.view_is)
 
 pub returns-in_err-insert_units-clause-cut : goal.returns-in_err-insert_units-clause-cut
 returns-in_err-insert_units-clause-cut g c =
@@ -25,8 +31,11 @@ insert_units-requires-2-clause-next g c =
 pub insert_units-requires-2-clause-spelled : goal.insert_units-requires-2-clause-spelled
 insert_units-requires-2-clause-spelled g c =
     let payee = c.holding_of-2.ensures in
-    spells-second _ _ _ _ c.args.desk.now.seat.now c.requires.leg c.insert_units.new.desk.seat.now _ c.in_ok-insert_units.ensures.put _ _
-    c.spell_credit.ensures payee.found payee.account
+    spells-second _ _ _ _ c.args.desk.now.seat.now c.requires.leg c.insert_units.new.desk.seat.now _ c.in_ok-insert_units.ensures.put
+    _ c.holding_of-2.result.now
+    (c.spell_credit.ensures ∙ ap (λ (leg : ℕ × ℕ × ℕ). spelling (Update c.args.number c.holding_of-2.result.now.taken.account
+    (pos leg.2) c.holding_of-2.result.now.taken.mark)) c.leg.view_is)
+    payee.found (payee.account ∙ ap (λ (leg : ℕ × ℕ × ℕ). leg.1) c.leg.view_is)
 
 pub returns-in_err-insert_units-2-clause-cut : goal.returns-in_err-insert_units-2-clause-cut
 returns-in_err-insert_units-2-clause-cut g c =

@@ -8,21 +8,21 @@ use Rattle.txn_making.proofs.legs.make_legs.Goals as goal
 
 pub refusal-requires-clause-both : goal.refusal-requires-clause-both
 refusal-requires-clause-both g c = let i = c.legs.invariant in
-    leg-accounts _ _ _ _ _ _ i.2 i.3 _ c.as_slice-legs.ensures.legs c.legs-test.true
+    leg-accounts _ _ _ _ _ _ i.2 i.3 _ _ c.as_slice-legs.ensures.legs c.legs-test.true c.index-legs-i.is
 
 pub refusal-requires-clause-amount : goal.refusal-requires-clause-amount
 refusal-requires-clause-amount g c = let i = c.legs.invariant in
-    leg-most _ _ _ _ _ _ i.2 i.3 _ c.as_slice-legs.ensures.legs c.legs-test.true
+    leg-most _ _ _ _ _ _ i.2 i.3 _ _ c.as_slice-legs.ensures.legs c.legs-test.true c.index-legs-i.is
 
 pub returns-in-Some-clause-ended : goal.returns-in-Some-clause-ended
 returns-in-Some-clause-ended g c = let i = c.legs.invariant in
-    reaches-refused _ _ _ _ _ _ i.2 i.3 _ c.as_slice-legs.ensures.legs c.legs-test.true _ c.in-Some.ensures.refused
+    reaches-refused _ _ _ _ _ _ i.2 i.3 _ _ c.as_slice-legs.ensures.legs c.legs-test.true c.index-legs-i.is _ c.in-Some.ensures.refused
 
 pub make_leg-requires-clause-leg : goal.make_leg-requires-clause-leg
 make_leg-requires-clause-leg g c = let i = c.legs.invariant in
     may-make _ _ _ _ _ _ (WorksOn-accounts g.Q.Relief _ _ i.0
-    (λ accounts. HoldsJob accounts c.args.numbered.now.number c.args.numbered.now.job c.legs.holdings (books_at c.legs.desk)) i.2) i.3 _
-    c.as_slice-legs.ensures.legs c.legs-test.true c.in_default.ensures.fits
+    (λ accounts. HoldsJob accounts c.args.numbered.now.number c.args.numbered.now.job c.legs.holdings (books_at c.legs.desk)) i.2) i.3 _ _
+    c.as_slice-legs.ensures.legs c.legs-test.true c.index-legs-i.is c.in_default.ensures.fits
 
 pub returns-in_err-make_leg-clause-added : goal.returns-in_err-make_leg-clause-added
 returns-in_err-make_leg-clause-added g c = let before = c.legs.invariant.1 in let more = c.in_err-make_leg.ensures.added in
@@ -32,9 +32,9 @@ pub legs-preserved : goal.legs-preserved
 legs-preserved g c = let i = c.legs.invariant in let can = c.in_default.ensures.fits in let made = c.in_ok-make_leg.ensures.made in (
   WorksOn-trans g.Q.Relief g.met.Q.Relief.later_trans _ _ _ i.0 c.in_ok-make_leg.ensures.work,
   (i.1.0 ++ made.added, adds-trans _ _ _ _ _ i.1.1 made.adds),
-  still-holds _ _ _ _ _ _ i.2 i.3 _ c.as_slice-legs.ensures.legs c.legs-test.true can _ c.move_amount.ensures _ _
+  still-holds _ _ _ _ _ _ i.2 i.3 _ _ c.as_slice-legs.ensures.legs c.legs-test.true c.index-legs-i.is can _ c.move_amount.ensures _ _
       made.adds.entries.books_are made.records_are,
-  stands-next _ _ _ _ _ _ i.2 i.3 _ c.as_slice-legs.ensures.legs c.legs-test.true can _ c.move_amount.ensures _ _
+  stands-next _ _ _ _ _ _ i.2 i.3 _ _ c.as_slice-legs.ensures.legs c.legs-test.true c.index-legs-i.is can _ c.move_amount.ensures _ _
       made.adds.entries.books_are made.records_are,
   paid-taken _ _ _ c.move_amount.ensures ∙ i.4,
 )

@@ -1,5 +1,5 @@
-use Rattle.std.proofs.Common.{rules}
+use Rattle.std.proofs.Common.{rules, sym}
 use Rattle.txn_script.proofs.pay.is_allowed.Goals as goal
 
-pub returns-then-amount-ge1 : goal.returns-then-amount-ge1
-returns-then-amount-ge1 c = search rules steps 400000
+pub returns-then-leg-ge1 : goal.returns-then-leg-ge1
+returns-then-leg-ge1 c = rw (sym c.leg.view_is) (search rules steps 400000)

@@ -25,7 +25,7 @@ pub legs-preserved : goal.legs-preserved
 legs-preserved c =
     let before = c.legs.invariant in
     let taken = c.in_ok-leg.ensures in
-    rw (c.push.ensures) (record {
+    rw (c.push.ensures, c.from-in-legs.ensures) (record {
       few = omega (
         arith,
         before.few,
