@@ -8,8 +8,8 @@ use Rattle.end_lines.specs.declared.tally.Tally.{Tally}
 use Rattle.end_lines.specs.declared.voice.Voice.{Voice}
 use Rattle.end_lines.specs.EndLines.{line_said, count_said, is_done, is_refused}
 use Rattle.end_lines.specs.Telling.{TellsAll, TellsFront, ended}
-use Rattle.batch_lines.proofs.HeadLemmas.{ended-silent, ended-same}
-use Rattle.batch_lines.proofs.ToldLemmas.{ToldUpTo, size_of-some, window-within, told-begins, told-more, told-still, told-part, told-all}
+use Rattle.batch_lines.proofs.HeadLemmas.{ended_none-silent, ended-same}
+use Rattle.batch_lines.proofs.ToldLemmas.{ToldUpTo, size_of-positive, record_end-within_units, told-record_begins, told-more, told-push_silent, told-tells_front, told-all}
 
 -- the record that begins at an index, what of it ends a transaction, and how many units it has
 abbrev pub IsSeen : List ℕ → ℕ → Option Rec → ℕ → Type 0
@@ -22,15 +22,15 @@ pub record Stands (units : List ℕ) (at size : ℕ) (rec : Rec) : Type 0 where
   pub within : at + size ≤ length units
 
 module _ (units : List ℕ) (at size units_read : ℕ) (end : Option Rec) (seen : IsSeen units at end size) (read : units_read ≡ size) where
-  pub seen-some : 0 < units_read
-  seen-some = omega (arith, size_of-some seen.0, read, seen.3)
+  pub units_read-positive : 0 < units_read
+  units_read-positive = omega (arith, size_of-positive seen.0, read, seen.3)
 
   pub seen-within : at ≤ length units → at + units_read ≤ length units
-  seen-within inside = omega (arith, window-within units at seen.0 inside seen.1, read, seen.3)
+  seen-within inside = omega (arith, record_end-within_units units at seen.0 inside seen.1, read, seen.3)
 
   -- the record that was found to end a transaction is this one
-  pub seen-ended : at ≤ length units → (rec : Rec) → end ≡ Some rec → Stands units at units_read rec
-  seen-ended inside rec is = subst (Stands units at units_read) (sym (ended-same seen.0 rec (sym seen.2 ∙ is)))
+  pub seen_end-stands : at ≤ length units → (rec : Rec) → end ≡ Some rec → Stands units at units_read rec
+  seen_end-stands inside rec is = subst (Stands units at units_read) (sym (ended-same seen.0 rec (sym seen.2 ∙ is)))
       record { begins = seen.1; size_is = read ∙ seen.3; within = seen-within inside }
 
 -- the records whose units end at this index were told, and the others were not, whatever they are
@@ -41,9 +41,9 @@ IsToldUpTo voice from at units text lines before after =
 module _ {voice : Voice} {from at : ℕ} {units text : List ℕ} {lines : ℕ} {before after : Tally}
     (told : IsToldUpTo voice from at units text lines before after) where
   -- where units are left, they begin with a record
-  pub IsToldUpTo-begins : (records : List Rec) × AreUnitsOf units records → at < length units → (rec : Rec) × BeginsWith (drop at units) rec
-  IsToldUpTo-begins (records, spells) within =
-      told-begins voice from at units text lines before after records (told records spells) spells.spellable within
+  pub IsToldUpTo-record_begins : (records : List Rec) × AreUnitsOf units records → at < length units → (rec : Rec) × BeginsWith (drop at units) rec
+  IsToldUpTo-record_begins (records, spells) within =
+      told-record_begins voice from at units text lines before after records (told records spells) spells.spellable within
 
   -- one more record was told, which ends a transaction
   pub IsToldUpTo-more : (rec : Rec) (size start end : ℕ) (next : Tally) (count : ℕ) → Stands units at size rec → start ≡ from
@@ -55,17 +55,17 @@ module _ {voice : Voice} {from at : ℕ} {units text : List ℕ} {lines : ℕ} {
       stands.size_is (ends ∙ ap (λ n. n + (at + size)) starts) done refused count count_is
 
   -- one that ends none
-  pub IsToldUpTo-still : (size units_read : ℕ) (end : Option Rec) → IsSeen units at end size → units_read ≡ size → end ≡ None
+  pub IsToldUpTo-push_silent : (size units_read : ℕ) (end : Option Rec) → IsSeen units at end size → units_read ≡ size → end ≡ None
       → IsToldUpTo voice from (at + units_read) units text lines before after
-  IsToldUpTo-still size units_read end seen read is records spells =
-      told-still voice from at units text lines before after records (told records spells) spells.spellable seen.0 seen.1 units_read
-      (from + (at + units_read)) (read ∙ seen.3) refl (ended-silent voice (from + (at + units_read)) seen.0 (sym seen.2 ∙ is))
+  IsToldUpTo-push_silent size units_read end seen read is records spells =
+      told-push_silent voice from at units text lines before after records (told records spells) spells.spellable seen.0 seen.1 units_read
+      (from + (at + units_read)) (read ∙ seen.3) refl (ended_none-silent voice (from + (at + units_read)) seen.0 (sym seen.2 ∙ is))
 
   -- of the lines told a part was written
-  pub IsToldUpTo-part : (written unwritten : List ℕ) → text ≡ written ++ unwritten → 0 < length unwritten
+  pub IsToldUpTo-tells_front : (written unwritten : List ℕ) → text ≡ written ++ unwritten → 0 < length unwritten
       → (records : List Rec) → AreUnitsOf units records → TellsFront voice from records written before after
-  IsToldUpTo-part written unwritten parts some records spells =
-      told-part voice from at units text lines before after records (told records spells) spells.spellable written unwritten parts some
+  IsToldUpTo-tells_front written unwritten parts some records spells =
+      told-tells_front voice from at units text lines before after records (told records spells) spells.spellable written unwritten parts some
 
   -- no units are left
   pub IsToldUpTo-all : length units ≤ at

@@ -17,17 +17,17 @@ unit-at (first ∷ units) zero unit rest is = ap (λ us. get_or us 0 0) is
 unit-at (first ∷ units) (suc at) unit rest is = unit-at units at unit rest is
 
 -- a record's spelling is the unit at which it begins, and further ones
-pub spelling-at : (r : Rec) (units : List ℕ) (at unit : ℕ) → BeginsWith (drop at units) r → unit ≡ get_or units at 0
+pub spelling-first_unit : (r : Rec) (units : List ℕ) (at unit : ℕ) → BeginsWith (drop at units) r → unit ≡ get_or units at 0
     → spelling r ≡ unit ∷ (parts_of r).body
-spelling-at r units at unit begins is =
+spelling-first_unit r units at unit begins is =
     let p = parts_of r in
     let front : drop at units ≡ first_unit p ∷ p.body ++ begins.1 = begins.2 ∙ ap (λ us. us ++ begins.1) (spelling-parts_of r) in
     spelling-parts_of r ∙ ap (λ u. u ∷ p.body) (sym (unit-at units at (first_unit p) (p.body ++ begins.1) front) ∙ sym is)
 
 -- the header tells how many units the record has
-pub size-told : (r : Rec) (k n f t : ℕ) (body : List ℕ) → IsSpellable r → n < 256 → f < 2 ^ 16 → t < 2 ^ 32
+pub header-tells_length : (r : Rec) (k n f t : ℕ) (body : List ℕ) → IsSpellable r → n < 256 → f < 2 ^ 16 → t < 2 ^ 32
     → spelling r ≡ header k n f t ∷ body → length (spelling r) ≡ n
-size-told r k n f t body ok n_fits f_fits t_fits is =
+header-tells_length r k n f t body ok n_fits f_fits t_fits is =
     let p = parts_of r in
     let fits = parts_of-fit r ok in
     let joined : first_unit p ∷ p.body ≡ header k n f t ∷ body = sym (spelling-parts_of r) ∙ is in
@@ -47,13 +47,13 @@ silent-none : (voice : Voice) (end : ℕ) (r : Rec) → end_line end r ≡ [] �
 silent-none Lines end r none done refused = record { done = done; refused = refused; said = none; lines = omega (arith, done, refused) }
 silent-none Count end r none done refused = record { done = done; refused = refused; said = refl; lines = refl }
 
-pub ended-silent : (voice : Voice) (end : ℕ) (r : Rec) → ended r ≡ None → Silent voice end r
-ended-silent voice end (Genesis account balance) is = silent-none voice end _ refl refl refl
-ended-silent voice end (Update txn account delta prev) is = silent-none voice end _ refl refl refl
-ended-silent voice end (Commit txn legs) is = absurd cc
-ended-silent voice end (Short txn leg) is = absurd cc
-ended-silent voice end (Over txn leg) is = absurd cc
-ended-silent voice end (Note txn text) is = silent-none voice end _ refl refl refl
+pub ended_none-silent : (voice : Voice) (end : ℕ) (r : Rec) → ended r ≡ None → Silent voice end r
+ended_none-silent voice end (Genesis account balance) is = silent-none voice end _ refl refl refl
+ended_none-silent voice end (Update txn account delta prev) is = silent-none voice end _ refl refl refl
+ended_none-silent voice end (Commit txn legs) is = absurd cc
+ended_none-silent voice end (Short txn leg) is = absurd cc
+ended_none-silent voice end (Over txn leg) is = absurd cc
+ended_none-silent voice end (Note txn text) is = silent-none voice end _ refl refl refl
 
 pub ended-same : (r end : Rec) → ended r ≡ Some end → end ≡ r
 ended-same (Genesis account balance) end is = absurd cc

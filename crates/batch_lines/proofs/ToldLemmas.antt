@@ -15,20 +15,20 @@ use Rattle.end_lines.specs.declared.voice.Voice.TheVariants.{Lines, Count}
 use Rattle.end_lines.specs.EndLines.{text_of, lines_in, line_said, count_said, is_done, is_refused}
 use Rattle.end_lines.specs.Telling.{TellsAll, TellsFront, counted}
 use Rattle.batch_lines.proofs.HeadLemmas.{Silent}
-use Rattle.end_lines.proofs.LineLemmas.{text_of-append, text_of-one, lines_in-append, lines_in-one, counted-append}
+use Rattle.end_lines.proofs.LineLemmas.{text_of-append, text_of-one_record, lines_in-append, lines_in-one_record, counted-append}
 
 -- a spelling has at least one unit
-pub size_of-some : (rec : Rec) → 0 < size_of rec
-size_of-some rec = omega (arith, ap length (spelling-parts_of rec))
+pub size_of-positive : (rec : Rec) → 0 < size_of rec
+size_of-positive rec = omega (arith, ap length (spelling-parts_of rec))
 
-pub size_of-begins : (units : List ℕ) (rec : Rec) → BeginsWith units rec → size_of rec ≤ length units
-size_of-begins units rec begins = omega (arith, ap length begins.2, length-append (spelling rec) begins.1)
+pub begins_with-size_of_le : (units : List ℕ) (rec : Rec) → BeginsWith units rec → size_of rec ≤ length units
+begins_with-size_of_le units rec begins = omega (arith, ap length begins.2, length-append (spelling rec) begins.1)
 
 -- the record ends within the units
-pub window-within : (units : List ℕ) (at : ℕ) (rec : Rec) → at ≤ length units → BeginsWith (drop at units) rec
+pub record_end-within_units : (units : List ℕ) (at : ℕ) (rec : Rec) → at ≤ length units → BeginsWith (drop at units) rec
     → at + size_of rec ≤ length units
-window-within units at rec within begins =
-    omega (arith, within, size_of-begins _ rec begins, length-drop at units)
+record_end-within_units units at rec within begins =
+    omega (arith, within, begins_with-size_of_le _ rec begins, length-drop at units)
 
 -- it ends at most one transaction
 ends-one : (rec : Rec) → is_done rec + is_refused rec ≤ 1
@@ -39,12 +39,12 @@ ends-one (Short txn leg) = omega arith
 ends-one (Over txn leg) = omega arith
 ends-one (Note txn text) = omega arith
 
-pub ends-few : (rec : Rec) → is_done rec + is_refused rec ≤ size_of rec
-ends-few rec = omega (arith, ends-one rec, size_of-some rec)
+pub is_done_is_refused-le_size_of : (rec : Rec) → is_done rec + is_refused rec ≤ size_of rec
+is_done_is_refused-le_size_of rec = omega (arith, ends-one rec, size_of-positive rec)
 
-pub count_said-few : (voice : Voice) (rec : Rec) → count_said voice rec ≤ size_of rec
-count_said-few Lines rec = ends-few rec
-count_said-few Count rec = omega arith
+pub count_said-le_size_of : (voice : Voice) (rec : Rec) → count_said voice rec ≤ size_of rec
+count_said-le_size_of Lines rec = is_done_is_refused-le_size_of rec
+count_said-le_size_of Count rec = omega arith
 
 AllByRecursion-behind : (P : Rec → Type 0) (xs ys : List Rec) → AllByRecursion P (xs ++ ys) → AllByRecursion P ys
 AllByRecursion-behind P [] ys all = all
@@ -108,8 +108,8 @@ module _ (voice : Voice) (from at : ℕ) (units text : List ℕ) (lines : ℕ) (
   unseen-spellable = AllByRecursion-behind IsSpellable told.seen told.unseen (subst (AllByRecursion IsSpellable) told.whole spellable)
 
   -- where units are left, they begin with a record
-  pub told-begins : at < length units → (rec : Rec) × BeginsWith (drop at units) rec
-  told-begins within = by-unseen told.unseen unseen-spellable told.left
+  pub told-record_begins : at < length units → (rec : Rec) × BeginsWith (drop at units) rec
+  told-record_begins within = by-unseen told.unseen unseen-spellable told.left
     where
       by-unseen : (unseen : List Rec) → AllByRecursion IsSpellable unseen → drop at units ≡ units_of unseen
           → (rec : Rec) × BeginsWith (drop at units) rec
@@ -126,7 +126,7 @@ module _ (voice : Voice) (from at : ℕ) (units text : List ℕ) (lines : ℕ) (
     where
       by-unseen : (unseen : List Rec) → AllByRecursion IsSpellable unseen → drop at units ≡ units_of unseen → told.unseen ≡ unseen
           → Goes rec
-      by-unseen [] all left is = absurd (omega (arith, size_of-some rec, size_of-begins _ rec begins, ap length left))
+      by-unseen [] all left is = absurd (omega (arith, size_of-positive rec, begins_with-size_of_le _ rec begins, ap length left))
       by-unseen (next ∷ unseen) all left is =
           let same = spelling-append-injective next rec _ _ all.0 begins.0
           (sym left ∙ begins.2) in
@@ -148,7 +148,7 @@ module _ (voice : Voice) (from at : ℕ) (units text : List ℕ) (lines : ℕ) (
     said-more =
         text_of-append voice from told.seen (rec ∷ []) ∙ ap (λ us. us ++ text_of voice (from + length (units_of told.seen)) (rec ∷ []))
         (sym told.said)
-        ∙ ap (λ us. text ++ us) (text_of-one voice (from + length (units_of told.seen)) rec ∙ ap (λ n. line_said voice n rec) end-more)
+        ∙ ap (λ us. text ++ us) (text_of-one_record voice (from + length (units_of told.seen)) rec ∙ ap (λ n. line_said voice n rec) end-more)
 
     counts-more : next ≡ counted before (told.seen ++ rec ∷ [])
     counts-more = (λ i. record { done = done_is i; refused = refused_is i })
@@ -173,22 +173,22 @@ module _ (voice : Voice) (from at : ℕ) (units text : List ℕ) (lines : ℕ) (
           ∙ ap (drop (size_of rec)) (told.left ∙ ap units_of (goes rec begins).whole) ∙ drop-append_seam (spelling rec) (units_of rest);
       place = omega (arith, told.place, size_is, units-more told.seen);
       said = sym said-more;
-      lines_are = omega (arith, told.lines_are, count_is, lines_in-one voice rec, lines_in-append voice told.seen (rec ∷ []));
+      lines_are = omega (arith, told.lines_are, count_is, lines_in-one_record voice rec, lines_in-append voice told.seen (rec ∷ []));
       counts = counts-more;
     }
 
   -- one that ends no transaction
-  pub told-still : (rec : Rec) → BeginsWith (drop at units) rec → (size end : ℕ) → size ≡ size_of rec → end ≡ from + (at + size)
+  pub told-push_silent : (rec : Rec) → BeginsWith (drop at units) rec → (size end : ℕ) → size ≡ size_of rec → end ≡ from + (at + size)
       → Silent voice end rec → ToldUpTo voice from (at + size) units text lines before after records
-  told-still rec begins size end size_is end_is silent =
+  told-push_silent rec begins size end size_is end_is silent =
       subst (λ (p : List ℕ × ℕ). ToldUpTo voice from (at + size) units p.0 p.1 before after records)
       (λ i. ((ap (λ us. text ++ us) silent.said ∙ append-nil text) i, none-more lines i))
       (told-more rec begins size end after size_is end_is (omega (arith, silent.done)) (omega (arith, silent.refused)) 0 (sym silent.lines))
 
   -- of the lines told a part was written
-  pub told-part : (written unwritten : List ℕ) → text ≡ written ++ unwritten → 0 < length unwritten
+  pub told-tells_front : (written unwritten : List ℕ) → text ≡ written ++ unwritten → 0 < length unwritten
       → TellsFront voice from records written before after
-  told-part written unwritten parts some = record {
+  told-tells_front written unwritten parts some = record {
     told = told.seen;
     untold = told.unseen;
     whole = told.whole;
@@ -206,7 +206,7 @@ module _ (voice : Voice) (from at : ℕ) (units text : List ℕ) (lines : ℕ) (
     length-drop at units,
     ap length left,
     length-append (spelling rec) (units_of unseen),
-    size_of-some rec,
+    size_of-positive rec,
   ))
 
   -- no units are left

@@ -10,9 +10,9 @@ use Rattle.log_recovery.proofs.TextLemmas.{rows_text-shown}
 use Rattle.cli_shared.specs.Answers.{StaysSilent}
 use Rattle.cli_shared.specs.declared.report.Detail.{Detail}
 use Rattle.cli_shared.specs.declared.report.Detail.TheVariants.{Fine, NoMemory, Usage, Script, Read, Write, Disk, NotALog, BadSnapshot, BadBatch, BadRec, Unlawful, LogEnd, TxnEnd, Exists, NoSuchLsn, BadStream, Gap, StreamUnlawful, NoAccount}
-use Rattle.cli_shared.proofs.ToldLemmas.{TellsWrite, kept-text, nothing-said}
+use Rattle.cli_shared.proofs.ToldLemmas.{TellsWrite, Keeps-refl, IfSome-nothing_said}
 use Rattle.cli_cut.specs.Answers.{AnswersCut, IsMakingFault, IsAnswerToCut}
-use Rattle.cli_shared.proofs.SourceLemmas.{source-told}
+use Rattle.cli_shared.proofs.SourceLemmas.{HasSourceFault-fault_of_bytes}
 use Rattle.cli_cut.specs.Cutting.{FollowsCut, ReadsCut}
 
 pub answers_cut-fine : (left left_new old new : Option (List ℕ)) (opening : Opening) → ReadsCut left left_new opening
@@ -43,59 +43,59 @@ pub record IsUnmade (left left_new text : Option (List ℕ)) (detail : Detail) :
   pub write : TellsWrite detail → ⊥
   pub follows : FollowsCut detail → ⊥
 
-pub unmade-fault : (left left_new text : Option (List ℕ)) (detail : Detail) → IsMakingFault left left_new detail
+pub making_fault-unmade : (left left_new text : Option (List ℕ)) (detail : Detail) → IsMakingFault left left_new detail
     → IsUnmade left left_new text detail
-unmade-fault left left_new text NotALog is = record {
-  answer = source-told left left_new fault.NotALog is;
+making_fault-unmade left left_new text NotALog is = record {
+  answer = HasSourceFault-fault_of_bytes left left_new fault.NotALog is;
   range = tt;
-  silent = kept-text text;
+  silent = Keeps-refl text;
   write = λ tells. tells;
   follows = λ follows. follows;
 }
-unmade-fault left left_new text BadSnapshot is = record {
-  answer = source-told left left_new fault.BadSnapshot is;
+making_fault-unmade left left_new text BadSnapshot is = record {
+  answer = HasSourceFault-fault_of_bytes left left_new fault.BadSnapshot is;
   range = tt;
-  silent = kept-text text;
+  silent = Keeps-refl text;
   write = λ tells. tells;
   follows = λ follows. follows;
 }
-unmade-fault left left_new text (BadBatch offset) is = record {
-  answer = source-told left left_new (fault.BadBatch offset) is;
+making_fault-unmade left left_new text (BadBatch offset) is = record {
+  answer = HasSourceFault-fault_of_bytes left left_new (fault.BadBatch offset) is;
   range = tt;
-  silent = kept-text text;
+  silent = Keeps-refl text;
   write = λ tells. tells;
   follows = λ follows. follows;
 }
-unmade-fault left left_new text (BadRec lsn) is = record {
-  answer = source-told left left_new (fault.BadRec lsn) is;
+making_fault-unmade left left_new text (BadRec lsn) is = record {
+  answer = HasSourceFault-fault_of_bytes left left_new (fault.BadRec lsn) is;
   range = tt;
-  silent = kept-text text;
+  silent = Keeps-refl text;
   write = λ tells. tells;
   follows = λ follows. follows;
 }
-unmade-fault left left_new text (Unlawful lsn why) is = record {
-  answer = source-told left left_new (fault.Unlawful lsn why) is;
+making_fault-unmade left left_new text (Unlawful lsn why) is = record {
+  answer = HasSourceFault-fault_of_bytes left left_new (fault.Unlawful lsn why) is;
   range = tt;
-  silent = kept-text text;
+  silent = Keeps-refl text;
   write = λ tells. tells;
   follows = λ follows. follows;
 }
-unmade-fault left left_new text Read is =
-    record { answer = nothing-said left; range = tt; silent = kept-text text; write = λ tells. tells; follows = λ follows. follows }
-unmade-fault left left_new text NoMemory is =
-    record { answer = nothing-said left; range = tt; silent = kept-text text; write = λ tells. tells; follows = λ follows. follows }
-unmade-fault left left_new text Disk is =
-    record { answer = nothing-said left; range = tt; silent = kept-text text; write = λ tells. tells; follows = λ follows. follows }
-unmade-fault left left_new text Exists is =
-    record { answer = nothing-said left; range = tt; silent = kept-text text; write = λ tells. tells; follows = λ follows. follows }
-unmade-fault left left_new text (NoSuchLsn lsn) is = absurd is
-unmade-fault left left_new text (BadStream offset) is = absurd is
-unmade-fault left left_new text (Gap have from) is = absurd is
-unmade-fault left left_new text (StreamUnlawful lsn why) is = absurd is
-unmade-fault left left_new text (NoAccount account) is = absurd is
-unmade-fault left left_new text Usage is = absurd is
-unmade-fault left left_new text (Script line) is = absurd is
-unmade-fault left left_new text (LogEnd tail total) is = absurd is
-unmade-fault left left_new text (TxnEnd first count) is = absurd is
-unmade-fault left left_new text Fine is = absurd is
-unmade-fault left left_new text Write is = absurd is
+making_fault-unmade left left_new text Read is =
+    record { answer = IfSome-nothing_said left; range = tt; silent = Keeps-refl text; write = λ tells. tells; follows = λ follows. follows }
+making_fault-unmade left left_new text NoMemory is =
+    record { answer = IfSome-nothing_said left; range = tt; silent = Keeps-refl text; write = λ tells. tells; follows = λ follows. follows }
+making_fault-unmade left left_new text Disk is =
+    record { answer = IfSome-nothing_said left; range = tt; silent = Keeps-refl text; write = λ tells. tells; follows = λ follows. follows }
+making_fault-unmade left left_new text Exists is =
+    record { answer = IfSome-nothing_said left; range = tt; silent = Keeps-refl text; write = λ tells. tells; follows = λ follows. follows }
+making_fault-unmade left left_new text (NoSuchLsn lsn) is = absurd is
+making_fault-unmade left left_new text (BadStream offset) is = absurd is
+making_fault-unmade left left_new text (Gap have from) is = absurd is
+making_fault-unmade left left_new text (StreamUnlawful lsn why) is = absurd is
+making_fault-unmade left left_new text (NoAccount account) is = absurd is
+making_fault-unmade left left_new text Usage is = absurd is
+making_fault-unmade left left_new text (Script line) is = absurd is
+making_fault-unmade left left_new text (LogEnd tail total) is = absurd is
+making_fault-unmade left left_new text (TxnEnd first count) is = absurd is
+making_fault-unmade left left_new text Fine is = absurd is
+making_fault-unmade left left_new text Write is = absurd is

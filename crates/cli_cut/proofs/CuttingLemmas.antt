@@ -21,8 +21,8 @@ module _ (left left_new : Option (List ℕ)) (opening : Opening) (reads : ReadsC
   cut-left images c (inl none) = inr (inl none)
   cut-left images c (inr held) = inr (inr (reads.1, opening, source-read left left_new opening reads, reads.4, held))
 
-  pub all-cut : (tail : Tail) (images : List ℕ → Type 0) → LogStands tail (cut_log opening) images → AllHoldCut left images
-  all-cut tail images stand = (reads.1, opening, source-read left left_new opening reads, reads.4, λ c image. (stand c image).held)
+  pub LogStands-all_hold_cut : (tail : Tail) (images : List ℕ → Type 0) → LogStands tail (cut_log opening) images → AllHoldCut left images
+  LogStands-all_hold_cut tail images stand = (reads.1, opening, source-read left left_new opening reads, reads.4, λ c image. (stand c image).held)
 
   pub leaves-cut : {D : Type 0} (moment : D → ℕ) (images_since : D → ℕ → List ℕ → Type 0) (images : List ℕ → Type 0) (old mid new : D)
       → Leaves moment images_since images old mid → Leaves moment images_since (HoldsNoneOrLog (cut_log opening)) mid new

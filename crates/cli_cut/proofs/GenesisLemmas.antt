@@ -7,7 +7,7 @@ use Rattle.log_record.specs.declared.rec.Rec.TheVariants.{Genesis}
 use Rattle.log_record.specs.LogList.{AreUnitsOf, units_of}
 use Rattle.log_record.specs.Spelling.{spelling, IsSpellable, BeginsWith}
 use Rattle.log_record.proofs.SpellingLemmas.{spelling-append-injective}
-use Rattle.log_recovery.proofs.AnswerLemmas.{some_unit}
+use Rattle.log_recovery.proofs.AnswerLemmas.{spelling_append-not_none}
 use Rattle.log_recovery.proofs.ListingLemmas.{units_of-append}
 use Rattle.lock_core.specs.Tests.{IsGenesis}
 use Rattle.lock_core.proofs.ListLemmas.{all-append, all-split}
@@ -16,10 +16,10 @@ use Rattle.cli_cut.specs.Parts.{SplitsGenesis}
 -- ---- records
 
 -- the record that the rest begins with is the first that is left
-pub first-left : (rest : List ℕ) (left : List Rec) (rec : Rec) → AllByRecursion IsSpellable left → rest ≡ units_of left → BeginsWith rest rec
+pub BeginsWith-first_record : (rest : List ℕ) (left : List Rec) (rec : Rec) → AllByRecursion IsSpellable left → rest ≡ units_of left → BeginsWith rest rec
     → (later : List Rec) × (left ≡ rec ∷ later) × (drop (length (spelling rec)) rest ≡ units_of later)
-first-left rest [] rec each is begins = absurd (some_unit rec begins.1 (sym begins.2 ∙ is))
-first-left rest (first ∷ later) rec each is begins =
+BeginsWith-first_record rest [] rec each is begins = absurd (spelling_append-not_none rec begins.1 (sym begins.2 ∙ is))
+BeginsWith-first_record rest (first ∷ later) rec each is begins =
     let parts = spelling-append-injective first rec (units_of later) begins.1 each.0 begins.0 (sym is ∙ begins.2) in
     (later, ap (λ r. r ∷ later) parts.0, ap (drop (length (spelling rec))) begins.2 ∙ drop-append_seam (spelling rec) begins.1 ∙ sym parts.1)
 
@@ -33,8 +33,8 @@ pub record HasTakenGenesis (units rest : List ℕ) : Type 0 where
   pub rest_is : rest ≡ units_of left
   pub all : AllByRecursion IsGenesis genesis
 
-pub genesis-none : (units : List ℕ) (list : (records : List Rec) × AreUnitsOf units records) → HasTakenGenesis units units
-genesis-none units list = record { genesis = []; left = list.0; list = list.1; rest_is = list.1.units_are; all = tt }
+pub HasTakenGenesis-none : (units : List ℕ) (list : (records : List Rec) × AreUnitsOf units records) → HasTakenGenesis units units
+HasTakenGenesis-none units list = record { genesis = []; left = list.0; list = list.1; rest_is = list.1.units_are; all = tt }
 
 left-spellable : (units rest : List ℕ) (taken : HasTakenGenesis units rest) → AllByRecursion IsSpellable taken.left
 left-spellable units rest taken = (all-split IsSpellable taken.genesis taken.left taken.list.spellable).1
@@ -44,10 +44,10 @@ first-moved : (genesis left : List Rec) (rec : Rec) (later : List Rec) → left 
 first-moved genesis left rec later split = ap (λ left. genesis ++ left) split ∙ sym (append_assoc genesis (rec ∷ []) later)
 
 -- one Genesis more
-pub genesis-more : (units rest after : List ℕ) (account balance : ℕ) (taken : HasTakenGenesis units rest) → BeginsWith rest (Genesis account balance)
+pub HasTakenGenesis-push : (units rest after : List ℕ) (account balance : ℕ) (taken : HasTakenGenesis units rest) → BeginsWith rest (Genesis account balance)
     → after ≡ drop (length (spelling (Genesis account balance))) rest → HasTakenGenesis units after
-genesis-more units rest after account balance taken begins dropped =
-    let found = first-left rest taken.left (Genesis account balance) (left-spellable units rest taken) taken.rest_is begins in
+HasTakenGenesis-push units rest after account balance taken begins dropped =
+    let found = BeginsWith-first_record rest taken.left (Genesis account balance) (left-spellable units rest taken) taken.rest_is begins in
     record {
       genesis = taken.genesis ++ Genesis account balance ∷ [];
       left = found.0;
@@ -63,9 +63,9 @@ first-begins left rec later rest each is split =
     ((subst (AllByRecursion IsSpellable) split each).0, units_of later, is ∙ ap units_of split)
 
 -- where no Genesis begins the rest, the split is there
-pub genesis-split : (units rest : List ℕ) (taken : HasTakenGenesis units rest) → ((rec : Rec) → BeginsWith rest rec → IsGenesis rec → ⊥) → (front : ℕ)
+pub HasTakenGenesis-splits_genesis : (units rest : List ℕ) (taken : HasTakenGenesis units rest) → ((rec : Rec) → BeginsWith rest rec → IsGenesis rec → ⊥) → (front : ℕ)
     → front ≡ length units - length rest → SplitsGenesis units front
-genesis-split units rest taken other front place =
+HasTakenGenesis-splits_genesis units rest taken other front place =
     let whole = ap length (taken.list.units_are ∙ units_of-append taken.genesis taken.left) in
     record {
       genesis = taken.genesis;

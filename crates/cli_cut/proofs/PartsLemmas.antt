@@ -15,20 +15,20 @@ use Rattle.cli_shared.specs.Answers.{ReadsAll}
 use Rattle.cli_cut.specs.Cutting.{IsCutOf}
 use Rattle.cli_cut.specs.Parts.{ArePartsOf, IsGenesisFront, SplitsGenesis}
 use Rattle.cli_cut.specs.declared.reading.Parts.{Parts}
-use Rattle.cli_cut.proofs.FrontLemmas.{behind-units, front-inside, split-is, split-none}
+use Rattle.cli_cut.proofs.FrontLemmas.{drop_front-later_units, front-within_units, list_records-split, split_later-no_genesis}
 
 -- the list that was read is the one that was listed, which is lawful
 module _ (bytes : List ℕ) (listed : Listed) (found : ListsBytes listed bytes) (list : OpenedList) (held : HoldsLawful bytes list) where
-  pub same-listed : list ≡ list_of listed found.records
-  same-listed = one-list bytes list (list_of listed found.records) held.list found.held
+  pub held_list-is_listed : list ≡ list_of listed found.records
+  held_list-is_listed = one-list bytes list (list_of listed found.records) held.list found.held
 
   pub listed-lawful : HoldsLawful bytes (list_of listed found.records)
-  listed-lawful = subst (HoldsLawful bytes) same-listed held
+  listed-lawful = subst (HoldsLawful bytes) held_list-is_listed held
 
   -- its front ends where LSNs do, or before
   pub genesis-front : (front : ℕ) → SplitsGenesis listed.units front → IsGenesisFront listed front
   genesis-front front split =
-      let inside = front-inside listed.units split.genesis split.later front split.list split.place in
+      let inside = front-within_units listed.units split.genesis split.later front split.list split.place in
       record {
         lawful = (bytes, found.records, listed-lawful, found.has.list.units_are);
         split = split;
@@ -41,7 +41,7 @@ module _ (left left_new : Option (List ℕ)) (parts : Parts) (bytes : List ℕ) 
     (cut : (genesis later : List Rec) → AreUnitsOf parts.listed.units (genesis ++ later) → parts.front ≡ length (units_of genesis)
     → IsCutOf (list_of parts.listed genesis) parts.head) where
   same : recovers.list ≡ list_of parts.listed found.records
-  same = same-listed bytes parts.listed found recovers.list recovers.held
+  same = held_list-is_listed bytes parts.listed found recovers.list recovers.held
 
   lawful : HoldsLawful bytes (list_of parts.listed found.records)
   lawful = listed-lawful bytes parts.listed found recovers.list recovers.held
@@ -50,7 +50,7 @@ module _ (left left_new : Option (List ℕ)) (parts : Parts) (bytes : List ℕ) 
   made = record { opening = parts.head; records = split.later }
 
   whole : found.records ≡ split.genesis ++ split.later
-  whole = split-is bytes (list_of parts.listed found.records) lawful parts.listed.units found.has.list.units_are parts.front split
+  whole = list_records-split bytes (list_of parts.listed found.records) lawful parts.listed.units found.has.list.units_are parts.front split
 
   is_cut : IsCutOf (list_of parts.listed split.genesis) parts.head
   is_cut = cut split.genesis split.later split.list split.place
@@ -65,8 +65,8 @@ module _ (left left_new : Option (List ℕ)) (parts : Parts) (bytes : List ℕ) 
     length-append (units_of split.genesis) (units_of split.later),
   )
 
-  pub are-parts : ReadsAll left left_new bytes → parts.batch.units ≡ [] → parts.batch.room ≡ MOST_UNITS → ArePartsOf left left_new parts
-  are-parts read none room = record {
+  pub ReadsAll-are_parts : ReadsAll left left_new bytes → parts.batch.units ≡ [] → parts.batch.room ≡ MOST_UNITS → ArePartsOf left left_new parts
+  ReadsAll-are_parts read none room = record {
     bytes = bytes;
     read = read;
     recovers = recovers;
@@ -75,13 +75,13 @@ module _ (left left_new : Option (List ℕ)) (parts : Parts) (bytes : List ℕ) 
       genesis = split.genesis;
       whole = ap (λ (list : OpenedList). list.records) same ∙ whole;
       all = split.all;
-      none = split-none bytes (list_of parts.listed found.records) lawful parts.listed.units found.has.list.units_are parts.front split;
+      none = split_later-no_genesis bytes (list_of parts.listed found.records) lawful parts.listed.units found.has.list.units_are parts.front split;
       opening = subst (λ (list : OpenedList). IsCutOf (with_front list split.genesis) parts.head) (sym same) is_cut;
     };
     spellable = (all-split IsSpellable split.genesis split.later split.list.spellable).1;
     head = refl;
-    units = behind-units parts.listed.units split.genesis split.later parts.front split.list split.place;
-    within = front-inside parts.listed.units split.genesis split.later parts.front split.list split.place;
+    units = drop_front-later_units parts.listed.units split.genesis split.later parts.front split.list split.place;
+    within = front-within_units parts.listed.units split.genesis split.later parts.front split.list split.place;
     fits = made-fits;
     none = none;
     room = room;

@@ -16,7 +16,7 @@ use Rattle.log_record.specs.LogList.{AreUnitsOf, units_of, end_of, size_of}
 use Rattle.log_record.specs.Spelling.{spelling, IsSpellable, BeginsWith}
 use Rattle.log_record.proofs.BoundLemmas.{length-spelling}
 use Rattle.log_recovery.specs.Opened.{OpenedList, log_of}
-use Rattle.log_recovery.proofs.AnswerLemmas.{some_unit}
+use Rattle.log_recovery.proofs.AnswerLemmas.{spelling_append-not_none}
 use Rattle.segment_file.specs.declared.layout.TheConstants.{MOST_UNITS}
 use Rattle.segment_file.specs.declared.scan_result.Tail.{Tail}
 use Rattle.segment_file.specs.File.{BeginsAsLog, joined}
@@ -25,7 +25,7 @@ use Rattle.segment_cut.specs.Underway.{HoldsNoneOrBatches, IsUnderway}
 use Rattle.ship_stream.specs.Frames.{packed_behind}
 use Rattle.cli_cut.specs.Batches.{batches_of}
 use Rattle.cli_cut.specs.Writing.{WritesLog}
-use Rattle.cli_cut.proofs.WritingLemmas.{IsWriting, writing-begun, writing-flushed, writing-full, writing-taken}
+use Rattle.cli_cut.proofs.WritingLemmas.{IsWriting, writing-begun, writing-flushed, packed_behind-no_room, writing-taken}
 
 -- before a record, whatever records the units spell
 pub record IsReady {D : Type 0} (g : Ghosts D) (begun : D) (opening : Opening) (units : List ℕ) (now : D) (tail : Tail) (waiting : List ℕ) (room : ℕ)
@@ -62,7 +62,7 @@ none-left rest (rec ∷ left) each is none = absurd (none rec (each.0, units_of 
 -- no units are those of no record
 none-waits : (waits : List Rec) → [] ≡ units_of waits → waits ≡ []
 none-waits [] is = refl
-none-waits (rec ∷ waits) is = absurd (some_unit rec (units_of waits) (sym is))
+none-waits (rec ∷ waits) is = absurd (spelling_append-not_none rec (units_of waits) (sym is))
 
 -- records with units are the last batch
 last-waits : (waiting : List ℕ) (waits : List Rec) → waiting ≡ units_of waits → 0 < length waiting → packed_behind MOST_UNITS waits [] ≡ waits ∷ packed_behind MOST_UNITS [] []
@@ -91,8 +91,8 @@ own-units rest own rec size begins size_is front =
     front ∙ ap (λ n. take n rest) size_is ∙ ap (take (size_of rec)) begins.2 ∙ take-append_seam (spelling rec) begins.1
 
 -- before a record that doesn't fit some wait
-pub some-full : (waiting : ℕ) (rec : Rec) → IsSpellable rec → MOST_UNITS < waiting + size_of rec → 0 < waiting
-some-full waiting rec spellable full = omega (arith, full, length-spelling rec spellable)
+pub no_room-some_waiting : (waiting : ℕ) (rec : Rec) → IsSpellable rec → MOST_UNITS < waiting + size_of rec → 0 < waiting
+no_room-some_waiting waiting rec spellable full = omega (arith, full, length-spelling rec spellable)
 
 module _ {D : Type 0} (g : Ghosts D) (begun : D) (opening : Opening) (units : List ℕ) where
   -- ---- before a record
@@ -133,11 +133,11 @@ module _ {D : Type 0} (g : Ghosts D) (begun : D) (opening : Opening) (units : Li
   }
 
   -- the head couldn't be written
-  pub failed-begun : {T E : Type 0} (error : E) (new : D) → (g.honest begun → Leaves g.moment g.images_since (λ c. BeginsAsLog c → ⊥) begun new)
+  pub head_failed-writes_log : {T E : Type 0} (error : E) (new : D) → (g.honest begun → Leaves g.moment g.images_since (λ c. BeginsAsLog c → ⊥) begun new)
       → (g.honest begun → Costs g 3 4 begun new) → (g.honest begun → GrowsAtMostTo g (21 + 12 * length opening.accounts) begun new)
       → g.moment begun ≤ g.moment new → (g.honest begun ↔ g.honest new) → g.attached new ≡ g.attached begun → g.faults begun ≤ g.faults new
       → Rose (g.faults begun) (g.faults new) → WritesLog {T = T} g opening units begun new (Err error)
-  failed-begun error new moments count grows = failed-log error new (λ first records are. moments first)
+  head_failed-writes_log error new moments count grows = failed-log error new (λ first records are. moments first)
       (λ first records are. record { successes = omega (arith, (count first).successes); calls = omega (arith, (count first).calls) })
       (λ first records are. omega (arith, grows first))
 
@@ -168,22 +168,22 @@ module _ {D : Type 0} (g : Ghosts D) (begun : D) (opening : Opening) (units : Li
       writing = ready.writing some.0 some.1
 
       -- as many units as are written, wait and are left
-      pub all-units : length units ≡ length (joined writing.done) + length waiting + length rest
-      all-units = omega (
+      pub units_length-split : length units ≡ length (joined writing.done) + length waiting + length rest
+      units_length-split = omega (
         arith,
         ap length (some.1.units_are ∙ writing.whole),
         length-append (joined writing.done ++ waiting) rest,
         length-append (joined writing.done) waiting,
       )
 
-      pub can-fit : opening.lsn + length units ≤ LAST → tail.next + length waiting ≤ LAST
-      can-fit fits = omega (arith, fits, writing.next, all-units)
+      pub waiting-within_last : opening.lsn + length units ≤ LAST → tail.next + length waiting ≤ LAST
+      waiting-within_last fits = omega (arith, fits, writing.next, units_length-split)
 
-      pub can-place : IsSnapshot opening → tail.at ≤ 2 ^ 63 + 16 * tail.next
-      can-place held = omega (arith, held.most, writing.at, writing.some, writing.next)
+      pub tail_at-within_bound : IsSnapshot opening → tail.at ≤ 2 ^ 63 + 16 * tail.next
+      tail_at-within_bound held = omega (arith, held.most, writing.at, writing.some, writing.next)
 
-      pub can-add : g.honest now → (log : Log) × (batches : List (List ℕ)) × IsUnderway tail log batches (g.reads now) (g.images now)
-      can-add honest = (with_units (cut_log opening) (joined writing.done), writing.done, writing.underway (ready.honest.1 honest))
+      pub ready-some_underway : g.honest now → (log : Log) × (batches : List (List ℕ)) × IsUnderway tail log batches (g.reads now) (g.images now)
+      ready-some_underway honest = (with_units (cut_log opening) (joined writing.done), writing.done, writing.underway (ready.honest.1 honest))
 
       -- a call that fails
       failed-grows : (new : D) → 0 < length waiting → (g.honest now → GrowsAtMostTo g (tail.at + 6 + 8 * length waiting) now new) → g.honest begun
@@ -196,7 +196,7 @@ module _ {D : Type 0} (g : Ghosts D) (begun : D) (opening : Opening) (units : Li
             length-append writing.done packed,
             some-batch waiting writing.waits writing.left writing.waiting_is more,
           ) in
-          omega (arith, batches, writing.grows honest, grows (ready.honest.0 honest), writing.at, all-units)
+          omega (arith, batches, writing.grows honest, grows (ready.honest.0 honest), writing.at, units_length-split)
 
     failed-count : (new : D) → (g.honest now → Costs g 1 1 now new) → g.honest begun → (records : List Rec) → AreUnitsOf units records
         → Costs g (6 + length (batches_of records)) (7 + length (batches_of records)) begun new
@@ -209,11 +209,11 @@ module _ {D : Type 0} (g : Ghosts D) (begun : D) (opening : Opening) (units : Li
         record { successes = omega (arith, before.successes, behind.successes, more); calls = omega (arith, before.calls, behind.calls, more) }
 
     -- all that is known after it
-    pub failed-writes : {T E : Type 0} (error : E) (new : D) → 0 < length waiting → (g.honest now → Leaves g.moment g.images_since (λ c. BeginsAsLog c → ⊥) now new)
+    pub flush_failed-writes_log : {T E : Type 0} (error : E) (new : D) → 0 < length waiting → (g.honest now → Leaves g.moment g.images_since (λ c. BeginsAsLog c → ⊥) now new)
         → (g.honest now → Costs g 1 1 now new) → (g.honest now → GrowsAtMostTo g (tail.at + 6 + 8 * length waiting) now new) → g.moment now ≤ g.moment new
         → (g.honest now ↔ g.honest new) → g.attached new ≡ g.attached now → g.faults now ≤ g.faults new → Rose (g.faults now) (g.faults new)
         → WritesLog {T = T} g opening units begun new (Err error)
-    failed-writes error new some moments count grows later honest attached more rose = failed-log error new
+    flush_failed-writes_log error new some moments count grows later honest attached more rose = failed-log error new
         (λ first records are. Leaves-trans g.moment g.images_since (λ c. BeginsAsLog c → ⊥) begun now new ((ready.writing records are).moments first)
         (moments (ready.honest.0 first)))
         (failed-count new count) (λ first records are. failed-grows (records, are) new some grows first) (omega (arith, ready.later, later))
@@ -247,11 +247,11 @@ module _ {D : Type 0} (g : Ghosts D) (begun : D) (opening : Opening) (units : Li
       -- before a record that doesn't fit
       pub ready-flushed : (rec : Rec) → BeginsWith rest rec → MOST_UNITS < length waiting + size_of rec → IsReady g begun opening units new after [] room rest
       ready-flushed rec begins full =
-          flushed (λ records are. writing-full g opening records begun now tail waiting rest rec (ready.writing records are) begins full)
+          flushed (λ records are. packed_behind-no_room g opening records begun now tail waiting rest rec (ready.writing records are) begins full)
 
       -- behind the last record
-      pub ready-last : ((rec : Rec) → BeginsWith rest rec → ⊥) → IsReady g begun opening units new after [] room rest
-      ready-last none = flushed (λ records are.
+      pub ready-flushed_last : ((rec : Rec) → BeginsWith rest rec → ⊥) → IsReady g begun opening units new after [] room rest
+      ready-flushed_last none = flushed (λ records are.
           let writing = ready.writing records are in
           let left = none-left rest writing.left writing.spellable writing.rest_is none in
           ap (packed_behind MOST_UNITS writing.waits) left ∙ last-waits waiting writing.waits writing.waiting_is more
@@ -305,16 +305,16 @@ module _ {D : Type 0} (g : Ghosts D) (begun : D) (opening : Opening) (units : Li
   }
 
   -- the same, of a disk that is equal
-  pub gathered : (now new : D) → new ≡ now → (tail : Tail) (rest : List ℕ) (room : ℕ) → IsReady g begun opening units now tail [] room rest
+  pub ready-gathered : (now new : D) → new ≡ now → (tail : Tail) (rest : List ℕ) (room : ℕ) → IsReady g begun opening units now tail [] room rest
       → ((rec : Rec) → BeginsWith rest rec → ⊥) → (records : List Rec) × AreUnitsOf units records → IsGathered g begun opening units new
-  gathered now new same tail rest room ready none some =
+  ready-gathered now new same tail rest room ready none some =
       subst (IsGathered g begun opening units) (sym same) (gathered-now now tail rest room ready none some)
 
   -- the same, where it turns out that nothing waits
-  pub gathered-none : (now new : D) → new ≡ now → (tail : Tail) (waiting rest : List ℕ) (room : ℕ) → IsReady g begun opening units now tail waiting room rest
+  pub ready-gathered_none_waiting : (now new : D) → new ≡ now → (tail : Tail) (waiting rest : List ℕ) (room : ℕ) → IsReady g begun opening units now tail waiting room rest
       → length waiting ≡ 0 → ((rec : Rec) → BeginsWith rest rec → ⊥) → (records : List Rec) × AreUnitsOf units records → IsGathered g begun opening units new
-  gathered-none now new same tail waiting rest room ready empty none some =
-      gathered now new same tail rest room
+  ready-gathered_none_waiting now new same tail waiting rest room ready empty none some =
+      ready-gathered now new same tail rest room
       (subst (λ waits. IsReady g begun opening units now tail waits room rest) (none-there waiting empty) ready) none some
 
   module _ (now : D) (all : IsGathered g begun opening units now) where
@@ -323,24 +323,24 @@ module _ {D : Type 0} (g : Ghosts D) (begun : D) (opening : Opening) (units : Li
     gathered-underway honest made is are = subst (λ (log : Log). IsUnderway all.tail log (batches_of made.records) (g.reads now) (g.images now))
         (λ i. record { opening = sym is i; units = are.units_are i }) (all.underway honest made.records are)
 
-    pub can-open : (records : List Rec) × AreUnitsOf units records → g.honest now
+    pub gathered-some_underway : (records : List Rec) × AreUnitsOf units records → g.honest now
         → (tail : Tail) × (log : Log) × (batches : List (List ℕ)) × IsUnderway tail log batches (g.reads now) (g.images now)
-    can-open some honest =
+    gathered-some_underway some honest =
         (all.tail, record { opening = opening; units = units }, batches_of some.0, all.underway (all.honest.1 honest) some.0 some.1)
 
     module _ (new : D) where
-      pub opened-moments : (g.honest now → (tail : Tail) (log : Log) (batches : List (List ℕ)) → IsUnderway tail log batches (g.reads now) (g.images now)
+      pub opened-leaves : (g.honest now → (tail : Tail) (log : Log) (batches : List (List ℕ)) → IsUnderway tail log batches (g.reads now) (g.images now)
           → Leaves g.moment g.images_since (HoldsNoneOrBatches log batches) now new) → g.honest begun → (made : OpenedList) → made.opening ≡ opening
           → AreUnitsOf units made.records → Leaves g.moment g.images_since (HoldsNoneOrBatches (log_of made) (batches_of made.records)) begun new
-      opened-moments moments honest made is are =
+      opened-leaves moments honest made is are =
           let Q : List ℕ → Type 0 = HoldsNoneOrBatches (log_of made) (batches_of made.records) in
           Leaves-trans g.moment g.images_since Q begun now new
           (Leaves-weaken g.moment g.images_since (λ c. BeginsAsLog c → ⊥) Q begun now (λ c none. inl none) (all.moments honest))
           (moments (all.honest.0 honest) all.tail (log_of made) (batches_of made.records) (gathered-underway honest made is are))
 
-      pub opened-count : (g.honest now → Costs g 3 3 now new) → g.honest begun → (records : List Rec) → AreUnitsOf units records
+      pub opened-costs : (g.honest now → Costs g 3 3 now new) → g.honest begun → (records : List Rec) → AreUnitsOf units records
           → Costs g (6 + length (batches_of records)) (7 + length (batches_of records)) begun new
-      opened-count count honest records are =
+      opened-costs count honest records are =
           let before = all.count honest records are in
           let behind = count (all.honest.0 honest) in
           record { successes = omega (arith, before.successes, behind.successes); calls = omega (arith, before.calls, behind.calls) }

@@ -33,8 +33,8 @@ row-there (first ∷ rows) (suc account) below = row-there rows account (omega (
 abbrev pub cut_list : Opening → OpenedList
 cut_list opening = record { opening = opening; records = [] }
 
-pub cut-held : (made : List ℕ) (opening : Opening) → HoldsLog made (cut_log opening) → HoldsLawful made (cut_list opening)
-cut-held made opening holds = record { list = record { each = tt; holds = holds }; lawful = tt }
+pub cut_log-holds_lawful : (made : List ℕ) (opening : Opening) → HoldsLog made (cut_log opening) → HoldsLawful made (cut_list opening)
+cut_log-holds_lawful made opening holds = record { list = record { each = tt; holds = holds }; lawful = tt }
 
 -- rows that show it are the opening's
 shows-opening : (opening : Opening) (rows : List (ℕ × ℕ)) → ShowsAccounts rows (base_with (opening_of opening) []) [] → rows ≡ opening.accounts
@@ -54,13 +54,13 @@ module _ (bytes made : List ℕ) (list : OpenedList) (opening : Opening) (a b : 
   list-before = one-list bytes before.list list before.held.list held.list
 
   list-after : after.list ≡ cut_list opening
-  list-after = one-list made after.list (cut_list opening) after.held.list (cut-held made opening holds).list
+  list-after = one-list made after.list (cut_list opening) after.held.list (cut_log-holds_lawful made opening holds).list
 
-  pub same-lsn : a.lsn ≡ b.lsn
-  same-lsn = omega (arith, before.lsn, ap list_end list-before, cut.lsn, after.lsn, ap list_end list-after)
+  pub cut_recovers-same_lsn : a.lsn ≡ b.lsn
+  cut_recovers-same_lsn = omega (arith, before.lsn, ap list_end list-before, cut.lsn, after.lsn, ap list_end list-after)
 
-  pub same-next : a.next_txn ≡ b.next_txn
-  same-next = omega (
+  pub cut_recovers-same_next_txn : a.next_txn ≡ b.next_txn
+  cut_recovers-same_next_txn = omega (
     arith,
     before.next_txn,
     ap (λ (l : OpenedList). (opening_after (opening_of l.opening) (placed l)).txn) list-before,
@@ -69,8 +69,8 @@ module _ (bytes made : List ℕ) (list : OpenedList) (opening : Opening) (a b : 
     ap (λ (l : OpenedList). (opening_after (opening_of l.opening) (placed l)).txn) list-after,
   )
 
-  pub same-accounts : a.accounts.rows ≡ b.accounts.rows
-  same-accounts =
+  pub cut_recovers-same_accounts : a.accounts.rows ≡ b.accounts.rows
+  cut_recovers-same_accounts =
       let first = subst (λ (l : OpenedList). ShowsAccounts a.accounts.rows (base_with (opening_of l.opening) (placed l)) (placed l)) list-before before.accounts in
       let second = subst (λ (l : OpenedList). ShowsAccounts b.accounts.rows (base_with (opening_of l.opening) (placed l)) (placed l)) list-after after.accounts in
       shows-same _ (placed list) a.accounts.rows opening.accounts first cut.accounts ∙ sym (shows-opening opening b.accounts.rows second)

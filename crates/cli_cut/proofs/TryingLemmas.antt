@@ -13,13 +13,13 @@ use Rattle.cli_shared.specs.Creation.{TellsWhether}
 use Rattle.cli_shared.specs.World.{TellsFaults, world}
 use Rattle.cli_shared.specs.declared.report.Detail.{Detail}
 use Rattle.cli_shared.specs.declared.report.Detail.TheVariants.{Fine, Write, Disk}
-use Rattle.cli_shared.proofs.FaultsTold.{told-before, told-fine, told-part}
+use Rattle.cli_shared.proofs.FaultsTold.{TellsFaults-not_write, TellsFaults-fine, TellsFaults-write}
 use Rattle.cli_shared.proofs.ToldLemmas.{TellsWrite}
 use Rattle.cli_cut.specs.Answers.{AnswersCut, IsAnswerToCut}
 use Rattle.cli_cut.specs.Command.{MakesLog}
 use Rattle.cli_cut.specs.Cutting.{PrecedesCut}
 use Rattle.cli_cut.specs.Trying.{TriesLog}
-use Rattle.cli_cut.proofs.AnswerLemmas.{IsUnmade, unmade-fault}
+use Rattle.cli_cut.proofs.AnswerLemmas.{IsUnmade, making_fault-unmade}
 
 -- ---- the making of a log, where none was found
 
@@ -79,10 +79,10 @@ module _ {D S K T : Type 0} (g : Ghosts D) (h : SourceGhosts S) (i : SinkGhosts 
   module _ (detail : Detail) (tried : TriesLog g h Reads MayBe AllHold Takes Grows log old new source source_new (Err detail)) where
     -- what the answer says then
     told : IsUnmade (h.left source) (h.left source_new) (i.held_bytes out) detail
-    told = unmade-fault (h.left source) (h.left source_new) (i.held_bytes out) detail tried.err
+    told = making_fault-unmade (h.left source) (h.left source_new) (i.held_bytes out) detail tried.err
 
-    pub makes-none : MakesLog g h i MayBe AllHold Takes Grows log (world old source out) (world new source_new out) detail
-    makes-none = record {
+    pub makes_log-unmade : MakesLog g h i MayBe AllHold Takes Grows log (world old source out) (world new source_new out) detail
+    makes_log-unmade = record {
       answer = told.answer;
       silent = told.silent;
       range = told.range;
@@ -96,8 +96,8 @@ module _ {D S K T : Type 0} (g : Ghosts D) (h : SourceGhosts S) (i : SinkGhosts 
       grows = tried.grows;
     }
 
-    pub tells-none : TellsFaults g h i (world old source out) (world new source_new out) detail
-    tells-none = told-before g h i (world old source out) (world new source_new out) detail (λ is. told.write (subst TellsWrite (sym is) tt)) tried.read refl
+    pub tells_faults-unmade : TellsFaults g h i (world old source out) (world new source_new out) detail
+    tells_faults-unmade = TellsFaults-not_write g h i (world old source out) (world new source_new out) detail (λ is. told.write (subst TellsWrite (sym is) tt)) tried.read refl
         tried.disk tried.honest
 
   -- the log is made
@@ -123,19 +123,19 @@ module _ {D S K T : Type 0} (g : Ghosts D) (h : SourceGhosts S) (i : SinkGhosts 
     }
 
     -- and its text written
-    pub makes-fine : IfSome (h.left source) (λ bytes. AnswersCut bytes (h.left source_new) (i.held_bytes out) (i.held_bytes out_new) Fine)
+    pub makes_log-fine : IfSome (h.left source) (λ bytes. AnswersCut bytes (h.left source_new) (i.held_bytes out) (i.held_bytes out_new) Fine)
         → MakesLog g h i MayBe AllHold Takes Grows log (world old source out) (world new source_new out_new) Fine
-    makes-fine = makes-whole Fine tt tt (λ precedes. precedes) (λ closed. closed) (λ is. is)
+    makes_log-fine = makes-whole Fine tt tt (λ precedes. precedes) (λ closed. closed) (λ is. is)
 
-    pub tells-fine : i.faults out_new ≡ i.faults out → TellsFaults g h i (world old source out) (world new source_new out_new) Fine
-    tells-fine write = told-fine g h i (world old source out) (world new source_new out_new) (tried.read.fine (λ is. cc)) write
+    pub tells_faults-fine : i.faults out_new ≡ i.faults out → TellsFaults g h i (world old source out) (world new source_new out_new) Fine
+    tells_faults-fine write = TellsFaults-fine g h i (world old source out) (world new source_new out_new) (tried.read.fine (λ is. cc)) write
         (tried.disk.fine (λ is. cc)) tried.honest
 
     -- and the writing failed
-    pub makes-part : IfSome (h.left source) (λ bytes. AnswersCut bytes (h.left source_new) (i.held_bytes out) (i.held_bytes out_new) Write)
+    pub makes_log-write : IfSome (h.left source) (λ bytes. AnswersCut bytes (h.left source_new) (i.held_bytes out) (i.held_bytes out_new) Write)
         → MakesLog g h i MayBe AllHold Takes Grows log (world old source out) (world new source_new out_new) Write
-    makes-part = makes-whole Write tt tt (λ precedes. precedes) (λ closed. closed) (λ is. is)
+    makes_log-write = makes-whole Write tt tt (λ precedes. precedes) (λ closed. closed) (λ is. is)
 
-    pub tells-part : Rose (i.faults out) (i.faults out_new) → TellsFaults g h i (world old source out) (world new source_new out_new) Write
-    tells-part write = told-part g h i (world old source out) (world new source_new out_new) (tried.read.fine (λ is. cc)) write
+    pub tells_faults-write : Rose (i.faults out) (i.faults out_new) → TellsFaults g h i (world old source out) (world new source_new out_new) Write
+    tells_faults-write write = TellsFaults-write g h i (world old source out) (world new source_new out_new) (tried.read.fine (λ is. cc)) write
         (tried.disk.fine (λ is. cc)) tried.honest

@@ -10,18 +10,18 @@ use Rattle.lock_core.specs.Sums.{BaseState, Opening, ShowsAccounts, balance_of, 
 use Rattle.lock_core.specs.Tests.{IsGenesis, HasNoGenesis, AreAbove}
 use Rattle.lock_core.specs.Transactions.{ShareNoTransaction}
 use Rattle.lock_core.proofs.Appending.{state_after}
-use Rattle.lock_core.proofs.GoingOn.{accounts-go_on, balance-goes_on, last_commit-goes_on, txn-goes_on}
+use Rattle.lock_core.proofs.GoingOn.{opening_after-accounts_append, opening_after-balance_append, opening_after-last_commit_append, opening_after-txn_append}
 use Rattle.lock_core.proofs.ListLemmas.{all-split}
-use Rattle.lock_core.proofs.Splitting.{above-all_spelled, apart-genesis, greatest-genesis, lawful-split}
+use Rattle.lock_core.proofs.Splitting.{above-all_spelled, all_genesis-share_none, greatest-genesis, lawful-split}
 use Rattle.segment_file.specs.Log.{HoldsLog}
 use Rattle.log_recovery.specs.Opened.{OpenedList, list_end, log_of, placed, with_front, opening_before, base_in, opening_left}
 use Rattle.log_recovery.specs.Recovery.{HoldsLawful, Recovers}
 use Rattle.log_recovery.specs.declared.recovery.Recovered.{Recovered}
 use Rattle.log_recovery.proofs.AnswerLemmas.{one-list}
 use Rattle.log_recovery.proofs.ListingLemmas.{units_of-append}
-use Rattle.log_recovery.proofs.OpenedLemmas.{rows-left, some-accounts, spelled-history}
+use Rattle.log_recovery.proofs.OpenedLemmas.{state_with-base_left, held-some_accounts, spelled-history}
 use Rattle.cli_cut.specs.Upgrading.{IsUpgradeOf}
-use Rattle.cli_cut.proofs.FrontLemmas.{all-history, front-base, front-lawful, front-split, later-none}
+use Rattle.cli_cut.proofs.FrontLemmas.{history_from-all, front-base, front-lawful, front-split, later-has_no_genesis}
 use Rattle.cli_cut.proofs.SameLemmas.{shows-same}
 
 -- what follows in a lawful list has numbers above that of what stands before it
@@ -48,10 +48,10 @@ module _ (list made : OpenedList) (spellable : AllByRecursion IsSpellable list.r
   first-lawful = front-lawful list upgrade.genesis made.records upgrade.whole lawful
 
   none : HasNoGenesis later
-  none = later-none list upgrade.genesis made.records upgrade.whole upgrade.none
+  none = later-has_no_genesis list upgrade.genesis made.records upgrade.whole upgrade.none
 
   all : AllByRecursion (λ (entry : Placed). IsGenesis entry.rec) (placed front)
-  all = all-history IsGenesis list.opening.lsn [] upgrade.genesis tt upgrade.all
+  all = history_from-all IsGenesis list.opening.lsn [] upgrade.genesis tt upgrade.all
 
   pub made-spellable : AllByRecursion IsSpellable made.records
   made-spellable = (all-split IsSpellable upgrade.genesis made.records (subst (AllByRecursion IsSpellable) upgrade.whole spellable)).1
@@ -61,7 +61,7 @@ module _ (list made : OpenedList) (spellable : AllByRecursion IsSpellable list.r
       (front-base list upgrade.genesis made.records upgrade.whole upgrade.none) some
 
   apart : ShareNoTransaction later (placed front)
-  apart = apart-genesis later (placed front) (above-all_spelled later (spelled-history (list_end front) [] made.records tt made-spellable)) none all
+  apart = all_genesis-share_none later (placed front) (above-all_spelled later (spelled-history (list_end front) [] made.records tt made-spellable)) none all
 
   -- a Genesis has no transaction number
   same-txn : (opening_before list).txn ≡ (opening_left front).txn
@@ -74,7 +74,7 @@ module _ (list made : OpenedList) (spellable : AllByRecursion IsSpellable list.r
 
   same-opening : opening_before made ≡ opening_left front
   same-opening = λ i. record {
-    state = rows-left front made.opening.lsn made.opening.accounts first-lawful upgrade.opening.lsn upgrade.opening.accounts i;
+    state = state_with-base_left front made.opening.lsn made.opening.accounts first-lawful upgrade.opening.lsn upgrade.opening.accounts i;
     txn = upgrade.opening.txn i;
   }
 
@@ -85,8 +85,8 @@ module _ (list made : OpenedList) (spellable : AllByRecursion IsSpellable list.r
   made-lawful = subst (λ (opening : Opening). IsLawful opening (placed made)) (sym same-opening)
       (subst (IsLawful (opening_left front)) (sym placed-made) behind)
 
-  pub made-end : list_end made ≡ list_end list
-  made-end = omega (
+  pub made-same_end : list_end made ≡ list_end list
+  made-same_end = omega (
     arith,
     upgrade.opening.lsn,
     ap end_of upgrade.whole,
@@ -94,24 +94,24 @@ module _ (list made : OpenedList) (spellable : AllByRecursion IsSpellable list.r
     length-append (units_of upgrade.genesis) (units_of made.records),
   )
 
-  pub made-txn : (opening_left list).txn ≡ (opening_left made).txn
-  made-txn = ap (λ h. (opening_after (opening_before list) h).txn) placed-split ∙ txn-goes_on (opening_before list) later (placed front)
+  pub made-same_txn : (opening_left list).txn ≡ (opening_left made).txn
+  made-same_txn = ap (λ h. (opening_after (opening_before list) h).txn) placed-split ∙ opening_after-txn_append (opening_before list) later (placed front)
       ∙ sym (λ i. (opening_after (same-opening i) (placed-made i)).txn)
 
   same-balance : (account : ℕ) → account < (base_in front).accounts
       → balance_of (base_in list) (placed list) account ≡ balance_of (base_in made) (placed made) account
   same-balance account inside = ap (λ h. balance_of (base_with (opening_before list) h) h account) placed-split
-      ∙ balance-goes_on (opening_before list) later (placed front) first-lawful account inside behind
+      ∙ opening_after-balance_append (opening_before list) later (placed front) first-lawful account inside behind
       ∙ sym (λ i. balance_of (base_with (same-opening i) (placed-made i)) (placed-made i) account)
 
   same-mark : (account : ℕ) → last_commit_of (base_in list) (placed list) account ≡ last_commit_of (base_in made) (placed made) account
   same-mark account = ap (λ h. last_commit_of (base_with (opening_before list) h) h account) placed-split
-      ∙ last_commit-goes_on (opening_before list) later (placed front) first-lawful some_before account behind
+      ∙ opening_after-last_commit_append (opening_before list) later (placed front) first-lawful some_before account behind
       ∙ sym (λ i. last_commit_of (base_with (same-opening i) (placed-made i)) (placed-made i) account)
 
   same-count : (base_in list).accounts ≡ (base_in made).accounts
   same-count = ap (λ h. (base_with (opening_before list) h).accounts) placed-split
-      ∙ accounts-go_on (opening_before list) later (placed front) some_before behind
+      ∙ opening_after-accounts_append (opening_before list) later (placed front) some_before behind
       ∙ sym (λ i. (base_with (same-opening i) (placed-made i)).accounts)
 
   front-count : (base_in list).accounts ≡ (base_in front).accounts
@@ -127,39 +127,39 @@ module _ (list made : OpenedList) (spellable : AllByRecursion IsSpellable list.r
         shows.each account below ∙ (λ i. Some (same-balance account within i, same-mark account i));
   }
 
-pub upgraded-held : (bytes written : List ℕ) (list made : OpenedList) → HoldsLawful bytes list → IsUpgradeOf list made → HoldsLog written (log_of made)
+pub upgrade-holds_lawful : (bytes written : List ℕ) (list made : OpenedList) → HoldsLawful bytes list → IsUpgradeOf list made → HoldsLog written (log_of made)
     → HoldsLawful written made
-upgraded-held bytes written list made held upgrade holds = record {
-  list = record { each = made-spellable list made held.list.each held.lawful (some-accounts bytes list held) upgrade; holds = holds };
-  lawful = made-lawful list made held.list.each held.lawful (some-accounts bytes list held) upgrade;
+upgrade-holds_lawful bytes written list made held upgrade holds = record {
+  list = record { each = made-spellable list made held.list.each held.lawful (held-some_accounts bytes list held) upgrade; holds = holds };
+  lawful = made-lawful list made held.list.each held.lawful (held-some_accounts bytes list held) upgrade;
 }
 
 module _ (bytes written : List ℕ) (list made : OpenedList) (a b : Recovered) (held : HoldsLawful bytes list) (upgrade : IsUpgradeOf list made)
     (holds : HoldsLog written (log_of made)) (before : Recovers a bytes) (after : Recovers b written) where
   some : 0 < (base_in list).accounts
-  some = some-accounts bytes list held
+  some = held-some_accounts bytes list held
 
   list-before : before.list ≡ list
   list-before = one-list bytes before.list list before.held.list held.list
 
   list-after : after.list ≡ made
-  list-after = one-list written after.list made after.held.list (upgraded-held bytes written list made held upgrade holds).list
+  list-after = one-list written after.list made after.held.list (upgrade-holds_lawful bytes written list made held upgrade holds).list
 
-  pub upgraded-lsn : a.lsn ≡ b.lsn
-  upgraded-lsn = omega (arith, before.lsn, ap list_end list-before, made-end list made held.list.each held.lawful some upgrade, after.lsn, ap list_end list-after)
+  pub upgrade_recovers-same_lsn : a.lsn ≡ b.lsn
+  upgrade_recovers-same_lsn = omega (arith, before.lsn, ap list_end list-before, made-same_end list made held.list.each held.lawful some upgrade, after.lsn, ap list_end list-after)
 
-  pub upgraded-next : a.next_txn ≡ b.next_txn
-  upgraded-next = omega (
+  pub upgrade_recovers-same_next_txn : a.next_txn ≡ b.next_txn
+  upgrade_recovers-same_next_txn = omega (
     arith,
     before.next_txn,
     ap (λ (l : OpenedList). (opening_left l).txn) list-before,
-    made-txn list made held.list.each held.lawful some upgrade,
+    made-same_txn list made held.list.each held.lawful some upgrade,
     after.next_txn,
     ap (λ (l : OpenedList). (opening_left l).txn) list-after,
   )
 
-  pub upgraded-accounts : a.accounts.rows ≡ b.accounts.rows
-  upgraded-accounts =
+  pub upgrade_recovers-same_accounts : a.accounts.rows ≡ b.accounts.rows
+  upgrade_recovers-same_accounts =
       let first = subst (λ (l : OpenedList). ShowsAccounts a.accounts.rows (base_in l) (placed l)) list-before before.accounts in
       let second = subst (λ (l : OpenedList). ShowsAccounts b.accounts.rows (base_in l) (placed l)) list-after after.accounts in
       shows-same (base_in made) (placed made) a.accounts.rows b.accounts.rows

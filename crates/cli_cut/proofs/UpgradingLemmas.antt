@@ -7,8 +7,8 @@ use Rattle.log_disk.specs.Disk.{Leaves}
 use Rattle.log_disk.specs.Lengths.{GrowsAtMostTo}
 use Rattle.log_disk.specs.Streams.{AppendsPart}
 use Rattle.log_disk.specs.declared.disk.LogDisk.{Ghosts}
-use Rattle.log_disk.proofs.Counting.{Costs-then}
-use Rattle.log_disk.proofs.Lengths.{GrowsAtMostTo-more, GrowsAtMostTo-same, GrowsAtMostTo-trans}
+use Rattle.log_disk.proofs.Counting.{Costs-trans}
+use Rattle.log_disk.proofs.Lengths.{GrowsAtMostTo-weaken, GrowsAtMostTo-same, GrowsAtMostTo-trans}
 use Rattle.log_disk.proofs.Moments.{Leaves-trans, Leaves-weaken}
 use Rattle.lsn_space.specs.Opening.{Opening}
 use Rattle.log_record.specs.LogList.{AreUnitsOf, end_of}
@@ -29,20 +29,20 @@ use Rattle.cli_cut.specs.declared.reading.Parts.{Parts}
 
 -- ---- the answer
 
-pub answers_read-fine : (left left_new old new : Option (List ℕ)) (recovered : Recovered) → ReadsLog left left_new recovered
+pub reads_log-answers_fine : (left left_new old new : Option (List ℕ)) (recovered : Recovered) → ReadsLog left left_new recovered
     → Appends old new (rows_text recovered.lsn recovered.accounts.rows) → IfSome left (λ bytes. AnswersCut bytes left_new old new Fine)
-answers_read-fine None left_new old new recovered reads written = tt
-answers_read-fine (Some bytes) left_new old new recovered reads written = (
+reads_log-answers_fine None left_new old new recovered reads written = tt
+reads_log-answers_fine (Some bytes) left_new old new recovered reads written = (
   reads.1.1,
   reads.2.list,
   subst (λ b. HoldsLawful b reads.2.list) reads.1.0 reads.2.held,
   rw (rows_text-shown recovered.lsn recovered.accounts.rows reads.2.list reads.2.lsn reads.2.accounts) at written,
 )
 
-pub answers_read-write : (left left_new old new : Option (List ℕ)) (recovered : Recovered) → ReadsLog left left_new recovered
+pub reads_log-answers_write : (left left_new old new : Option (List ℕ)) (recovered : Recovered) → ReadsLog left left_new recovered
     → AppendsPart old new (rows_text recovered.lsn recovered.accounts.rows) → IfSome left (λ bytes. AnswersCut bytes left_new old new Write)
-answers_read-write None left_new old new recovered reads written = tt
-answers_read-write (Some bytes) left_new old new recovered reads written = (
+reads_log-answers_write None left_new old new recovered reads written = tt
+reads_log-answers_write (Some bytes) left_new old new recovered reads written = (
   reads.1.1,
   reads.2.list,
   subst (λ b. HoldsLawful b reads.2.list) reads.1.0 reads.2.held,
@@ -60,8 +60,8 @@ module _ (left left_new : Option (List ℕ)) (parts : Parts) (are : ArePartsOf l
   of-source = record { list = are.recovers.list; source = source-read left left_new parts are; upgrade = are.upgrade }
 
   -- the units that are written are those of the new list
-  pub rest-units : (rest : List ℕ) → rest ≡ drop parts.front parts.listed.units → AreUnitsOf rest are.made.records
-  rest-units rest is = record { spellable = are.spellable; units_are = is ∙ are.units }
+  pub rest-units_of_made : (rest : List ℕ) → rest ≡ drop parts.front parts.listed.units → AreUnitsOf rest are.made.records
+  rest-units_of_made rest is = record { spellable = are.spellable; units_are = is ∙ are.units }
 
   upgrade-left : (images : List ℕ → Type 0) (c : List ℕ) → HoldsNoneOrBatches (log_of are.made) (batches_of are.made.records) c → MayBeUpgraded left images c
   upgrade-left images c (inl none) = inr (inl none)
@@ -81,7 +81,7 @@ module _ (left left_new : Option (List ℕ)) (parts : Parts) (are : ArePartsOf l
       → Costs g (6 + length (batches_of are.made.records)) (7 + length (batches_of are.made.records)) mid new → CostsUpgrade g left old new
   costs-upgraded g old mid new found written =
       let n : ℕ = length (batches_of are.made.records) in
-      let both = Costs-then g 1 (6 + n) 4 (7 + n) old mid new found written in
+      let both = Costs-trans g 1 (6 + n) 4 (7 + n) old mid new found written in
       inr (are.made, of-source, record { successes = omega (arith, both.successes); calls = omega (arith, both.calls) })
 
   grows-upgraded : {D : Type 0} (g : Ghosts D) (old mid new : D) (rest : List ℕ) → rest ≡ drop parts.front parts.listed.units
@@ -93,23 +93,23 @@ module _ (left left_new : Option (List ℕ)) (parts : Parts) (are : ArePartsOf l
         are.made,
         of-source,
         GrowsAtMostTo-trans g place old mid new (GrowsAtMostTo-same g place old mid same)
-            (GrowsAtMostTo-more g (21 + 12 * length parts.head.accounts + 5 * length (batches_of are.made.records) + 8 * length rest) place mid new
+            (GrowsAtMostTo-weaken g (21 + 12 * length parts.head.accounts + 5 * length (batches_of are.made.records) + 8 * length rest) place mid new
             (omega (arith, ap (λ (opening : Opening). length opening.accounts) are.head, ap length (is ∙ are.units))) grows),
       )
 
   -- the log is written to a disk on which none was found
   module _ {D T E : Type 0} (g : Ghosts D) (old mid new : D) (rest : List ℕ) (is : rest ≡ drop parts.front parts.listed.units) (result : Result T E)
       (stays : g.honest old → g.honest mid) (writes : WritesLog g parts.head rest mid new result) where
-    pub images-written : Leaves g.moment g.images_since (g.images old) old mid → g.honest old
+    pub writes_log-leaves_upgraded : Leaves g.moment g.images_since (g.images old) old mid → g.honest old
         → Leaves g.moment g.images_since (MayBeUpgraded left (g.images old)) old new
-    images-written found honest = leaves-upgraded g.moment g.images_since (g.images old) old mid new found
-        (writes.moments (stays honest) are.made (sym are.head) (rest-units rest is))
+    writes_log-leaves_upgraded found honest = leaves-upgraded g.moment g.images_since (g.images old) old mid new found
+        (writes.moments (stays honest) are.made (sym are.head) (rest-units_of_made rest is))
 
-    pub made-written : g.honest old → OnOk result (AllHoldUpgrade left (g.images new))
-    made-written honest = on_ok_weaker result (λ held. all-upgraded (g.images new) (held are.made (sym are.head) (rest-units rest is))) (writes.made (stays honest))
+    pub writes_log-all_hold_upgrade : g.honest old → OnOk result (AllHoldUpgrade left (g.images new))
+    writes_log-all_hold_upgrade honest = on_ok_weaker result (λ held. all-upgraded (g.images new) (held are.made (sym are.head) (rest-units_of_made rest is))) (writes.made (stays honest))
 
-    pub count-written : (g.honest old → Costs g 1 4 old mid) → g.honest old → CostsUpgrade g left old new
-    count-written found honest = costs-upgraded g old mid new (found honest) (writes.count (stays honest) are.made.records (rest-units rest is))
+    pub writes_log-costs_upgrade : (g.honest old → Costs g 1 4 old mid) → g.honest old → CostsUpgrade g left old new
+    writes_log-costs_upgrade found honest = costs-upgraded g old mid new (found honest) (writes.count (stays honest) are.made.records (rest-units_of_made rest is))
 
-    pub grows-written : (g.honest old → g.reads mid ≡ g.reads old) → g.honest old → GrowsByUpgrade g left old new
-    grows-written found honest = grows-upgraded g old mid new rest is (found honest) (writes.grows (stays honest) are.made.records (rest-units rest is))
+    pub writes_log-grows_by_upgrade : (g.honest old → g.reads mid ≡ g.reads old) → g.honest old → GrowsByUpgrade g left old new
+    writes_log-grows_by_upgrade found honest = grows-upgraded g old mid new rest is (found honest) (writes.grows (stays honest) are.made.records (rest-units_of_made rest is))

@@ -15,12 +15,12 @@ use Rattle.segment_file.specs.declared.layout.TheConstants.{MOST_UNITS}
 use Rattle.segment_file.specs.declared.scan_result.Tail.{Tail}
 use Rattle.segment_file.specs.File.{BeginsAsLog, joined}
 use Rattle.segment_file.specs.Log.{Log, cut_log, with_units}
-use Rattle.segment_file.proofs.FileLemmas.{joined-more}
+use Rattle.segment_file.proofs.FileLemmas.{joined-push}
 use Rattle.segment_cut.specs.Underway.{IsUnderway}
 use Rattle.ship_stream.specs.Frames.{packed_behind}
-use Rattle.ship_stream.proofs.PackingLemmas.{fits-behind, flushed-behind}
+use Rattle.ship_stream.proofs.PackingLemmas.{packed_behind-fits, packed_behind-full_from_none}
 use Rattle.cli_cut.specs.Batches.{batches_of}
-use Rattle.cli_cut.proofs.GenesisLemmas.{first-left}
+use Rattle.cli_cut.proofs.GenesisLemmas.{BeginsWith-first_record}
 use Rattle.log_recovery.proofs.ListingLemmas.{units_of-append}
 
 -- ---- what stands between two records
@@ -81,7 +81,7 @@ module _ {D : Type 0} (g : Ghosts D) (opening : Opening) (records : List Rec) (b
       → packed_behind MOST_UNITS writing.waits writing.left ≡ writing.waits ∷ packed_behind MOST_UNITS [] writing.left → IsWriting g opening records begun new after [] rest
   writing-flushed now new tail after waiting rest writing underway moments at next grows count some one =
       let done : List (List ℕ) = writing.done ++ waiting ∷ [] in
-      let units : joined done ≡ joined writing.done ++ waiting = joined-more writing.done waiting in
+      let units : joined done ≡ joined writing.done ++ waiting = joined-push writing.done waiting in
       let longer : length (joined done) ≡ length (joined writing.done) + length waiting =
       omega (arith, ap length units, length-append (joined writing.done) waiting) in
       let more : length done ≡ length writing.done + 1 = length-append writing.done (waiting ∷ []) in
@@ -116,7 +116,7 @@ module _ {D : Type 0} (g : Ghosts D) (opening : Opening) (records : List Rec) (b
       → own ++ behind ≡ rest → own ≡ spelling rec → behind ≡ drop (length (spelling rec)) rest
       → IsWriting g opening records begun now tail (waiting ++ own) behind
   writing-taken now tail waiting rest rec own behind writing begins fits joined_is own_is dropped =
-      let found = first-left rest writing.left rec writing.spellable writing.rest_is begins in
+      let found = BeginsWith-first_record rest writing.left rec writing.spellable writing.rest_is begins in
       let waits : units_of (writing.waits ++ rec ∷ []) ≡ waiting ++ own =
       units_of-append writing.waits (rec ∷ []) ∙ ap (λ units. units_of writing.waits ++ units) (append-nil (spelling rec) ∙ sym own_is)
       ∙ ap (λ units. units ++ own) (sym writing.waiting_is) in
@@ -133,7 +133,7 @@ module _ {D : Type 0} (g : Ghosts D) (opening : Opening) (records : List Rec) (b
         batches = writing.batches
             ∙ ap (λ packed. writing.done ++ map units_of packed)
             (ap (packed_behind MOST_UNITS writing.waits) found.1
-            ∙ fits-behind MOST_UNITS writing.waits rec found.0 (omega (arith, fits, ap length writing.waiting_is)));
+            ∙ packed_behind-fits MOST_UNITS writing.waits rec found.0 (omega (arith, fits, ap length writing.waiting_is)));
         underway = writing.underway;
         moments = writing.moments;
         at = writing.at;
@@ -145,11 +145,11 @@ module _ {D : Type 0} (g : Ghosts D) (opening : Opening) (records : List Rec) (b
       }
 
   -- a record that doesn't fit ends the batch
-  pub writing-full : (now : D) (tail : Tail) (waiting rest : List ℕ) (rec : Rec) (writing : IsWriting g opening records begun now tail waiting rest)
+  pub packed_behind-no_room : (now : D) (tail : Tail) (waiting rest : List ℕ) (rec : Rec) (writing : IsWriting g opening records begun now tail waiting rest)
       → BeginsWith rest rec → MOST_UNITS < length waiting + size_of rec
       → packed_behind MOST_UNITS writing.waits writing.left ≡ writing.waits ∷ packed_behind MOST_UNITS [] writing.left
-  writing-full now tail waiting rest rec writing begins full =
-      let found = first-left rest writing.left rec writing.spellable writing.rest_is begins in
+  packed_behind-no_room now tail waiting rest rec writing begins full =
+      let found = BeginsWith-first_record rest writing.left rec writing.spellable writing.rest_is begins in
       ap (packed_behind MOST_UNITS writing.waits) found.1
-      ∙ flushed-behind MOST_UNITS writing.waits rec found.0 (omega (arith, length-spelling rec begins.0)) (omega (arith, full, ap length writing.waiting_is))
+      ∙ packed_behind-full_from_none MOST_UNITS writing.waits rec found.0 (omega (arith, length-spelling rec begins.0)) (omega (arith, full, ap length writing.waiting_is))
       ∙ ap (λ left. writing.waits ∷ packed_behind MOST_UNITS [] left) (sym found.1)

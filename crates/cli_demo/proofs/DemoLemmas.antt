@@ -4,8 +4,8 @@ use Rattle.std.proofs.KnownBytes.{Appends-trans}
 use Rattle.std.proofs.lemmas.List.{length-replicate}
 use Rattle.std.proofs.lemmas.List.Elements.{All-replicate}
 use Rattle.std.specs.Io.KnownBytes.{Appends, Keeps}
-use Rattle.log_disk.proofs.Counting.{Costs-more, Costs-then}
-use Rattle.log_disk.proofs.Lengths.{GrowsAtMostTo-more, GrowsAtMostTo-same, GrowsAtMostTo-trans}
+use Rattle.log_disk.proofs.Counting.{Costs-weaken, Costs-trans}
+use Rattle.log_disk.proofs.Lengths.{GrowsAtMostTo-weaken, GrowsAtMostTo-same, GrowsAtMostTo-trans}
 use Rattle.log_disk.specs.Costs.{Costs}
 use Rattle.log_disk.specs.Disk.{Leaves}
 use Rattle.log_disk.specs.Lengths.{GrowsAtMostTo}
@@ -20,11 +20,11 @@ use Rattle.lock_core.specs.History.{history_from}
 use Rattle.lock_core.specs.Serial.{numbered, IsPartlySerialAfter, IsSerialAfter}
 use Rattle.lock_core.specs.AccountRows.{row, KeepsRows}
 use Rattle.lock_core.specs.Sums.{BaseState, greatest_txn}
-use Rattle.lock_core.proofs.JudgingLemmas.{shows-kept}
+use Rattle.lock_core.proofs.JudgingLemmas.{keeps_rows-shows_accounts}
 use Rattle.log_recovery.specs.Recovery.{HoldsLawful}
 use Rattle.log_recovery.specs.Opened.{list_end, placed, base_in, base_left}
 use Rattle.log_recovery.proofs.OpenedLemmas.{list_end-more}
-use Rattle.segment_file.proofs.FirstFormat.{all-log}
+use Rattle.segment_file.proofs.FirstFormat.{AllStand-LogStands}
 use Rattle.log_rule.specs.declared.start.Start.{Start}
 use Rattle.log_rule.specs.FirstAccounts.{HasAccounts}
 use Rattle.log_table.specs.Seats.{key_of}
@@ -55,13 +55,13 @@ use Rattle.run_summary.specs.Summary.{summary_of}
 use Rattle.cli_shared.specs.Opening.{OnlyLooks}
 use Rattle.cli_threads.specs.Sharing.{IsSharedOut, Sharing}
 use Rattle.cli_threads.specs.Transferred.{IsOpened}
-use Rattle.cli_threads.proofs.EndingLemmas.{by-conclusion, list, sharing, counted-ended, drained-ended, keeps-ended, kept-ended, serial-ended, shared-ended, speaks-ended, stops-ended, told-ended, whole-ended, whole_after-ended}
-use Rattle.cli_demo.proofs.GeneratedEnd.{end-most, never-log_end}
-use Rattle.cli_shared.proofs.GenesisLemmas.{end_of-genesis, genesis-holds, genesis-kept, genesis-lawful, genesis-spellable, opening_rows}
-use Rattle.cli_threads.proofs.RunBegun.{images-begun}
+use Rattle.cli_threads.proofs.EndingLemmas.{Concludes-cases, list, sharing, ended-counted, ended-drained, ended-keeps_log, ended-keeps_rows, ended-partly_serial_after, ended-shared_out, write_fault-voice_lines, ended-stops_at_log_end, ended-text_prefix, ended-runs_whole, ended-serial_after}
+use Rattle.cli_demo.proofs.GeneratedEnd.{end_of-partly_serial_le, never-log_end}
+use Rattle.cli_shared.proofs.GenesisLemmas.{end_of-genesis, genesis-holds_lawful, genesis-keeps_rows, genesis-lawful, genesis-spellable, opening_rows}
+use Rattle.cli_threads.proofs.RunBegun.{Leaves-before_or_run}
 use Rattle.cli_threads.proofs.RunHistory.{later_of}
 use Rattle.cli_threads.proofs.RunPlaces.{tasks_of}
-use Rattle.cli_demo.proofs.SummaryLemmas.{summary-same, opening-generated, opening-end}
+use Rattle.cli_demo.proofs.SummaryLemmas.{summary_of-summary_text, opening-generated, opening-end}
 
 -- ---- the new log
 
@@ -83,14 +83,14 @@ firsts-replicate zero balance = refl
 firsts-replicate (suc n) balance = ap (λ more. balance ∷ more) (firsts-replicate n balance)
 
 -- the list of accounts with these rows is the one over which generated transfers run
-pub list-generated : (rows : List (ℕ × ℕ)) → rows ≡ generated_rows → genesis_list (map (λ row. row.0) rows) ≡ generated_opening.records
-list-generated rows same = ap (λ rs. genesis_list (map (λ (row : ℕ × ℕ). row.0) rs)) same ∙ ap genesis_list (firsts-replicate 64 1000000)
+pub genesis_list-generated : (rows : List (ℕ × ℕ)) → rows ≡ generated_rows → genesis_list (map (λ row. row.0) rows) ≡ generated_opening.records
+genesis_list-generated rows same = ap (λ rs. genesis_list (map (λ (row : ℕ × ℕ). row.0) rs)) same ∙ ap genesis_list (firsts-replicate 64 1000000)
 
-pub few-generated : (rows : List (ℕ × ℕ)) → rows ≡ generated_rows → length rows ≡ 64
-few-generated rows same = ap length same ∙ length-replicate {A = ℕ × ℕ} 64 (1000000, 0)
+pub generated_rows-length : (rows : List (ℕ × ℕ)) → rows ≡ generated_rows → length rows ≡ 64
+generated_rows-length rows same = ap length same ∙ length-replicate {A = ℕ × ℕ} 64 (1000000, 0)
 
-pub each-generated : (rows : List (ℕ × ℕ)) → rows ≡ generated_rows → All (λ (row : ℕ × ℕ). IsBalance row.0) rows
-each-generated rows same = subst (All (λ (row : ℕ × ℕ). IsBalance row.0)) (sym same)
+pub generated_rows-all_balances : (rows : List (ℕ × ℕ)) → rows ≡ generated_rows → All (λ (row : ℕ × ℕ). IsBalance row.0) rows
+generated_rows-all_balances rows same = subst (All (λ (row : ℕ × ℕ). IsBalance row.0)) (sym same)
     (All-replicate (λ (row : ℕ × ℕ). IsBalance row.0) 64 (1000000, 0) (omega arith))
 
 pub end-opening : end_of generated_opening.records ≡ 128
@@ -103,76 +103,76 @@ last_commits-none (suc n) balance (suc account) = last_commits-none n balance ac
 
 kept-opening : (rows : List (ℕ × ℕ)) → rows ≡ generated_rows → KeepsRows rows (base_in generated_opening) (placed generated_opening)
 kept-opening rows same = subst (λ rs. KeepsRows rs (base_in generated_opening) (placed generated_opening))
-    (rows-replicate 64 1000000 ∙ sym same) (genesis-kept balances few-balances each-balance)
+    (rows-replicate 64 1000000 ∙ sym same) (genesis-keeps_rows balances few-balances each-balance)
 
 -- the table can start with them
 pub accounts-generated : (key : Start) → key.accounts.rows ≡ generated_rows → HasAccounts key
 accounts-generated key same = record {
-  some_accounts = omega (arith, few-generated key.accounts.rows same);
-  few = omega (arith, few-generated key.accounts.rows same);
+  some_accounts = omega (arith, generated_rows-length key.accounts.rows same);
+  few = omega (arith, generated_rows-length key.accounts.rows same);
   balances = (kept-opening key.accounts.rows same).range;
   last_commits = λ account inside. let none = ap (λ rs. (row rs account).1) same ∙ last_commits-none 64 1000000 account in omega arith;
 }
 
 -- what holds its units holds it
 holds-generated : (units bytes : List ℕ) → units ≡ units_of generated_opening.records → HoldsUnits bytes units → HoldsLawful bytes generated_opening
-holds-generated units bytes same held = genesis-holds balances few-balances each-balance bytes (subst (HoldsUnits bytes) same held)
+holds-generated units bytes same held = genesis-holds_lawful balances few-balances each-balance bytes (subst (HoldsUnits bytes) same held)
 
 -- ---- the log is made
 
 module _ {D : Type 0} (g : Ghosts D) (old mid new : D) (units : List ℕ) (made : units ≡ units_of generated_opening.records)
     (found : Leaves g.moment g.images_since (g.images old) old mid) (one : Costs g 1 4 old mid) (read : g.reads mid ≡ g.reads old) where
-  pub only-makes : Leaves g.moment g.images_since (HoldsNoneOr units) mid new → Costs g 6 7 mid new → GrowsAtMostTo g (13 + 8 * length units) mid new
+  pub HoldsNoneOr-only_makes : Leaves g.moment g.images_since (HoldsNoneOr units) mid new → Costs g 6 7 mid new → GrowsAtMostTo g (13 + 8 * length units) mid new
       → OnlyMakes g old new
-  only-makes created writes grows = record {
+  HoldsNoneOr-only_makes created writes grows = record {
     images = Leaves-trans g.moment g.images_since (λ bytes. MayPrecede (g.images old) bytes ⊎ HoldsLawful bytes generated_opening) old mid new
         (Leaves-weaken g.moment g.images_since (g.images old) (λ bytes. MayPrecede (g.images old) bytes ⊎ HoldsLawful bytes generated_opening)
         old mid (λ bytes image. inl (inl image)) found)
         (Leaves-weaken g.moment g.images_since (HoldsNoneOr units) (λ bytes. MayPrecede (g.images old) bytes ⊎ HoldsLawful bytes generated_opening)
         mid new (λ bytes. ⊎_elim (λ none. inl (inr none)) (λ held. inr (holds-generated units bytes made held))) created);
-    count = Costs-then g 1 6 4 7 old mid new one writes;
+    count = Costs-trans g 1 6 4 7 old mid new one writes;
     grows = GrowsAtMostTo-trans g (generated_end + 1) old mid new (GrowsAtMostTo-same g (generated_end + 1) old mid read)
-        (GrowsAtMostTo-more g (13 + 8 * length units) (generated_end + 1) mid new (omega (arith, ap length made)) grows);
+        (GrowsAtMostTo-weaken g (13 + 8 * length units) (generated_end + 1) mid new (omega (arith, ap length made)) grows);
   }
 
-pub only-finds : {D : Type 0} (g : Ghosts D) (old new : D) → Leaves g.moment g.images_since (g.images old) old new
+pub same_images-only_makes : {D : Type 0} (g : Ghosts D) (old new : D) → Leaves g.moment g.images_since (g.images old) old new
     → Costs g 1 4 old new → g.reads new ≡ g.reads old → OnlyMakes g old new
-only-finds g old new found one read = record {
+same_images-only_makes g old new found one read = record {
   images = Leaves-weaken g.moment g.images_since (g.images old) (λ bytes. MayPrecede (g.images old) bytes ⊎ HoldsLawful bytes generated_opening)
       old new (λ bytes image. inl (inl image)) found;
-  count = Costs-more g 1 7 4 11 old new (omega arith) (omega arith) one;
+  count = Costs-weaken g 1 7 4 11 old new (omega arith) (omega arith) one;
   grows = GrowsAtMostTo-same g (generated_end + 1) old new read;
 }
 
 -- no log is made, since one was found, or the disk failed
-pub fault-found : {D : Type 0} (g : Ghosts D) (n seed : ℕ) (options : RunOptions) (old new : D) (detail : Detail) → IsFindingFault detail → OnlyLooks g old new → Costs g 1 4 old new
+pub IsFindingFault-answers_demo : {D : Type 0} (g : Ghosts D) (n seed : ℕ) (options : RunOptions) (old new : D) (detail : Detail) → IsFindingFault detail → OnlyLooks g old new → Costs g 1 4 old new
     → AnswersDemo g n seed options old new detail
-fault-found g n seed options old new Disk is looks few = inl (only-finds g old new looks.images few looks.reads)
-fault-found g n seed options old new Exists is looks few = looks
-fault-found g n seed options old new (NoSuchLsn lsn) is looks few = absurd is
-fault-found g n seed options old new (BadStream offset) is looks few = absurd is
-fault-found g n seed options old new (Gap have from) is looks few = absurd is
-fault-found g n seed options old new (StreamUnlawful lsn why) is looks few = absurd is
-fault-found g n seed options old new (NoAccount account) is looks few = absurd is
-fault-found g n seed options old new Fine is looks few = absurd is
-fault-found g n seed options old new NoMemory is looks few = absurd is
-fault-found g n seed options old new Usage is looks few = absurd is
-fault-found g n seed options old new (Script line) is looks few = absurd is
-fault-found g n seed options old new Read is looks few = absurd is
-fault-found g n seed options old new Write is looks few = absurd is
-fault-found g n seed options old new NotALog is looks few = absurd is
-fault-found g n seed options old new BadSnapshot is looks few = absurd is
-fault-found g n seed options old new (BadBatch offset) is looks few = absurd is
-fault-found g n seed options old new (BadRec lsn) is looks few = absurd is
-fault-found g n seed options old new (Unlawful lsn why) is looks few = absurd is
-fault-found g n seed options old new (LogEnd tail total) is looks few = absurd is
-fault-found g n seed options old new (TxnEnd first count) is looks few = absurd is
+IsFindingFault-answers_demo g n seed options old new Disk is looks few = inl (same_images-only_makes g old new looks.images few looks.reads)
+IsFindingFault-answers_demo g n seed options old new Exists is looks few = looks
+IsFindingFault-answers_demo g n seed options old new (NoSuchLsn lsn) is looks few = absurd is
+IsFindingFault-answers_demo g n seed options old new (BadStream offset) is looks few = absurd is
+IsFindingFault-answers_demo g n seed options old new (Gap have from) is looks few = absurd is
+IsFindingFault-answers_demo g n seed options old new (StreamUnlawful lsn why) is looks few = absurd is
+IsFindingFault-answers_demo g n seed options old new (NoAccount account) is looks few = absurd is
+IsFindingFault-answers_demo g n seed options old new Fine is looks few = absurd is
+IsFindingFault-answers_demo g n seed options old new NoMemory is looks few = absurd is
+IsFindingFault-answers_demo g n seed options old new Usage is looks few = absurd is
+IsFindingFault-answers_demo g n seed options old new (Script line) is looks few = absurd is
+IsFindingFault-answers_demo g n seed options old new Read is looks few = absurd is
+IsFindingFault-answers_demo g n seed options old new Write is looks few = absurd is
+IsFindingFault-answers_demo g n seed options old new NotALog is looks few = absurd is
+IsFindingFault-answers_demo g n seed options old new BadSnapshot is looks few = absurd is
+IsFindingFault-answers_demo g n seed options old new (BadBatch offset) is looks few = absurd is
+IsFindingFault-answers_demo g n seed options old new (BadRec lsn) is looks few = absurd is
+IsFindingFault-answers_demo g n seed options old new (Unlawful lsn why) is looks few = absurd is
+IsFindingFault-answers_demo g n seed options old new (LogEnd tail total) is looks few = absurd is
+IsFindingFault-answers_demo g n seed options old new (TxnEnd first count) is looks few = absurd is
 
 -- so the disk was only looked at, and nothing was written
-pub looks-finding : {D : Type 0} (g : Ghosts D) (old new : D) → Leaves g.moment g.images_since (g.images old) old new → g.reads new ≡ g.reads old
+pub same_images-only_looks : {D : Type 0} (g : Ghosts D) (old new : D) → Leaves g.moment g.images_since (g.images old) old new → g.reads new ≡ g.reads old
     → Costs g 1 4 old new → OnlyLooks g old new
-looks-finding g old new found read one =
-    record { images = found; reads = read; count = Costs-more g 1 1 4 _ old new (omega arith) (omega arith) one }
+same_images-only_looks g old new found read one =
+    record { images = found; reads = read; count = Costs-weaken g 1 1 4 _ old new (omega arith) (omega arith) one }
 
 module _ {D : Type 0} (g : Ghosts D) (n seed : ℕ) (options : RunOptions) (prepared : Prepared) (is : IsPreparedDemo n seed options prepared) (disk : D) (tail : Tail)
     (units : List ℕ) (made : units ≡ units_of generated_opening.records) where
@@ -187,12 +187,12 @@ module _ {D : Type 0} (g : Ghosts D) (n seed : ℕ) (options : RunOptions) (prep
         range = λ account none. absurd (omega arith);
         some_accounts = omega (arith, opening-generated.accounts);
         below = let none : greatest_txn (placed generated_opening) ≡ 0 = refl in omega (arith, none, is.generated.first);
-        stand = λ honest. all-log tail (units_of generated_opening.records) (g.images disk) (subst (λ us. AllStand tail us (g.images disk)) made (stand honest));
+        stand = λ honest. AllStand-LogStands tail (units_of generated_opening.records) (g.images disk) (subst (λ us. AllStand tail us (g.images disk)) made (stand honest));
         shut = shut;
         next = omega (arith, next, counted, end-opening);
         place = omega (arith, place, counted);
         start = omega (arith, is.start, end-opening);
-        accounts = shows-kept _ _ _ (kept-opening _ is.accounts);
+        accounts = keeps_rows-shows_accounts _ _ _ (kept-opening _ is.accounts);
       }
 
 -- the log was made of what was prepared, and the transfers are ready to be run over it
@@ -244,7 +244,7 @@ module _ {D : Type 0} {K : Type 0} (g : Ghosts D) (h : SinkGhosts K) (n seed : �
 
   shared : IsSharedOut options.workers jobs taken
   shared = subst (λ w. IsSharedOut w jobs taken) is.workers_are
-      (shared-ended g h ready.prepared generated_opening Count disk disk_new sink sink_mid ended has)
+      (ended-shared_out g h ready.prepared generated_opening Count disk disk_new sink sink_mid ended has)
 
   abbrev base : BaseState
   base = base_left generated_opening
@@ -255,16 +255,16 @@ module _ {D : Type 0} {K : Type 0} (g : Ghosts D) (h : SinkGhosts K) (n seed : �
   partly : IsPartlySerialAfter base (numbered 1 (generated_transfers n seed)) (history_from base.end [] records)
   partly = subst (IsPartlySerialAfter base (numbered 1 (generated_transfers n seed))) (later-opening records)
       (subst (λ ts. IsPartlySerialAfter base ts (later_of generated_opening records)) tasks
-      (serial-ended g h ready.prepared generated_opening Count disk disk_new sink sink_mid ended has))
+      (ended-partly_serial_after g h ready.prepared generated_opening Count disk disk_new sink sink_mid ended has))
 
   -- nothing was told of the transfers
   silent : Appends (h.held_bytes sink) (h.held_bytes sink_mid) []
   silent = Appends-none (h.held_bytes sink) (h.held_bytes sink_mid)
-      (told-ended g h ready.prepared generated_opening Count disk disk_new sink sink_mid ended has).1
+      (ended-text_prefix g h ready.prepared generated_opening Count disk disk_new sink sink_mid ended has).1
 
   -- so the sink never stopped the daemon
   never-fails : ended.fault ≡ Some WriteFault → ⊥
-  never-fails fault = subst IsCount (speaks-ended g h ready.prepared generated_opening Count disk disk_new sink sink_mid ended has fault) tt
+  never-fails fault = subst IsCount (write_fault-voice_lines g h ready.prepared generated_opening Count disk disk_new sink sink_mid ended has fault) tt
     where
       IsCount : Voice → Type 0
       IsCount Count = Unit {0}
@@ -274,28 +274,28 @@ module _ {D : Type 0} {K : Type 0} (g : Ghosts D) (h : SinkGhosts K) (n seed : �
   no-log_end : (tail total : ℕ) → ended.fault ≡ None → IsFirstLogEnd ended.ends.items tail total → ⊥
   no-log_end tail total fine first = never-log_end n seed few jobs is.generated.script options.workers taken shared generated_opening
       records _ _ tail total range.workers.1 (omega (arith, end-opening))
-      (end-most n seed 1 base few opening-generated records partly)
-      (stops-ended g h ready.prepared generated_opening Count disk disk_new sink sink_mid ended has fine tail total first)
+      (end_of-partly_serial_le n seed 1 base few opening-generated records partly)
+      (ended-stops_at_log_end g h ready.prepared generated_opening Count disk disk_new sink sink_mid ended has fine tail total first)
 
   -- where nothing befell them, their summary is what their number and seed tell
   summary-ended : ended.fault ≡ None → AreWhole ended.ends.items → counted_text n ended ≡ summary_text n seed
   summary-ended fine all =
-      let counts = counted-ended g h ready.prepared generated_opening Count disk disk_new sink sink_mid ended has fine in
-      let drained = drained-ended g h ready.prepared generated_opening Count disk disk_new sink sink_mid ended has fine in
+      let counts = ended-counted g h ready.prepared generated_opening Count disk disk_new sink sink_mid ended has fine in
+      let drained = ended-drained g h ready.prepared generated_opening Count disk disk_new sink sink_mid ended has fine in
       let longer = list_end-more generated_opening records in
       let lsn : ended.closed.tail ≡ base.end + end_of records = omega (arith, drained.end, longer, end-opening, opening-end) in
       let whole : IsSerialAfter base (numbered 1 (generated_transfers n seed)) (history_from base.end [] records) =
       subst (IsSerialAfter base (numbered 1 (generated_transfers n seed))) (later-opening records)
       (subst (λ ts. IsSerialAfter base ts (later_of generated_opening records)) tasks
-      (whole_after-ended g h ready.prepared generated_opening Count disk disk_new sink sink_mid ended has all)) in
+      (ended-serial_after g h ready.prepared generated_opening Count disk disk_new sink sink_mid ended has all)) in
       let kept = subst (KeepsRows ended.closed.accounts.rows base) (later-opening records)
-      (kept-ended g h ready.prepared generated_opening Count disk disk_new sink sink_mid ended has) in
+      (ended-keeps_rows g h ready.prepared generated_opening Count disk disk_new sink sink_mid ended has) in
       (λ i. summary_of (record { transfers = n; done = counts.0 i; refused = counts.1 i; lsn = lsn i }) ended.closed.accounts.rows)
-      ∙ summary-same n seed 1 base records ended.closed.accounts.rows few opening-generated whole kept opening-end
+      ∙ summary_of-summary_text n seed 1 base records ended.closed.accounts.rows few opening-generated whole kept opening-end
 
-  pub text-concluded : (detail : Detail) → Concludes h ended (counted_text n ended) sink_mid sink_new detail
+  pub Concludes-tells_summary : (detail : Detail) → Concludes h ended (counted_text n ended) sink_mid sink_new detail
       → TellsSummary n seed (h.held_bytes sink) (h.held_bytes sink_new) detail
-  text-concluded = by-conclusion h ended (counted_text n ended) sink_mid sink_new (TellsSummary n seed (h.held_bytes sink) (h.held_bytes sink_new))
+  Concludes-tells_summary = Concludes-cases h ended (counted_text n ended) sink_mid sink_new (TellsSummary n seed (h.held_bytes sink) (h.held_bytes sink_new))
       (λ said. subst (λ s. Keeps (h.held_bytes sink) (h.held_bytes s)) (sym said.1) (Appends-keeps (h.held_bytes sink) (h.held_bytes sink_mid) silent))
       (λ said. absurd (never-fails said.0))
       (λ said. let text = said.1 in (
@@ -309,14 +309,14 @@ module _ {D : Type 0} {K : Type 0} (g : Ghosts D) (h : SinkGhosts K) (n seed : �
       (Appends-trans (h.held_bytes sink) (h.held_bytes sink_mid) (h.held_bytes sink_new) [] (counted_text n ended) silent said.1))
       (λ tail total said. absurd (no-log_end tail total said.0.0 said.0.1))
 
-  pub range-concluded : (detail : Detail) → Concludes h ended (counted_text n ended) sink_mid sink_new detail → IsAnswerToDemo detail
-  range-concluded = by-conclusion h ended (counted_text n ended) sink_mid sink_new IsAnswerToDemo (λ _. tt) (λ _. tt) (λ _. tt) (λ _. tt)
+  pub Concludes-answer_to_demo : (detail : Detail) → Concludes h ended (counted_text n ended) sink_mid sink_new detail → IsAnswerToDemo detail
+  Concludes-answer_to_demo = Concludes-cases h ended (counted_text n ended) sink_mid sink_new IsAnswerToDemo (λ _. tt) (λ _. tt) (λ _. tt) (λ _. tt)
       (λ tail total said. absurd (no-log_end tail total said.0.0 said.0.1))
 
   -- it was found that no log is there
-  pub tells-concluded : (opened : Type 0) → (opened → ⊥) → (detail : Detail) → Concludes h ended (counted_text n ended) sink_mid sink_new detail
+  pub Concludes-tells_whether : (opened : Type 0) → (opened → ⊥) → (detail : Detail) → Concludes h ended (counted_text n ended) sink_mid sink_new detail
       → TellsWhether opened detail
-  tells-concluded opened closed = by-conclusion h ended (counted_text n ended) sink_mid sink_new (TellsWhether opened) (λ _. tt) (λ _. closed)
+  Concludes-tells_whether opened closed = Concludes-cases h ended (counted_text n ended) sink_mid sink_new (TellsWhether opened) (λ _. tt) (λ _. closed)
       (λ _. closed) (λ _. closed) (λ _ _ _. closed)
 
   module _ (honest : g.honest entry) (honest_mid : g.honest disk) where
@@ -330,22 +330,22 @@ module _ {D : Type 0} {K : Type 0} (g : Ghosts D) (h : SinkGhosts K) (n seed : �
       sharing = taken;
       shared = shared;
       list = records;
-      goes_on = (keeps-ended g h ready.prepared generated_opening Count disk disk_new sink sink_mid ended has).goes_on;
-      images = images-begun g disk ready.tail generated_opening jobs taken _ is.log records (MayPrecede (g.images entry)) entry disk_new made.images
-          ((keeps-ended g h ready.prepared generated_opening Count disk disk_new sink sink_mid ended has).moments honest_mid);
+      goes_on = (ended-keeps_log g h ready.prepared generated_opening Count disk disk_new sink sink_mid ended has).goes_on;
+      images = Leaves-before_or_run g disk ready.tail generated_opening jobs taken _ is.log records (MayPrecede (g.images entry)) entry disk_new made.images
+          ((ended-keeps_log g h ready.prepared generated_opening Count disk disk_new sink sink_mid ended has).moments honest_mid);
       kept = λ image left_image.
-          let left = (keeps-ended g h ready.prepared generated_opening Count disk disk_new sink sink_mid ended has).left honest_mid image left_image in
+          let left = (ended-keeps_log g h ready.prepared generated_opening Count disk disk_new sink sink_mid ended has).left honest_mid image left_image in
           record {
             run = left.run;
-            count = Costs-more g _ _ _ _ entry disk_new (omega arith) (omega arith)
-                (Costs-then g 7 (4 * length left.run.front + 4) 11 (4 * length left.run.front + 4) entry disk disk_new made.count left.count);
+            count = Costs-weaken g _ _ _ _ entry disk_new (omega arith) (omega arith)
+                (Costs-trans g 7 (4 * length left.run.front + 4) 11 (4 * length left.run.front + 4) entry disk disk_new made.count left.count);
           };
       grows = λ image left_image.
-          let left = (keeps-ended g h ready.prepared generated_opening Count disk disk_new sink sink_mid ended has).left honest_mid image left_image in
+          let left = (ended-keeps_log g h ready.prepared generated_opening Count disk disk_new sink sink_mid ended has).left honest_mid image left_image in
           let place : ℕ = most_end generated_end (end_of left.run.front) options.ring in
           GrowsAtMostTo-trans g place entry disk disk_new
-          (GrowsAtMostTo-more g (generated_end + 1) place entry disk (omega arith) made.grows)
-          (GrowsAtMostTo-more g (most_end ready.tail.at (end_of left.run.front) (key_of ready.prepared.table).ring) place disk disk_new
+          (GrowsAtMostTo-weaken g (generated_end + 1) place entry disk (omega arith) made.grows)
+          (GrowsAtMostTo-weaken g (most_end ready.tail.at (end_of left.run.front) (key_of ready.prepared.table).ring) place disk disk_new
           (omega (arith, is.place, is.ring)) left.grows);
     }
 
@@ -354,13 +354,13 @@ module _ {D : Type 0} {K : Type 0} (g : Ghosts D) (h : SinkGhosts K) (n seed : �
     unfolding ran
     ran-all nothing = record {
       ran = ran;
-      all = (drained-ended g h ready.prepared generated_opening Count disk disk_new sink sink_mid ended has nothing.0).images honest_mid;
-      whole = whole-ended g h ready.prepared generated_opening Count disk disk_new sink sink_mid ended has nothing.1;
+      all = (ended-drained g h ready.prepared generated_opening Count disk disk_new sink sink_mid ended has nothing.0).images honest_mid;
+      whole = ended-runs_whole g h ready.prepared generated_opening Count disk disk_new sink sink_mid ended has nothing.1;
     }
 
     pub answers-demo : (detail : Detail) → Concludes h ended (counted_text n ended) sink_mid sink_new detail
         → AnswersDemo g n seed options entry disk_new detail
     unfolding ran
-    answers-demo = by-conclusion h ended (counted_text n ended) sink_mid sink_new (AnswersDemo g n seed options entry disk_new) (λ _. inr ran)
+    answers-demo = Concludes-cases h ended (counted_text n ended) sink_mid sink_new (AnswersDemo g n seed options entry disk_new) (λ _. inr ran)
         (λ said. absurd (never-fails said.0)) (λ said. ran-all said.0) (λ said. ran-all said.0)
         (λ tail total said. no-log_end tail total said.0.0 said.0.1)

@@ -15,7 +15,7 @@ use Rattle.lock_core.specs.History.{history_from}
 use Rattle.lock_core.specs.Serial.{NumberedTransfer, numbered, IsCutShort, IsPartlySerialAfter}
 use Rattle.lock_core.specs.Sums.{BaseState}
 use Rattle.lock_core.specs.Transactions.{own_records_of, all_without_prev, in_order}
-use Rattle.lock_core.proofs.Doing.{end_of-weight, partly-done}
+use Rattle.lock_core.proofs.Doing.{end_of-weight, partly_serial-done_or_cut_short}
 use Rattle.lock_core.proofs.NextRecords.{size-without_prev}
 use Rattle.lock_core.proofs.Weighing.{AreDistinct, each_task, has_number, weight_of-append, weight_of-history, weight_of-in_order, weight_of-tasks, weight_of-without_prev}
 use Rattle.lock_core.specs.declared.job.Job.{Job}
@@ -81,12 +81,12 @@ distinct-numbered first [] = tt
 distinct-numbered first (job ∷ jobs) = (number-new first (first + 1) jobs (omega arith), distinct-numbered (first + 1) jobs)
 
 module _ (n seed first : ℕ) (base : BaseState) (few : n ≤ 100000) (opens : OpensGenerated base) where
-  pub end-most : (records : List Rec)
+  pub end_of-partly_serial_le : (records : List Rec)
       → IsPartlySerialAfter base (numbered first (generated_transfers n seed)) (history_from base.end [] records) → end_of records ≤ 5 * n
-  end-most records serial =
+  end_of-partly_serial_le records serial =
       let tasks = numbered first (generated_transfers n seed) in
       let h = history_from base.end [] records in
-      let each = partly-done base first (generated_transfers n seed) (room-generated n seed base few opens) h serial in
+      let each = partly_serial-done_or_cut_short base first (generated_transfers n seed) (room-generated n seed base few opens) h serial in
       let sum = weight_of-tasks size_of tasks h (distinct-numbered first (generated_transfers n seed)) serial.others in
       omega (arith, end_of-weight records, weight_of-history size_of base.end [] records, sum, tasks-most h first n seed each)
 

@@ -12,8 +12,8 @@ use Rattle.lock_core.specs.Serial.{numbered, IsSerialAfter}
 use Rattle.lock_core.specs.AccountRows.{row, KeepsRows}
 use Rattle.lock_core.specs.AnyOrder.{done_records, weight_of}
 use Rattle.lock_core.proofs.Conserving.{sum_below-same}
-use Rattle.lock_core.proofs.Doing.{records-done}
-use Rattle.lock_core.proofs.Ranging.{balance_of-is}
+use Rattle.lock_core.proofs.Doing.{serial_records-weight_of_done}
+use Rattle.lock_core.proofs.Ranging.{is_balance-equals_balance_of}
 use Rattle.lock_core.proofs.Weighing.{IgnoresPrev, weight_of-append}
 use Rattle.commit_pipeline.specs.EndLines.{is_done, is_refused, done_in, refused_in}
 use Rattle.txn_script.specs.Generator.{number_after, job_from, generated_transfers, generated_balance, OpensGenerated}
@@ -22,7 +22,7 @@ use Rattle.txn_script.proofs.OrderLemmas.{room-generated, generated-balance, gen
 use Rattle.cli_demo.specs.Summary.{generated_opening, summary_text}
 use Rattle.run_summary.specs.Summary.{balance_in, mix_below, summary_lines, summary_of}
 use Rattle.log_recovery.specs.Opened.{placed, base_in, base_left}
-use Rattle.cli_shared.proofs.GenesisLemmas.{opening_rows, genesis-kept}
+use Rattle.cli_shared.proofs.GenesisLemmas.{opening_rows, genesis-keeps_rows}
 
 done_in-weight : (records : List Rec) → done_in records ≡ weight_of is_done records
 done_in-weight [] = refl
@@ -64,13 +64,13 @@ module _ (n seed first : ℕ) (base : BaseState) (records : List Rec) (rows : Li
     (kept : KeepsRows rows base (history_from base.end [] records)) where
   all_done : done_in records ≡ n
   all_done =
-      let same = records-done base first (generated_transfers n seed) (room-generated n seed base few opens) is_done records is_done-prev serial in
+      let same = serial_records-weight_of_done base first (generated_transfers n seed) (room-generated n seed base few opens) is_done records is_done-prev serial in
       let each = each-generated is_done 1 (λ first x. refl) first n seed in
       done_in-weight records ∙ omega arith
 
   none_refused : refused_in records ≡ 0
   none_refused =
-      let same = records-done base first (generated_transfers n seed) (room-generated n seed base few opens) is_refused records is_refused-prev serial in
+      let same = serial_records-weight_of_done base first (generated_transfers n seed) (room-generated n seed base few opens) is_refused records is_refused-prev serial in
       let each = each-generated is_refused 0 (λ first x. refl) first n seed in
       refused_in-weight records ∙ omega arith
 
@@ -78,12 +78,12 @@ module _ (n seed first : ℕ) (base : BaseState) (records : List Rec) (rows : Li
   each-balance account below =
       let counted = kept.count in
       let known = opens.accounts in
-      sym (balance_of-is base (history_from base.end [] records) account (balance_in rows account) (kept.balance account (omega arith)))
+      sym (is_balance-equals_balance_of base (history_from base.end [] records) account (balance_in rows account) (kept.balance account (omega arith)))
       ∙ generated-balance n seed base few opens first (history_from base.end [] records) account serial below
 
-  pub summary-same : base.end ≡ 128
+  pub summary_of-summary_text : base.end ≡ 128
       → summary_of (record { transfers = n; done = done_in records; refused = refused_in records; lsn = base.end + end_of records }) rows ≡ summary_text n seed
-  summary-same start =
+  summary_of-summary_text start =
       let end = generated-end n seed first base records few opens serial in
       let lsn : base.end + end_of records ≡ 128 + 5 * n = omega arith in
       let count : length rows ≡ 64 = kept.count ∙ opens.accounts in
@@ -104,9 +104,9 @@ first_balance (suc n) (suc account) balance below = first_balance n account bala
 pub opening-generated : OpensGenerated (base_left generated_opening)
 opening-generated =
     let h = placed generated_opening in
-    let kept = genesis-kept (replicate 64 1000000) (omega arith) (All-replicate IsBalance 64 1000000 (omega arith)) in record {
+    let kept = genesis-keeps_rows (replicate 64 1000000) (omega arith) (All-replicate IsBalance 64 1000000 (omega arith)) in record {
       accounts = refl;
-      balance = λ account below. balance_of-is (base_in generated_opening) h account _ (kept.balance account below) ∙ first_balance 64 account 1000000 below;
+      balance = λ account below. is_balance-equals_balance_of (base_in generated_opening) h account _ (kept.balance account below) ∙ first_balance 64 account 1000000 below;
     }
 
 pub opening-end : (base_left generated_opening).end ≡ 128

@@ -7,10 +7,10 @@ use Rattle.log_recovery.specs.Text.{lsn_line, account_line}
 use Rattle.txn_script.specs.declared.lines.TheConstants.{LF}
 use Rattle.txn_script.specs.declared.pay.TheConstants.{SPACE}
 use Rattle.txn_script.specs.Reading.{IsDigit}
-use Rattle.txn_script.proofs.NumberLemmas.{digits-whole, space-ends}
+use Rattle.txn_script.proofs.NumberLemmas.{digits-append_injective, space-no_digit}
 use Rattle.commit_pipeline.specs.EndLines.{done_line, short_line, over_line}
 use Rattle.cli_laws.proofs.NumberTexts.{number-digits, number_text-injective}
-use Rattle.cli_laws.proofs.WholeLines.{HasNoFeed, IsWholeLine, no_feed-given, no_feed-append}
+use Rattle.cli_laws.proofs.WholeLines.{HasNoFeed, IsWholeLine, is_one_line-no_feed, no_feed-append}
 
 -- ---- each line is whole
 
@@ -25,7 +25,7 @@ words-number : (words : List ℕ) (n : ℕ) → HasNoFeed words → HasNoFeed (w
 words-number words n one = no_feed-append words (number_text n) one (digits-no_feed (number_text n) (number-digits n))
 
 space-after : (words : List ℕ) → HasNoFeed words → HasNoFeed (words ++ codes " ")
-space-after words one = no_feed-append words (codes " ") one (no_feed-given (codes " ") refl)
+space-after words one = no_feed-append words (codes " ") one (is_one_line-no_feed (codes " ") refl)
 
 -- a line of these words and two numbers
 pair-whole : (words : List ℕ) (m n : ℕ) → HasNoFeed words → IsWholeLine (words ++ number_text m ++ codes " " ++ number_text n ++ codes "\n")
@@ -37,23 +37,23 @@ pair-whole words m n one = record {
 
 pub done-whole : (txn end : ℕ) → IsWholeLine (done_line txn end)
 unfolding done_line
-done-whole txn end = pair-whole (codes "done ") txn end (no_feed-given (codes "done ") refl)
+done-whole txn end = pair-whole (codes "done ") txn end (is_one_line-no_feed (codes "done ") refl)
 
 pub short-whole : (txn leg end : ℕ) → IsWholeLine (short_line txn leg end)
 unfolding short_line
 short-whole txn leg end = pair-whole (codes "short " ++ number_text txn ++ codes " ") leg end
-    (space-after (codes "short " ++ number_text txn) (words-number (codes "short ") txn (no_feed-given (codes "short ") refl)))
+    (space-after (codes "short " ++ number_text txn) (words-number (codes "short ") txn (is_one_line-no_feed (codes "short ") refl)))
 
 pub over-whole : (txn leg end : ℕ) → IsWholeLine (over_line txn leg end)
 unfolding over_line
 over-whole txn leg end = pair-whole (codes "over " ++ number_text txn ++ codes " ") leg end
-    (space-after (codes "over " ++ number_text txn) (words-number (codes "over ") txn (no_feed-given (codes "over ") refl)))
+    (space-after (codes "over " ++ number_text txn) (words-number (codes "over ") txn (is_one_line-no_feed (codes "over ") refl)))
 
 pub lsn-whole : (lsn : ℕ) → IsWholeLine (lsn_line lsn)
 unfolding lsn_line
 lsn-whole lsn = record {
   words = codes "lsn " ++ number_text lsn;
-  one = words-number (codes "lsn ") lsn (no_feed-given (codes "lsn ") refl);
+  one = words-number (codes "lsn ") lsn (is_one_line-no_feed (codes "lsn ") refl);
   whole = refl;
 }
 
@@ -93,8 +93,8 @@ numbers-split m n =
 pub done-injective : (t e txn end : ℕ) → t < 2 ^ 32 → e < 2 ^ 32 → done_line txn end ≡ done_line t e → (t ≡ txn) × (e ≡ end)
 unfolding done_line
 done-injective t e txn end small_t small_e same =
-    let txns = digits-whole (number_text t) (number_text txn) (SPACE ∷ (number_text e ++ LF ∷ [])) (SPACE ∷ (number_text end ++ LF ∷ []))
-    (number-digits t) (number-digits txn) space-ends space-ends (sym (numbers-split t e) ∙ ap (drop 5) (sym same) ∙ numbers-split txn end) in
-    let ends = digits-whole (number_text e) (number_text end) (LF ∷ []) (LF ∷ []) (number-digits e) (number-digits end)
+    let txns = digits-append_injective (number_text t) (number_text txn) (SPACE ∷ (number_text e ++ LF ∷ [])) (SPACE ∷ (number_text end ++ LF ∷ []))
+    (number-digits t) (number-digits txn) space-no_digit space-no_digit (sym (numbers-split t e) ∙ ap (drop 5) (sym same) ∙ numbers-split txn end) in
+    let ends = digits-append_injective (number_text e) (number_text end) (LF ∷ []) (LF ∷ []) (number-digits e) (number-digits end)
     (λ digit. omega (arith, digit.0)) (λ digit. omega (arith, digit.0)) (ap (drop 1) txns.1) in
     (number_text-injective t txn small_t txns.0, number_text-injective e end small_e ends.0)

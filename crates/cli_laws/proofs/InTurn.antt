@@ -8,12 +8,12 @@ use Rattle.log_record.specs.declared.rec.Placed.{Placed}
 use Rattle.log_recovery.specs.Opened.{OpenedList, placed}
 use Rattle.lock_core.specs.Transactions.{own_records_of}
 use Rattle.job_queue.specs.Takings.{times}
-use Rattle.job_queue.proofs.Counting.{once-most, same-refl, times-append}
+use Rattle.job_queue.proofs.Counting.{once_below-le_one, same-refl, times-append}
 use Rattle.txn_jobs.specs.Places.{NumberedJobs, number_at}
 use Rattle.cli_threads.specs.Run.{GoesOn}
 use Rattle.cli_threads.specs.RunStops.{EndsAs}
 use Rattle.cli_threads.specs.Sharing.{IsSharedOut, Sharing}
-use Rattle.cli_threads.proofs.PlaceTimes.{contains-times, once-inside, same-is}
+use Rattle.cli_threads.proofs.PlaceTimes.{times_positive-contains, once_below-inside, same-equal}
 use Rattle.cli_laws.specs.InTurn.{IsUnended}
 
 -- ---- how often a list has one of some places
@@ -64,8 +64,8 @@ module _ (jobs : NumberedJobs) (h : List Placed) (list : List ℕ)
   none-else x (y ∷ ys) has this apart each = (
     dite (dec_lt 0 (times y list))
         (λ there.
-        let other : x ≢ y = λ is. absurd (omega (arith, apart, same-is x y is)) in
-        absurd (never-both x y other has (contains-times y list (omega (arith, there))) this each.0))
+        let other : x ≢ y = λ is. absurd (omega (arith, apart, same-equal x y is)) in
+        absurd (never-both x y other has (times_positive-contains y list (omega (arith, there))) this each.0))
         (λ none. omega (arith, none)),
     none-else x ys has this (omega (arith, apart)) each.1,
   )
@@ -75,7 +75,7 @@ module _ (jobs : NumberedJobs) (h : List Placed) (list : List ℕ)
   hits-most (x ∷ xs) apart each = dite (dec_lt 0 (times x list))
       (λ here.
       let alone : times x xs ≡ 0 = omega (arith, apart x, same-refl x) in
-      omega (arith, once x, hits-none xs list (none-else x xs (contains-times x list (omega (arith, here))) each.0 alone each.1)))
+      omega (arith, once x, hits-none xs list (none-else x xs (times_positive-contains x list (omega (arith, here))) each.0 alone each.1)))
       (λ none. omega (arith, none, hits-most xs (λ y. omega (arith, apart y)) each.1))
 
 -- ---- those of all
@@ -88,7 +88,7 @@ module _ (opened records : OpenedList) (jobs : NumberedJobs) (sharing : Sharing)
       (λ no_less. absurd (begun (goes_on.rest x (omega (arith, no_less)))))
 
   taken-inside : (x : ℕ) → x < sharing.front → 1 ≤ times x (concat sharing.taken)
-  taken-inside x inside = omega (arith, shared.once x, once-inside x sharing.front inside)
+  taken-inside x inside = omega (arith, shared.once x, once_below-inside x sharing.front inside)
 
   all-taken : (xs : List ℕ) → AllByRecursion (IsUnended jobs (placed records)) xs
       → AllByRecursion (λ x. 1 ≤ times x (concat sharing.taken)) xs
@@ -106,14 +106,14 @@ module _ (opened records : OpenedList) (jobs : NumberedJobs) (sharing : Sharing)
         (λ x. omega (arith, once x, times-append x list (concat lists))),
   )
 
-  pub unended-few : (places : List ℕ) → ((place : ℕ) → times place places ≤ 1) → AllByRecursion (IsUnended jobs (placed records)) places
+  pub unended-at_most_workers : (places : List ℕ) → ((place : ℕ) → times place places ≤ 1) → AllByRecursion (IsUnended jobs (placed records)) places
       → length places ≤ workers
-  unended-few places apart each = omega (
+  unended-at_most_workers places apart each = omega (
     arith,
     shared.count,
     hits-all places (concat sharing.taken) (all-taken places each),
     hits-concat places sharing.taken (each-list places apart each sharing.taken (λ list has. has)
-        (λ x. omega (arith, shared.once x, once-most x sharing.front))),
+        (λ x. omega (arith, shared.once x, once_below-le_one x sharing.front))),
   )
 
 -- the one list among lists
@@ -121,14 +121,14 @@ only-list : (lists : List (List ℕ)) → length lists ≡ 1
     → (list : List ℕ) × Contains lists list × ((x : ℕ) → 1 ≤ times x (concat lists) → Contains list x)
 only-list [] one = absurd (omega (arith, one))
 only-list (list ∷ []) one =
-    (list, (0, omega arith, refl), λ x has. contains-times x list (omega (arith, has, times-append x list [])))
+    (list, (0, omega arith, refl), λ x has. times_positive-contains x list (omega (arith, has, times-append x list [])))
 only-list (list ∷ other ∷ lists) one = absurd (omega (arith, one))
 
 -- one worker makes the transfers in the order of the script
-pub one-in_order : (opened records : OpenedList) (jobs : NumberedJobs) (sharing : Sharing) → GoesOn opened jobs sharing records
+pub one_worker-in_order : (opened records : OpenedList) (jobs : NumberedJobs) (sharing : Sharing) → GoesOn opened jobs sharing records
     → IsSharedOut 1 jobs sharing → (i j : ℕ) → i < j → own_records_of (number_at jobs j) (placed records) ≢ []
     → EndsAs jobs i (placed records) true
-one-in_order opened records jobs sharing goes_on shared i j less begun =
+one_worker-in_order opened records jobs sharing goes_on shared i j less begun =
     let inside = begun-inside opened records jobs sharing 1 goes_on shared j begun in
     let taken = taken-inside opened records jobs sharing 1 goes_on shared in
     let only = only-list sharing.taken shared.count in

@@ -19,7 +19,7 @@ use Rattle.lock_core.specs.Transactions.{own_records_of, has_end}
 use Rattle.lock_core.specs.Witness.{genesis_log}
 use Rattle.lock_core.proofs.Fronts.{history_from-append}
 use Rattle.lock_core.proofs.ListLemmas.{all-append}
-use Rattle.lock_core.proofs.OneMore.{total-empty}
+use Rattle.lock_core.proofs.OneMore.{total-no_change}
 use Rattle.lock_core.specs.declared.job.Job.{Job}
 use Rattle.lock_core.specs.Alone.{leg_updates, planned_records}
 use Rattle.lock_core.specs.Transfers.{transfer_of}
@@ -28,7 +28,7 @@ use Rattle.segment_file.specs.StandingLog.{StandsAt}
 use Rattle.segment_file.specs.declared.layout.TheConstants.{CLOSED}
 use Rattle.segment_file.specs.declared.scan_result.Tail.{Tail}
 use Rattle.segment_file.proofs.BatchLemmas.{length-batch}
-use Rattle.segment_file.proofs.FirstFormat.{stands-log}
+use Rattle.segment_file.proofs.FirstFormat.{StandsAt-LogStandsAt}
 use Rattle.log_recovery.specs.Opened.{OpenedList, whole_list, list_end, log_of, placed}
 use Rattle.log_rule.specs.declared.start.Start.{Start}
 use Rattle.log_rule.specs.declared.view.Given.{Given}
@@ -39,10 +39,10 @@ use Rattle.log_rule.specs.Sound.{base_of}
 use Rattle.log_rule.specs.Views.{flusher}
 use Rattle.log_table.specs.declared.table.Seat.{Seat}
 use Rattle.flusher.specs.KeptLog.{KeepsLog}
-use Rattle.flusher.proofs.Keeps.{KeepsLog-first}
+use Rattle.flusher.proofs.Keeps.{KeepsLog-none_sent}
 use Rattle.commit_pipeline.specs.declared.daemon.Daemon.{Daemon}
 use Rattle.commit_pipeline.specs.Told.{HasTold}
-use Rattle.commit_pipeline.proofs.ToldSoFar.{HasTold-all, HasToldAll-none}
+use Rattle.commit_pipeline.proofs.ToldSoFar.{HasToldAll-has_told, HasToldAll-none}
 use Rattle.end_lines.specs.declared.voice.Voice.TheVariants.{Lines}
 use Rattle.txn_jobs.specs.declared.cause.Cause.TheVariants.{LogEnd}
 use Rattle.txn_jobs.specs.declared.cause.Worked.TheVariants as worked
@@ -53,7 +53,7 @@ use Rattle.cli_laws.specs.RunWitness.{payment, file_at, plain_disk, plain_sink, 
 use Rattle.cli_threads.specs.Shares.{Share, IsGivenUncommitted, AreGivenUncommitted, EndsLogAt, HasShare, HasGathered, sharing_of}
 use Rattle.cli_threads.specs.Sharing.{IsSharedOut}
 use Rattle.cli_threads.specs.Transferred.{IsOpened}
-use Rattle.cli_laws.proofs.RunWitness.{genesis-counted, genesis-spellable, genesis-lawful, plain-now, shut-at}
+use Rattle.cli_laws.proofs.RunWitness.{genesis-counted, genesis-spellable, genesis-lawful, plain_disk-images_now, closed_file-is_shut}
 
 -- ---- the log
 
@@ -88,8 +88,8 @@ stays-note end h before = record {
   count = before.count;
   balance = before.balance;
   totals = λ account. (
-    total-empty gain account (record { end = end; rec = note }) h refl refl ∙ (before.totals account).0,
-    total-empty loss account (record { end = end; rec = note }) h refl refl ∙ (before.totals account).1,
+    total-no_change gain account (record { end = end; rec = note }) h refl refl ∙ (before.totals account).0,
+    total-no_change loss account (record { end = end; rec = note }) h refl refl ∙ (before.totals account).1,
   );
   last_commits = before.last_commits;
 }
@@ -196,8 +196,8 @@ module _ (n slots : ℕ) (full : 4 + 2 * n ≤ LAST) (near : LAST < 4 + 2 * n + 
     range = λ account none. absurd (omega arith);
     some_accounts = omega (arith, stays-opened.count);
     below = omega (arith, stays-opened.few);
-    stand = λ honest bytes is. stands-log tail (units_of opened.records) bytes (subst (StandsAt tail (units_of opened.records)) (sym is) stands);
-    shut = λ honest. shut-at (λ moment. file) 0 tail.at (written (units_of genesis_log ∷ batches n)) refl refl;
+    stand = λ honest bytes is. StandsAt-LogStandsAt tail (units_of opened.records) bytes (subst (StandsAt tail (units_of opened.records)) (sym is) stands);
+    shut = λ honest. closed_file-is_shut (λ moment. file) 0 tail.at (written (units_of genesis_log ∷ batches n)) refl refl;
     next = sym end-opened;
     place = omega (
       arith,
@@ -361,11 +361,11 @@ module _ (n slots : ℕ) (full : 4 + 2 * n ≤ LAST) (near : LAST < 4 + 2 * n + 
     seat = record { base = record d.flusher.seat.base { me = (view_old, []) }; worker = 0; named = refl }
 
     keeps-still : KeepsLog (plain_disk (λ moment. file)) 0 0 tail [] []
-    keeps-still = KeepsLog-first (plain_disk (λ moment. file)) (plain-now (λ moment. file)) 0 tail [] [] refl refl refl (log_of opened)
+    keeps-still = KeepsLog-none_sent (plain_disk (λ moment. file)) (plain_disk-images_now (λ moment. file)) 0 tail [] [] refl refl refl (log_of opened)
         (is-opened.stand tt)
 
     told-none : HasTold plain_sink [] [] Lines view_old view_old
-    told-none = HasTold-all plain_sink [] Lines view_old [] view_old (HasToldAll-none plain_sink [] Lines view_old)
+    told-none = HasToldAll-has_told plain_sink [] Lines view_old [] view_old (HasToldAll-none plain_sink [] Lines view_old)
 
     abbrev daemon : Daemon ℕ (List ℕ) (plain_disk (λ moment. file)) plain_sink
     daemon = record {

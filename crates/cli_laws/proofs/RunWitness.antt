@@ -25,7 +25,7 @@ use Rattle.segment_file.specs.StandingLog.{StandsAt, LogStands, LogStandsAt, IsS
 use Rattle.segment_file.specs.declared.layout.TheConstants.{OPEN, CLOSED}
 use Rattle.segment_file.specs.declared.scan_result.Tail.{Tail}
 use Rattle.segment_file.proofs.BatchLemmas.{length-batch}
-use Rattle.segment_file.proofs.FirstFormat.{stands-log}
+use Rattle.segment_file.proofs.FirstFormat.{StandsAt-LogStandsAt}
 use Rattle.segment_file.proofs.LogLemmas.{with_units-nil}
 use Rattle.segment_file.proofs.OneReading.{one_reading-log}
 use Rattle.log_table.specs.declared.table.Seat.{Seat}
@@ -36,7 +36,7 @@ use Rattle.log_rule.specs.ClosedLog.{IsGathered, HasLedger, IsLedger}
 use Rattle.log_table.specs.Seats.{IsOf}
 use Rattle.log_rule.specs.Sound.{base_of}
 use Rattle.log_rule.specs.Views.{flusher}
-use Rattle.log_rule.proofs.Deltas.{more-delta, less-delta}
+use Rattle.log_rule.proofs.Deltas.{delta-positive, delta-negated}
 use Rattle.commit_pipeline.specs.declared.daemon.Daemon.{Daemon}
 use Rattle.stop_word.specs.declared.fault.DaemonFault.TheVariants.{DiskFault, WriteFault}
 use Rattle.end_lines.specs.declared.voice.Voice.TheVariants.{Lines}
@@ -45,9 +45,9 @@ use Rattle.commit_pipeline.specs.Later.{Ran}
 use Rattle.commit_pipeline.specs.Told.{HasTold, HasToldAll}
 use Rattle.commit_pipeline.specs.Turning.{MayTurn}
 use Rattle.commit_pipeline.proofs.RanLemmas.{none≢some}
-use Rattle.commit_pipeline.proofs.ToldSoFar.{HasTold-all, HasToldAll-none}
+use Rattle.commit_pipeline.proofs.ToldSoFar.{HasToldAll-has_told, HasToldAll-none}
 use Rattle.flusher.specs.KeptLog.{HoldsFront, KeepsLog}
-use Rattle.flusher.proofs.Keeps.{KeepsLog-first}
+use Rattle.flusher.proofs.Keeps.{KeepsLog-none_sent}
 use Rattle.txn_jobs.specs.declared.cause.Worked.TheVariants.{All}
 use Rattle.txn_jobs.specs.Places.{NumberedJobs}
 use Rattle.cli_laws.specs.RunWitness.{payment, file_at, plain_disk, plain_sink, HasMadePayment}
@@ -55,7 +55,7 @@ use Rattle.cli_threads.specs.Shares.{Share, HasShare, HasGathered, sharing_of}
 use Rattle.cli_threads.specs.Sharing.{IsSharedOut}
 use Rattle.job_queue.specs.Takings.{times, once_below}
 use Rattle.cli_threads.specs.Transferred.{IsOpened}
-use Rattle.cli_threads.proofs.RunLedger.{base-opened}
+use Rattle.cli_threads.proofs.RunLedger.{base_of-base_left}
 
 -- ---- the data
 
@@ -123,18 +123,18 @@ at-length [] x = refl
 at-length (y ∷ xs) x = at-length xs x
 
 -- a closed gate stands at the end of the file
-pub shut-at : (file : ℕ → List ℕ) (moment at : ℕ) (xs : List ℕ) → file moment ≡ xs ++ CLOSED ∷ [] → at ≡ length xs
+pub closed_file-is_shut : (file : ℕ → List ℕ) (moment at : ℕ) (xs : List ℕ) → file moment ≡ xs ++ CLOSED ∷ [] → at ≡ length xs
     → IsShut at ((plain_disk file).images moment)
-shut-at file moment at xs whole place = record {
+closed_file-is_shut file moment at xs whole place = record {
   gate = CLOSED;
   shut = λ same. absurd (omega (arith, same));
   stable = λ bytes is. ap (λ b. slice_get b at) (is ∙ whole) ∙ ap (slice_get (xs ++ CLOSED ∷ [])) place ∙ at-length xs CLOSED;
 }
 
 -- what such a disk may leave at its moment alone is what it holds
-pub plain-now : (file : ℕ → List ℕ) (now : ℕ) (bytes : List ℕ) → (plain_disk file).images_since now now bytes
+pub plain_disk-images_now : (file : ℕ → List ℕ) (now : ℕ) (bytes : List ℕ) → (plain_disk file).images_since now now bytes
     → (plain_disk file).images now bytes
-plain-now file now bytes (moment, after, before, is) = is ∙ ap file (omega (arith, after, before))
+plain_disk-images_now file now bytes (moment, after, before, is) = is ∙ ap file (omega (arith, after, before))
 
 -- ---- the opened log
 
@@ -143,8 +143,8 @@ genesis-spellable = ((omega arith, omega arith), ((omega arith, omega arith), tt
 
 pub transfer-spellable : AllByRecursion IsSpellable transfer_records
 transfer-spellable = (
-  ((omega arith, omega arith), omega arith, less-delta 30 (omega arith) (omega arith), omega arith),
-  (((omega arith, omega arith), omega arith, more-delta 30 (omega arith) (omega arith), omega arith), (((omega arith, omega arith), (omega arith, omega arith)), tt)),
+  ((omega arith, omega arith), omega arith, delta-negated 30 (omega arith) (omega arith), omega arith),
+  (((omega arith, omega arith), omega arith, delta-positive 30 (omega arith) (omega arith), omega arith), (((omega arith, omega arith), (omega arith, omega arith)), tt)),
 )
 
 pub genesis-lawful : IsLawful no_opening (placed first_list)
@@ -152,8 +152,8 @@ genesis-lawful =
     (passes-genesis no_opening (record { end = 2; rec = Genesis 0 100 } ∷ []) 4 1 0 (tt, tt) refl refl, (passes-genesis no_opening [] 2 0 100 tt refl refl, tt))
 
 -- no account stands before it
-pub genesis-range : BeginsInRange (opening_before first_list).state
-genesis-range account none = absurd (omega arith)
+pub genesis-begins_in_range : BeginsInRange (opening_before first_list).state
+genesis-begins_in_range account none = absurd (omega arith)
 
 genesis-shown : ShowsAccounts rows_old (base_in first_list) (placed first_list)
 genesis-shown = record { count = refl; each = each }
@@ -197,10 +197,10 @@ shared = record { count = refl; rise = ((tt, tt), (tt, tt)); once = once; within
 -- at each moment the disk holds the opened list, and from moment 1 on the transfer's records behind it
 abbrev stands-first : LogStands tail_old (log_of first_list) ((plain_disk file_at).images 0)
 stands-first bytes is =
-    stands-log tail_old (units_of genesis_log) bytes (subst (StandsAt tail_old (units_of genesis_log)) (sym is) stands-old)
+    StandsAt-LogStandsAt tail_old (units_of genesis_log) bytes (subst (StandsAt tail_old (units_of genesis_log)) (sym is) stands-old)
 
 abbrev stands-all : LogStands tail_new (with_units (log_of first_list) (units_of transfer_records)) ((plain_disk file_at).images 1)
-stands-all bytes is = stands-log tail_new (units_of genesis_log ++ units_of transfer_records) bytes
+stands-all bytes is = StandsAt-LogStandsAt tail_new (units_of genesis_log ++ units_of transfer_records) bytes
     (subst (StandsAt tail_new (units_of genesis_log ++ units_of transfer_records)) (sym is) stands-new)
 
 front-at : (moment : ℕ) (bytes : List ℕ) → bytes ≡ file_at moment → HoldsFront (log_of first_list) transfer_records bytes
@@ -214,7 +214,7 @@ front-at (suc moment) bytes is =
     record { front = transfer_records; rest = []; whole = sym (append-nil transfer_records); holds = (stands-all bytes is).held }
 
 keeps-old : KeepsLog (plain_disk file_at) 0 0 tail_old [] []
-keeps-old = KeepsLog-first (plain_disk file_at) (plain-now file_at) 0 tail_old [] [] refl refl refl (log_of first_list) stands-first
+keeps-old = KeepsLog-none_sent (plain_disk file_at) (plain_disk-images_now file_at) 0 tail_old [] [] refl refl refl (log_of first_list) stands-first
 
 keeps-new : KeepsLog (plain_disk file_at) 0 1 tail_new (units_of transfer_records) []
 keeps-new = record {
@@ -260,11 +260,11 @@ module _ (d : Daemon ℕ (List ℕ) (plain_disk file_at) plain_sink) (of : IsOf 
   opened = record {
     spellable = genesis-spellable;
     lawful = genesis-lawful;
-    range = genesis-range;
+    range = genesis-begins_in_range;
     some_accounts = omega arith;
     below = omega arith;
     stand = λ honest. stands-first;
-    shut = λ honest. shut-at file_at 0 tail_old.at (written (units_of genesis_log ∷ [])) refl refl;
+    shut = λ honest. closed_file-is_shut file_at 0 tail_old.at (written (units_of genesis_log ∷ [])) refl refl;
     next = refl;
     place = omega (arith, length-batch (batch (units_of genesis_log) ++ []) (units_of genesis_log) [] refl, length-append (batch (units_of genesis_log)) []);
     start = refl;
@@ -272,7 +272,7 @@ module _ (d : Daemon ℕ (List ℕ) (plain_disk file_at) plain_sink) (of : IsOf 
   }
 
   base-is : base_of key ≡ base_left first_list
-  base-is = base-opened first_list key genesis-lawful refl genesis-shown
+  base-is = base_of-base_left first_list key genesis-lawful refl genesis-shown
 
   accounts : HasLedger (base_of key) view rows
   accounts = record {
@@ -341,7 +341,7 @@ module _ (d : Daemon ℕ (List ℕ) (plain_disk file_at) plain_sink) (of : IsOf 
   seat_with v is = record { base = record d.flusher.seat.base { me = (v, []) }; worker = 0; named = sym is }
 
   told-old : HasTold plain_sink [] [] Lines view_old view_old
-  told-old = HasTold-all plain_sink [] Lines view_old [] view_old (HasToldAll-none plain_sink [] Lines view_old)
+  told-old = HasToldAll-has_told plain_sink [] Lines view_old [] view_old (HasToldAll-none plain_sink [] Lines view_old)
 
   told-new : HasToldAll plain_sink [] (end_lines 4 transfer_records) Lines view_old view_new
   told-new = record {
@@ -386,7 +386,7 @@ module _ (d : Daemon ℕ (List ℕ) (plain_disk file_at) plain_sink) (of : IsOf 
     fault = None;
     first = record d.first { value = [] };
     begun = record d.begun { value = seat_with view_old refl };
-    told = ∣ HasTold-all plain_sink [] Lines view_old (end_lines 4 transfer_records) view_new told-new ∣₁;
+    told = ∣ HasToldAll-has_told plain_sink [] Lines view_old (end_lines 4 transfer_records) view_new told-new ∣₁;
   }
 
   may-turn : MayTurn (plain_disk file_at) new
@@ -404,7 +404,7 @@ module _ (d : Daemon ℕ (List ℕ) (plain_disk file_at) plain_sink) (of : IsOf 
         length-batch (batch (units_of genesis_log)) (units_of genesis_log) [] (sym (append-nil (batch (units_of genesis_log)))),
         length-batch (batch (units_of transfer_records)) (units_of transfer_records) [] (sym (append-nil (batch (units_of transfer_records)))),
       );
-      shut = λ honest. shut-at file_at 1 tail_new.at (written (units_of genesis_log ∷ units_of transfer_records ∷ [])) refl refl;
+      shut = λ honest. closed_file-is_shut file_at 1 tail_new.at (written (units_of genesis_log ∷ units_of transfer_records ∷ [])) refl refl;
       room = omega arith;
     };
     fine = refl;

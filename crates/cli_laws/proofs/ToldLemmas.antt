@@ -99,9 +99,9 @@ end_lines-commit at (rec ∷ records) rest txn end each room none has =
 
 -- ---- what was told
 
-pub told-commit : (bytes text rest : List ℕ) (opened : OpenedList) (front : List Rec) (txn end : ℕ) → HoldsLawful bytes (with_records opened front)
+pub done_line-has_commit_at : (bytes text rest : List ℕ) (opened : OpenedList) (front : List Rec) (txn end : ℕ) → HoldsLawful bytes (with_records opened front)
     → run_text opened front ≡ text ++ rest → HasLine text (done_line txn end) → HasCommitAt (list_end opened) front txn end
-told-commit bytes text rest opened front txn end held whole has =
+done_line-has_commit_at bytes text rest opened front txn end held whole has =
     let most : list_end (with_records opened front) ≤ LAST = held.list.holds.reads.total in
     end_lines-commit (list_end opened) front (accounts_text (with_records opened front)) txn end
     (all-split IsSpellable opened.records front held.list.each).1 (omega (arith, most, list_end-more opened front))
@@ -118,9 +118,9 @@ told-front old new before text whole was is (prefix, rest, split, appended) =
     (rest, split ∙ ap (λ t. t ++ rest) (sym same))
 
 module _ {D : Type 0} (g : Ghosts D) where
-  pub image-commit : (opened : OpenedList) (list : List Rec) (jobs : NumberedJobs) (sharing : Sharing) (old new : Outside D) (image before text : List ℕ)
+  pub HoldsTold-has_commit_at : (opened : OpenedList) (list : List Rec) (jobs : NumberedJobs) (sharing : Sharing) (old new : Outside D) (image before text : List ℕ)
       (txn end : ℕ) → (held : HoldsTold g opened jobs sharing list old new image) → old.text ≡ Some before → new.text ≡ Some (before ++ text)
       → HasLine text (done_line txn end) → HasCommitAt (list_end opened) held.run.front txn end
-  image-commit opened list jobs sharing old new image before text txn end held was is has =
+  HoldsTold-has_commit_at opened list jobs sharing old new image before text txn end held was is has =
       let (rest, whole) = told-front old.text new.text before text (run_text opened held.run.front) was is held.told in
-      told-commit image text rest opened held.run.front txn end held.run.holds whole has
+      done_line-has_commit_at image text rest opened held.run.front txn end held.run.holds whole has

@@ -1,4 +1,4 @@
--- The `done` line of one transfer is told, and the file holds what was told.
+-- The `done` line of one transfer is told, and the file StandsAt-HoldsUnits what was told.
 use Rattle.std.proofs.Common.{◌≢◌, ◌∙◌, inl, refl, sym, ap, [], ◌++◌, append-nil, arith}
 use Rattle.std.specs.List.{AllByRecursion}
 use Rattle.log_record.specs.LogList.{units_of}
@@ -11,8 +11,8 @@ use Rattle.lock_core.proofs.SerialFronts.{serial-partly}
 use Rattle.lock_core.proofs.Witnessing.{transfer-lawful, transfer-serial}
 use Rattle.log_recovery.specs.Opened.{list_end, placed, with_records, base_left}
 use Rattle.log_recovery.specs.Text.{accounts_text}
-use Rattle.segment_file.proofs.FirstFormat.{units-log}
-use Rattle.segment_file.proofs.StandingLemmas.{holds}
+use Rattle.segment_file.proofs.FirstFormat.{HoldsUnits-HoldsLog}
+use Rattle.segment_file.proofs.StandingLemmas.{StandsAt-HoldsUnits}
 use Rattle.commit_pipeline.specs.EndLines.{done_line}
 use Rattle.txn_jobs.specs.Places.{number_at}
 use Rattle.cli_threads.specs.Run.{ComeInTurn, HasNoneBehind, HoldsRun}
@@ -20,10 +20,10 @@ use Rattle.cli_threads.specs.Shares.{sharing_of}
 use Rattle.cli_threads.specs.Sharing.{Sharing}
 use Rattle.cli_laws.specs.RunWitness.{file_at}
 use Rattle.cli_laws.specs.Told.{HasToldPayment}
-use Rattle.cli_threads.proofs.RunHistory.{history-own, history-others}
-use Rattle.cli_threads.proofs.RunLedger.{whole-lawful, goes-on}
+use Rattle.cli_threads.proofs.RunHistory.{own_records_of-later, of_transaction-pushed_others}
+use Rattle.cli_threads.proofs.RunLedger.{with_records-lawful, with_records-goes_on}
 use Rattle.cli_threads.proofs.RunPlaces.{tasks_of}
-use Rattle.cli_laws.proofs.RunWitness.{first_list, jobs, shares, tail_new, stands-new, genesis-spellable, transfer-spellable, genesis-lawful, genesis-range}
+use Rattle.cli_laws.proofs.RunWitness.{first_list, jobs, shares, tail_new, stands-new, genesis-spellable, transfer-spellable, genesis-lawful, genesis-begins_in_range}
 
 spellable : AllByRecursion IsSpellable (genesis_log ++ transfer_records)
 spellable = all-append IsSpellable genesis_log transfer_records genesis-spellable transfer-spellable
@@ -36,8 +36,8 @@ sharing = sharing_of 1 shares
 
 -- no transfer but the first has a record
 none_behind : HasNoneBehind jobs sharing (placed (with_records first_list transfer_records))
-none_behind place behind = history-own first_list transfer_records (number_at jobs place) (omega (arith, behind))
-    ∙ ap recs_of (history-others (number_at jobs place) (list_end first_list) [] transfer_records (other, (other, (other, tt))) refl)
+none_behind place behind = own_records_of-later first_list transfer_records (number_at jobs place) (omega (arith, behind))
+    ∙ ap recs_of (of_transaction-pushed_others (number_at jobs place) (list_end first_list) [] transfer_records (other, (other, (other, tt))) refl)
   where
     other : 1 ≢ number_at jobs place
     other same = absurd (omega (arith, same, behind))
@@ -53,12 +53,12 @@ run = record {
   holds = record {
     list = record {
       each = spellable;
-      holds = units-log (file_at 1) (units_of genesis_log ++ units_of transfer_records)
-          (holds tail_new (units_of genesis_log ++ units_of transfer_records) (file_at 1) stands-new);
+      holds = HoldsUnits-HoldsLog (file_at 1) (units_of genesis_log ++ units_of transfer_records)
+          (StandsAt-HoldsUnits tail_new (units_of genesis_log ++ units_of transfer_records) (file_at 1) stands-new);
     };
-    lawful = whole-lawful first_list transfer_records jobs genesis-lawful genesis-range (omega arith) (omega arith) spellable transfer-lawful serial;
+    lawful = with_records-lawful first_list transfer_records jobs genesis-lawful genesis-begins_in_range (omega arith) (omega arith) spellable transfer-lawful serial;
   };
-  goes_on = goes-on first_list transfer_records jobs genesis-lawful genesis-range (omega arith) (omega arith) spellable transfer-lawful serial sharing in_turn
+  goes_on = with_records-goes_on first_list transfer_records jobs genesis-lawful genesis-begins_in_range (omega arith) (omega arith) spellable transfer-lawful serial sharing in_turn
       none_behind;
 }
 

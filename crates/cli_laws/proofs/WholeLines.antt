@@ -22,9 +22,9 @@ is_one_line [] = true
 is_one_line (byte ∷ bytes) = if byte == LF then false else is_one_line bytes
 
 -- of a text that is given
-pub no_feed-given : (text : List ℕ) → is_one_line text ≡ true → HasNoFeed text
-no_feed-given [] one = tt
-no_feed-given (byte ∷ bytes) one = by (byte == LF) refl one (no_feed-given bytes)
+pub is_one_line-no_feed : (text : List ℕ) → is_one_line text ≡ true → HasNoFeed text
+is_one_line-no_feed [] one = tt
+is_one_line-no_feed (byte ∷ bytes) one = by (byte == LF) refl one (is_one_line-no_feed bytes)
   where
     by : (feed : Bool) → (byte == LF) ≡ feed → (if feed then false else is_one_line bytes) ≡ true
         → (is_one_line bytes ≡ true → HasNoFeed bytes) → HasNoFeed (byte ∷ bytes)

@@ -12,7 +12,7 @@ use Rattle.cli_new.specs.Answers.{AnswersNew, AreOpening, IsMakingFault, IsAnswe
 use Rattle.cli_new.specs.Creation.{FollowsLog}
 use Rattle.cli_shared.specs.Answers.{StaysSilent}
 use Rattle.cli_shared.specs.Creation.{new_list}
-use Rattle.cli_shared.proofs.ToldLemmas.{TellsWrite, kept-text, nothing-said}
+use Rattle.cli_shared.proofs.ToldLemmas.{TellsWrite, Keeps-refl, IfSome-nothing_said}
 use Rattle.cli_shared.proofs.GenesisLemmas.{genesis-text}
 
 -- the text of the new log's accounts
@@ -59,30 +59,30 @@ first_bad : (left left_new text : Option (List ℕ)) (line : ℕ) → IsMakingFa
 first_bad None left_new text line is = tt
 first_bad (Some bytes) left_new text line is = (is.1.1, subst (λ all. IsFirstBadBalance all line) is.1.0 is.2)
 
-pub unmade-fault : (left left_new text : Option (List ℕ)) (detail : Detail) → IsMakingFault left left_new detail
+pub making_fault-unmade : (left left_new text : Option (List ℕ)) (detail : Detail) → IsMakingFault left left_new detail
     → IsUnmade left left_new text detail
-unmade-fault left left_new text (Script line) is =
-    record { answer = first_bad left left_new text line is; range = tt; silent = kept-text text; write = λ tells. tells; follows = λ follows. follows }
-unmade-fault left left_new text Read is =
-    record { answer = nothing-said left; range = tt; silent = kept-text text; write = λ tells. tells; follows = λ follows. follows }
-unmade-fault left left_new text NoMemory is =
-    record { answer = nothing-said left; range = tt; silent = kept-text text; write = λ tells. tells; follows = λ follows. follows }
-unmade-fault left left_new text Disk is =
-    record { answer = nothing-said left; range = tt; silent = kept-text text; write = λ tells. tells; follows = λ follows. follows }
-unmade-fault left left_new text Exists is =
-    record { answer = nothing-said left; range = tt; silent = kept-text text; write = λ tells. tells; follows = λ follows. follows }
-unmade-fault left left_new text (NoSuchLsn lsn) is = absurd is
-unmade-fault left left_new text (BadStream offset) is = absurd is
-unmade-fault left left_new text (Gap have from) is = absurd is
-unmade-fault left left_new text (StreamUnlawful lsn why) is = absurd is
-unmade-fault left left_new text (NoAccount account) is = absurd is
-unmade-fault left left_new text Usage is = absurd is
-unmade-fault left left_new text NotALog is = absurd is
-unmade-fault left left_new text BadSnapshot is = absurd is
-unmade-fault left left_new text (BadBatch offset) is = absurd is
-unmade-fault left left_new text (BadRec lsn) is = absurd is
-unmade-fault left left_new text (Unlawful lsn why) is = absurd is
-unmade-fault left left_new text (LogEnd tail total) is = absurd is
-unmade-fault left left_new text (TxnEnd first count) is = absurd is
-unmade-fault left left_new text Fine is = absurd is
-unmade-fault left left_new text Write is = absurd is
+making_fault-unmade left left_new text (Script line) is =
+    record { answer = first_bad left left_new text line is; range = tt; silent = Keeps-refl text; write = λ tells. tells; follows = λ follows. follows }
+making_fault-unmade left left_new text Read is =
+    record { answer = IfSome-nothing_said left; range = tt; silent = Keeps-refl text; write = λ tells. tells; follows = λ follows. follows }
+making_fault-unmade left left_new text NoMemory is =
+    record { answer = IfSome-nothing_said left; range = tt; silent = Keeps-refl text; write = λ tells. tells; follows = λ follows. follows }
+making_fault-unmade left left_new text Disk is =
+    record { answer = IfSome-nothing_said left; range = tt; silent = Keeps-refl text; write = λ tells. tells; follows = λ follows. follows }
+making_fault-unmade left left_new text Exists is =
+    record { answer = IfSome-nothing_said left; range = tt; silent = Keeps-refl text; write = λ tells. tells; follows = λ follows. follows }
+making_fault-unmade left left_new text (NoSuchLsn lsn) is = absurd is
+making_fault-unmade left left_new text (BadStream offset) is = absurd is
+making_fault-unmade left left_new text (Gap have from) is = absurd is
+making_fault-unmade left left_new text (StreamUnlawful lsn why) is = absurd is
+making_fault-unmade left left_new text (NoAccount account) is = absurd is
+making_fault-unmade left left_new text Usage is = absurd is
+making_fault-unmade left left_new text NotALog is = absurd is
+making_fault-unmade left left_new text BadSnapshot is = absurd is
+making_fault-unmade left left_new text (BadBatch offset) is = absurd is
+making_fault-unmade left left_new text (BadRec lsn) is = absurd is
+making_fault-unmade left left_new text (Unlawful lsn why) is = absurd is
+making_fault-unmade left left_new text (LogEnd tail total) is = absurd is
+making_fault-unmade left left_new text (TxnEnd first count) is = absurd is
+making_fault-unmade left left_new text Fine is = absurd is
+making_fault-unmade left left_new text Write is = absurd is

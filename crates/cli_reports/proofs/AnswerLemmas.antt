@@ -13,43 +13,43 @@ use Rattle.log_recovery.proofs.TextLemmas.{rows_text-shown}
 use Rattle.cli_shared.specs.declared.report.Detail.TheVariants.{Fine, Write}
 use Rattle.cli_reports.specs.Answers.{AnswersRecover, AnswersDump, IsAnswerToDump, IsAnswerToRecover}
 use Rattle.cli_shared.specs.Answers.{ReadsAll, StaysSilent, recover_detail}
-use Rattle.cli_shared.proofs.ToldLemmas.{TellsRead, TellsWrite, kept-text}
+use Rattle.cli_shared.proofs.ToldLemmas.{TellsRead, TellsWrite, Keeps-refl}
 
 -- the fault of a log tells of no read or write, and before it nothing was written
-pub read-fault : (f : RecoverFault) → TellsRead (recover_detail f) → ⊥
-read-fault fault.NotALog tells = tells
-read-fault f tells = tells
+pub recover_detail-not_read : (f : RecoverFault) → TellsRead (recover_detail f) → ⊥
+recover_detail-not_read fault.NotALog tells = tells
+recover_detail-not_read f tells = tells
 
-pub write-fault : (f : RecoverFault) → TellsWrite (recover_detail f) → ⊥
-write-fault fault.NotALog tells = tells
-write-fault f tells = tells
+pub recover_detail-not_write : (f : RecoverFault) → TellsWrite (recover_detail f) → ⊥
+recover_detail-not_write fault.NotALog tells = tells
+recover_detail-not_write f tells = tells
 
-pub silent-fault : (text : Option (List ℕ)) (f : RecoverFault) → StaysSilent text text (recover_detail f)
-silent-fault text fault.NotALog = kept-text text
-silent-fault text f = kept-text text
+pub recover_detail-stays_silent : (text : Option (List ℕ)) (f : RecoverFault) → StaysSilent text text (recover_detail f)
+recover_detail-stays_silent text fault.NotALog = Keeps-refl text
+recover_detail-stays_silent text f = Keeps-refl text
 
-pub answers-fault : (left left_new old new : Option (List ℕ)) (bytes : List ℕ) (f : RecoverFault) → ReadsAll left left_new bytes
+pub answers_recover-fault : (left left_new old new : Option (List ℕ)) (bytes : List ℕ) (f : RecoverFault) → ReadsAll left left_new bytes
     → IsFaultOf bytes f → IfSome left (λ all. AnswersRecover all left_new old new (recover_detail f))
-answers-fault None left_new old new bytes f read is = tt
-answers-fault (Some all) left_new old new bytes fault.NoMemory read is = tt
-answers-fault (Some all) left_new old new bytes f read is = (read.1, subst (λ b. IsFaultOf b f) read.0 is)
+answers_recover-fault None left_new old new bytes f read is = tt
+answers_recover-fault (Some all) left_new old new bytes fault.NoMemory read is = tt
+answers_recover-fault (Some all) left_new old new bytes f read is = (read.1, subst (λ b. IsFaultOf b f) read.0 is)
 
-pub range-fault : (f : RecoverFault) → IsAnswerToRecover (recover_detail f)
-range-fault fault.NotALog = tt
-range-fault f = tt
+pub recover_detail-answer_to_recover : (f : RecoverFault) → IsAnswerToRecover (recover_detail f)
+recover_detail-answer_to_recover fault.NotALog = tt
+recover_detail-answer_to_recover f = tt
 
-pub answers-fine : (left left_new old new : Option (List ℕ)) (bytes : List ℕ) (r : Recovered) → ReadsAll left left_new bytes
+pub answers_recover-fine : (left left_new old new : Option (List ℕ)) (bytes : List ℕ) (r : Recovered) → ReadsAll left left_new bytes
     → Recovers r bytes → Appends old new (rows_text r.lsn r.accounts.rows) → IfSome left (λ all. AnswersRecover all left_new old new Fine)
-answers-fine None left_new old new bytes r read recovers written = tt
-answers-fine (Some all) left_new old new bytes r read recovers written =
+answers_recover-fine None left_new old new bytes r read recovers written = tt
+answers_recover-fine (Some all) left_new old new bytes r read recovers written =
     let found = subst (λ b. Recovers r b) read.0 recovers in
     (read.1, found.list, found.held, rw (rows_text-shown _ _ found.list found.lsn found.accounts) at written)
 
-pub answers-write : (left left_new old new : Option (List ℕ)) (bytes : List ℕ) (r : Recovered) → ReadsAll left left_new bytes
+pub answers_recover-write : (left left_new old new : Option (List ℕ)) (bytes : List ℕ) (r : Recovered) → ReadsAll left left_new bytes
     → Recovers r bytes → AppendsPart old new (rows_text r.lsn r.accounts.rows)
     → IfSome left (λ all. AnswersRecover all left_new old new Write)
-answers-write None left_new old new bytes r read recovers written = tt
-answers-write (Some all) left_new old new bytes r read recovers written =
+answers_recover-write None left_new old new bytes r read recovers written = tt
+answers_recover-write (Some all) left_new old new bytes r read recovers written =
     let found = subst (λ b. Recovers r b) read.0 recovers in
     (read.1, found.list, found.held, rw (rows_text-shown _ _ found.list found.lsn found.accounts) at written)
 
@@ -74,6 +74,6 @@ answers_dump-fault (Some all) left_new old new bytes (fault.Unlawful lsn why) re
 answers_dump-fault (Some all) left_new old new bytes fault.NoMemory read is = tt
 answers_dump-fault (Some all) left_new old new bytes f read is = (read.1, subst (λ b. IsListedFaultOf b f) read.0 is)
 
-pub range_dump-fault : (bytes : List ℕ) (f : RecoverFault) → IsListedFaultOf bytes f → IsAnswerToDump (recover_detail f)
-range_dump-fault bytes (fault.Unlawful lsn why) is = is
-range_dump-fault bytes f is = tt
+pub listed_fault-answer_to_dump : (bytes : List ℕ) (f : RecoverFault) → IsListedFaultOf bytes f → IsAnswerToDump (recover_detail f)
+listed_fault-answer_to_dump bytes (fault.Unlawful lsn why) is = is
+listed_fault-answer_to_dump bytes f is = tt

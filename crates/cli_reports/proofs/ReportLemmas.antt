@@ -7,16 +7,16 @@ use Rattle.log_recovery.specs.Recovery.{HoldsLawful}
 use Rattle.cli_shared.specs.Answers.{IsSourceFault, ReadsAll, StaysSilent, recover_detail}
 use Rattle.cli_shared.specs.declared.report.Detail.{Detail}
 use Rattle.cli_shared.specs.declared.report.Detail.TheVariants.{NoMemory, Read, NotALog, BadSnapshot, BadBatch, BadRec, Unlawful}
-use Rattle.cli_shared.proofs.SourceLemmas.{source-told}
-use Rattle.cli_shared.proofs.ToldLemmas.{TellsWrite, kept-text, nothing-said}
+use Rattle.cli_shared.proofs.SourceLemmas.{HasSourceFault-fault_of_bytes}
+use Rattle.cli_shared.proofs.ToldLemmas.{TellsWrite, Keeps-refl, IfSome-nothing_said}
 use Rattle.cli_reports.specs.Reports.{AnswersReport, IsAnswerOnAccount, IsAnswerAtLsn, OfList}
-use Rattle.cli_reports.proofs.AnswerLemmas.{silent-fault, write-fault}
+use Rattle.cli_reports.proofs.AnswerLemmas.{recover_detail-stays_silent, recover_detail-not_write}
 
 -- what is said of the list that was read is said of the list of the input
-pub of-list : (left left_new : Option (List ℕ)) (bytes : List ℕ) (list : OpenedList) (Said : OpenedList → Type 0)
+pub ReadsAll-of_list : (left left_new : Option (List ℕ)) (bytes : List ℕ) (list : OpenedList) (Said : OpenedList → Type 0)
     → ReadsAll left left_new bytes → HoldsLawful bytes list → Said list → IfSome left (λ all. OfList all left_new Said)
-of-list None left_new bytes list Said read held said = tt
-of-list (Some all) left_new bytes list Said read held said = (read.1, list, subst (λ b. HoldsLawful b list) read.0 held, said)
+ReadsAll-of_list None left_new bytes list Said read held said = tt
+ReadsAll-of_list (Some all) left_new bytes list Said read held said = (read.1, list, subst (λ b. HoldsLawful b list) read.0 held, said)
 
 -- where nothing was written since the input is no log: the answer, its ranges, and that it tells of no failed write
 pub record IsUnsaid (Says : OpenedList → List ℕ → Type 0) (Refuses : OpenedList → Detail → Type 0) (left left_new text : Option (List ℕ))
@@ -51,21 +51,21 @@ account-fault f = tt
 answers-source : (Says : OpenedList → List ℕ → Type 0) (Refuses : OpenedList → Detail → Type 0) (left left_new text : Option (List ℕ))
     (detail : Detail) → IsSourceFault left left_new detail
     → IfSome left (λ bytes. AnswersReport Says Refuses bytes left_new text text detail)
-answers-source Says Refuses left left_new text NotALog is = source-told left left_new fault.NotALog is
-answers-source Says Refuses left left_new text BadSnapshot is = source-told left left_new fault.BadSnapshot is
-answers-source Says Refuses left left_new text (BadBatch offset) is = source-told left left_new (fault.BadBatch offset) is
-answers-source Says Refuses left left_new text (BadRec lsn) is = source-told left left_new (fault.BadRec lsn) is
-answers-source Says Refuses left left_new text (Unlawful lsn why) is = source-told left left_new (fault.Unlawful lsn why) is
-answers-source Says Refuses left left_new text Read is = nothing-said left
-answers-source Says Refuses left left_new text NoMemory is = nothing-said left
+answers-source Says Refuses left left_new text NotALog is = HasSourceFault-fault_of_bytes left left_new fault.NotALog is
+answers-source Says Refuses left left_new text BadSnapshot is = HasSourceFault-fault_of_bytes left left_new fault.BadSnapshot is
+answers-source Says Refuses left left_new text (BadBatch offset) is = HasSourceFault-fault_of_bytes left left_new (fault.BadBatch offset) is
+answers-source Says Refuses left left_new text (BadRec lsn) is = HasSourceFault-fault_of_bytes left left_new (fault.BadRec lsn) is
+answers-source Says Refuses left left_new text (Unlawful lsn why) is = HasSourceFault-fault_of_bytes left left_new (fault.Unlawful lsn why) is
+answers-source Says Refuses left left_new text Read is = IfSome-nothing_said left
+answers-source Says Refuses left left_new text NoMemory is = IfSome-nothing_said left
 answers-source Says Refuses left left_new text detail is = absurd is
 
-pub report-fault : (Says : OpenedList → List ℕ → Type 0) (Refuses : OpenedList → Detail → Type 0) (left left_new text : Option (List ℕ))
+pub source_fault-unsaid : (Says : OpenedList → List ℕ → Type 0) (Refuses : OpenedList → Detail → Type 0) (left left_new text : Option (List ℕ))
     (detail : Detail) → IsSourceFault left left_new detail → IsUnsaid Says Refuses left left_new text detail
-report-fault Says Refuses left left_new text detail is = record {
+source_fault-unsaid Says Refuses left left_new text detail is = record {
   answer = answers-source Says Refuses left left_new text detail is;
   at = by-source left left_new IsAnswerAtLsn tt at-fault detail is;
   account = by-source left left_new IsAnswerOnAccount tt account-fault detail is;
-  silent = by-source left left_new (StaysSilent text text) (kept-text text) (silent-fault text) detail is;
-  write = by-source left left_new (λ d. TellsWrite d → ⊥) (λ tells. tells) write-fault detail is;
+  silent = by-source left left_new (StaysSilent text text) (Keeps-refl text) (recover_detail-stays_silent text) detail is;
+  write = by-source left left_new (λ d. TellsWrite d → ⊥) (λ tells. tells) recover_detail-not_write detail is;
 }

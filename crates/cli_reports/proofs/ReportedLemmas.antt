@@ -7,19 +7,19 @@ use Rattle.log_recovery.specs.declared.recovery.RecoverFault.{RecoverFault}
 use Rattle.cli_shared.specs.Answers.{IsReadingFault, StaysSilent, recover_detail}
 use Rattle.cli_shared.specs.declared.report.Detail.{Detail}
 use Rattle.cli_shared.specs.declared.report.Detail.TheVariants.{Fine, NoMemory, Read, Write}
-use Rattle.cli_shared.proofs.SourceLemmas.{by-reading}
-use Rattle.cli_shared.proofs.ToldLemmas.{TellsRead, TellsWrite, kept-text}
+use Rattle.cli_shared.proofs.SourceLemmas.{IsReadingFault-cases}
+use Rattle.cli_shared.proofs.ToldLemmas.{TellsRead, TellsWrite, Keeps-refl}
 use Rattle.cli_reports.specs.Command.{HasReported}
-use Rattle.cli_reports.proofs.AnswerLemmas.{read-fault, silent-fault, write-fault}
+use Rattle.cli_reports.proofs.AnswerLemmas.{recover_detail-not_read, recover_detail-stays_silent, recover_detail-not_write}
 
 -- the input was read to its end
-pub read-whole : (before now : ℕ) (detail : Detail) → now ≡ before → (TellsRead detail → ⊥) → CountsWhere (detail ≡ Read) before now
-read-whole before now detail same other = record { counted = λ is. absurd (other (subst TellsRead (sym is) tt)); fine = λ _. same }
+pub counts_read-none : (before now : ℕ) (detail : Detail) → now ≡ before → (TellsRead detail → ⊥) → CountsWhere (detail ≡ Read) before now
+counts_read-none before now detail same other = record { counted = λ is. absurd (other (subst TellsRead (sym is) tt)); fine = λ _. same }
 
 -- the detail is the one that the reading gave
-pub read-as : {T : Type 0} (before now : ℕ) (detail : Detail) → CountsWhere (IsErrOf {T = T} (Err detail) Read) before now
+pub counts_read-err : {T : Type 0} (before now : ℕ) (detail : Detail) → CountsWhere (IsErrOf {T = T} (Err detail) Read) before now
     → CountsWhere (detail ≡ Read) before now
-read-as before now detail read = record { counted = λ is. read.counted (ap Err is); fine = λ other. read.fine (λ is. other cc) }
+counts_read-err before now detail read = record { counted = λ is. read.counted (ap Err is); fine = λ other. read.fine (λ is. other cc) }
 
 module _ {S K : Type 0} (h : SourceGhosts S) (i : SinkGhosts K)
     (Answers : List ℕ → Option (List ℕ) → Option (List ℕ) → Option (List ℕ) → Detail → Type 0) (IsAnswer : Detail → Type 0)
@@ -41,9 +41,9 @@ module _ {S K : Type 0} (h : SourceGhosts S) (i : SinkGhosts K)
   }
 
   -- the writing failed
-  pub reported-part : (out_new : K) → IsAnswer Write → h.faults script_new ≡ h.faults input → Rose (i.faults out) (i.faults out_new)
+  pub reported-write : (out_new : K) → IsAnswer Write → h.faults script_new ≡ h.faults input → Rose (i.faults out) (i.faults out_new)
       → AnswersInput out_new Write → HasReported h i Answers IsAnswer input script_new out out_new Write
-  reported-part out_new range read write answer = record {
+  reported-write out_new range read write answer = record {
     answer = answer;
     silent = tt;
     range = range;
@@ -52,10 +52,10 @@ module _ {S K : Type 0} (h : SourceGhosts S) (i : SinkGhosts K)
   }
 
   -- nothing was written
-  pub reported-none : (detail : Detail) → IsAnswer detail → CountsWhere (detail ≡ Read) (h.faults input) (h.faults script_new)
+  pub reported-none_written : (detail : Detail) → IsAnswer detail → CountsWhere (detail ≡ Read) (h.faults input) (h.faults script_new)
       → StaysSilent (i.held_bytes out) (i.held_bytes out) detail → (TellsWrite detail → ⊥)
       → AnswersInput out detail → HasReported h i Answers IsAnswer input script_new out out detail
-  reported-none detail range read silent write answer = record {
+  reported-none_written detail range read silent write answer = record {
     answer = answer;
     silent = silent;
     range = range;
@@ -68,14 +68,14 @@ module _ {S K : Type 0} (h : SourceGhosts S) (i : SinkGhosts K)
       → h.faults script_new ≡ h.faults input
       → AnswersInput out (recover_detail f) → HasReported h i Answers IsAnswer input script_new out out detail
   reported-fault f detail is range read answer = subst (HasReported h i Answers IsAnswer input script_new out out) (sym is)
-      (reported-none (recover_detail f) range (read-whole _ _ _ read (read-fault f)) (silent-fault _ f) (write-fault f) answer)
+      (reported-none_written (recover_detail f) range (counts_read-none _ _ _ read (recover_detail-not_read f)) (recover_detail-stays_silent _ f) (recover_detail-not_write f) answer)
 
   -- the input gave no bytes
   pub reported-unread : {T : Type 0} → IsAnswer Read → IsAnswer NoMemory → AnswersInput out Read → AnswersInput out NoMemory
       → (detail : Detail) → IsReadingFault detail → CountsWhere (IsErrOf {T = T} (Err detail) Read) (h.faults input) (h.faults script_new)
       → HasReported h i Answers IsAnswer input script_new out out detail
   reported-unread failed_range wanting_range failed wanting detail is read =
-      reported-none detail (by-reading IsAnswer failed_range wanting_range detail is) (read-as _ _ detail read)
-      (by-reading (StaysSilent (i.held_bytes out) (i.held_bytes out)) (kept-text _) (kept-text _) detail is)
-      (by-reading (λ d. TellsWrite d → ⊥) (λ tells. tells) (λ tells. tells) detail is)
-      (by-reading (AnswersInput out) failed wanting detail is)
+      reported-none_written detail (IsReadingFault-cases IsAnswer failed_range wanting_range detail is) (counts_read-err _ _ detail read)
+      (IsReadingFault-cases (StaysSilent (i.held_bytes out) (i.held_bytes out)) (Keeps-refl _) (Keeps-refl _) detail is)
+      (IsReadingFault-cases (λ d. TellsWrite d → ⊥) (λ tells. tells) (λ tells. tells) detail is)
+      (IsReadingFault-cases (AnswersInput out) failed wanting detail is)

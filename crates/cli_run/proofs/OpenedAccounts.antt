@@ -7,7 +7,7 @@ use Rattle.lock_core.specs.Sums.{balance_of, last_commit_of}
 use Rattle.log_recovery.specs.declared.recovery.Recovered.{Recovered}
 use Rattle.log_recovery.specs.Opened.{placed, base_in}
 use Rattle.log_recovery.specs.Recovery.{Recovers}
-use Rattle.log_recovery.proofs.OpenedLemmas.{some-accounts, few-held, balance-held, last-held}
+use Rattle.log_recovery.proofs.OpenedLemmas.{held-some_accounts, held-accounts_le_most, held-balance_in_range, held-last_commit_le_end}
 use Rattle.log_rule.specs.declared.start.Start.{Start}
 use Rattle.log_rule.specs.FirstAccounts.{HasAccounts}
 
@@ -30,11 +30,11 @@ module _ (bytes : List ℕ) (opened : Recovered) (recovers : Recovers opened byt
 
   pub has-accounts : HasAccounts key
   has-accounts = record {
-    some_accounts = omega (arith, count-same, some-accounts bytes recovers.list recovers.held);
-    few = omega (arith, count-same, few-held bytes recovers.list recovers.held);
+    some_accounts = omega (arith, count-same, held-some_accounts bytes recovers.list recovers.held);
+    few = omega (arith, count-same, held-accounts_le_most bytes recovers.list recovers.held);
     balances = λ account inside. let below : account < (base_in recovers.list).accounts = omega (arith, count-same, inside) in
-        subst (λ r. IsBalance r.0) (sym (row-shown account below)) (balance-held bytes recovers.list recovers.held account below);
+        subst (λ r. IsBalance r.0) (sym (row-shown account below)) (held-balance_in_range bytes recovers.list recovers.held account below);
     last_commits = λ account inside. let below : account < (base_in recovers.list).accounts = omega (arith, count-same, inside) in
         let last = ap (λ r. r.1) (row-shown account below) in
-        omega (arith, last, start, recovers.lsn, last-held bytes recovers.list recovers.held account);
+        omega (arith, last, start, recovers.lsn, held-last_commit_le_end bytes recovers.list recovers.held account);
   }

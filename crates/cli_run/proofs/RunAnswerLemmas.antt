@@ -4,8 +4,8 @@ use Rattle.std.proofs.KnownBytes.{Appends-trans}
 use Rattle.std.proofs.lemmas.List.{append-nil}
 use Rattle.std.specs.Io.KnownBytes.{Appends}
 use Rattle.command_line.specs.declared.options.RunOptions.{RunOptions}
-use Rattle.log_disk.proofs.Counting.{Costs-more, Costs-then}
-use Rattle.log_disk.proofs.Lengths.{GrowsAtMostTo-more, GrowsAtMostTo-trans}
+use Rattle.log_disk.proofs.Counting.{Costs-weaken, Costs-trans}
+use Rattle.log_disk.proofs.Lengths.{GrowsAtMostTo-weaken, GrowsAtMostTo-trans}
 use Rattle.log_disk.specs.Costs.{Costs}
 use Rattle.log_disk.specs.Disk.{Leaves}
 use Rattle.log_disk.specs.Lengths.{GrowsAtMostTo}
@@ -18,7 +18,7 @@ use Rattle.log_record.specs.LogList.{end_of}
 use Rattle.lock_core.specs.Sums.{balance_of}
 use Rattle.log_recovery.specs.Opened.{OpenedList, list_end, placed, with_records, base_in}
 use Rattle.log_recovery.specs.Text.{account_lines, accounts_text, lsn_line, rows_text}
-use Rattle.log_recovery.proofs.TextLemmas.{AppendsPart-behind, AppendsPrefix-first, AppendsPrefix-behind, lsn_line-some}
+use Rattle.log_recovery.proofs.TextLemmas.{AppendsPart-after_Appends, AppendsPrefix-append, AppendsPrefix-after_Appends, lsn_line-some}
 use Rattle.log_table.specs.Seats.{key_of}
 use Rattle.segment_file.specs.Lengths.{most_end}
 use Rattle.job_queue.specs.Passes.{jobs_of}
@@ -39,8 +39,8 @@ use Rattle.cli_run.specs.RunAnswers.{AnswersRun, HoldsTold, IsAnswerToRun, Ran, 
 use Rattle.cli_shared.specs.Outside.{Outside, outside}
 use Rattle.cli_run.specs.RunReady.{IsBeforeRun, IsReadyFor}
 use Rattle.cli_run.proofs.ReadyLemmas.{keeps-refl}
-use Rattle.cli_threads.proofs.EndingLemmas.{by-conclusion, list, sharing, keeps-ended, shared-ended, whole-ended, drained-ended, stops-ended}
-use Rattle.cli_threads.proofs.RunBegun.{images-begun}
+use Rattle.cli_threads.proofs.EndingLemmas.{Concludes-cases, list, sharing, ended-keeps_log, ended-shared_out, ended-runs_whole, ended-drained, ended-stops_at_log_end}
+use Rattle.cli_threads.proofs.RunBegun.{Leaves-before_or_run}
 
 -- the accounts text begins with the end of the list
 accounts_text-some : (list : OpenedList) → 0 < length (accounts_text list)
@@ -78,15 +78,15 @@ module _ {D : Type 0} {K : Type 0} (g : Ghosts D) (h : SinkGhosts K) (options : 
 
   -- what the transfers left of the log
   keeps : RunKeepsLog g Lines opened jobs taken records ready.tail.at ring disk disk_new (h.held_bytes sink) (h.held_bytes sink_mid)
-  keeps = keeps-ended g h ready.prepared opened Lines disk disk_new sink sink_mid ended has
+  keeps = ended-keeps_log g h ready.prepared opened Lines disk disk_new sink sink_mid ended has
 
   images-ran : Leaves g.moment g.images_since (λ bytes. g.images entry bytes ⊎ HoldsRun opened jobs taken records bytes) entry disk_new
-  images-ran = images-begun g disk ready.tail opened jobs taken _ is.log records (g.images entry) entry disk_new (is.images honest)
+  images-ran = Leaves-before_or_run g disk ready.tail opened jobs taken _ is.log records (g.images entry) entry disk_new (is.images honest)
       (keeps.moments honest_mid)
 
   shared-ran : IsSharedOut options.workers jobs taken
   shared-ran = subst (λ n. IsSharedOut n jobs taken) is.workers_are
-      (shared-ended g h ready.prepared opened Lines disk disk_new sink sink_mid ended has)
+      (ended-shared_out g h ready.prepared opened Lines disk disk_new sink sink_mid ended has)
 
   -- the file was settled first, and then grew as the transfers let it
   grows-ran : (front : List Rec) → GrowsAtMostTo g (most_end ready.tail.at (end_of front) ring) disk disk_new
@@ -94,12 +94,12 @@ module _ {D : Type 0} {K : Type 0} (g : Ghosts D) (h : SinkGhosts K) (options : 
   grows-ran front grows =
       let place : ℕ = most_end ready.tail.at (end_of front) options.ring in
       GrowsAtMostTo-trans g place entry disk disk_new
-      (GrowsAtMostTo-more g (ready.tail.at + 1) place entry disk (omega arith) (is.grows honest))
-      (GrowsAtMostTo-more g (most_end ready.tail.at (end_of front) ring) place disk disk_new (omega (arith, is.ring)) grows)
+      (GrowsAtMostTo-weaken g (ready.tail.at + 1) place entry disk (omega arith) (is.grows honest))
+      (GrowsAtMostTo-weaken g (most_end ready.tail.at (end_of front) ring) place disk disk_new (omega (arith, is.ring)) grows)
 
   -- what was counted before the transfers and in them
   count-ran : (most : ℕ) → Costs g most most disk disk_new → Costs g (3 + most) (most_calls g entry + 3 + most) entry disk_new
-  count-ran most count = Costs-then g 3 most (most_calls g entry + 3) most entry disk disk_new (is.count honest) count
+  count-ran most count = Costs-trans g 3 most (most_calls g entry + 3) most entry disk disk_new (is.count honest) count
 
   -- each image that is left holds what was told
   abbrev AllTold : Type 0
@@ -130,9 +130,9 @@ module _ {D : Type 0} {K : Type 0} (g : Ghosts D) (h : SinkGhosts K) (options : 
       record {
         run = kept.run;
         told = subst (λ text. AppendsPrefix (h.held_bytes sink) text (run_text opened kept.run.front)) (sym (ap h.held_bytes same))
-            (AppendsPrefix-first (h.held_bytes sink) (h.held_bytes sink_mid) (run_text opened kept.run.front)
+            (AppendsPrefix-append (h.held_bytes sink) (h.held_bytes sink_mid) (run_text opened kept.run.front)
             (end_lines (list_end opened) kept.run.front) (accounts_text (with_records opened kept.run.front)) kept.text refl);
-        count = Costs-more g _ _ _ _ entry disk_new (omega arith) (omega arith)
+        count = Costs-weaken g _ _ _ _ entry disk_new (omega arith) (omega arith)
             (count-ran (4 * length kept.run.front + 4) kept.count);
       }
 
@@ -164,7 +164,7 @@ module _ {D : Type 0} {K : Type 0} (g : Ghosts D) (h : SinkGhosts K) (options : 
   module _ (fine : ended.fault ≡ None) where
     drained : RunIsDrained g Lines opened records ready.tail.at ring disk disk_new (h.held_bytes sink) (h.held_bytes sink_mid)
         ended.closed.tail ended.closed.accounts.rows
-    drained = drained-ended g h ready.prepared opened Lines disk disk_new sink sink_mid ended has fine
+    drained = ended-drained g h ready.prepared opened Lines disk disk_new sink sink_mid ended has fine
 
     -- else each image holds the whole list, of whose text a front was written
     abbrev told-drained : AppendsPrefix (h.held_bytes sink) (h.held_bytes sink_new) (run_text opened records) → AllTold
@@ -177,7 +177,7 @@ module _ {D : Type 0} {K : Type 0} (g : Ghosts D) (h : SinkGhosts K) (options : 
         goes_on = keeps.goes_on;
       };
       told = told;
-      count = Costs-more g _ _ _ _ entry disk_new (omega arith) (omega arith) (count-ran (4 * length records) (drained.count honest_mid));
+      count = Costs-weaken g _ _ _ _ entry disk_new (omega arith) (omega arith) (count-ran (4 * length records) (drained.count honest_mid));
     }
 
     abbrev ran-drained : AppendsPrefix (h.held_bytes sink) (h.held_bytes sink_new) (run_text opened records) → Ran g options old new
@@ -189,14 +189,14 @@ module _ {D : Type 0} {K : Type 0} (g : Ghosts D) (h : SinkGhosts K) (options : 
     -- the accounts text is that of the whole list
     told-part : AppendsPart (h.held_bytes sink_mid) (h.held_bytes sink_new) (rows_text ended.closed.tail ended.closed.accounts.rows)
         → AppendsPrefix (h.held_bytes sink) (h.held_bytes sink_new) (run_text opened records)
-    told-part text = AppendsPrefix-behind (h.held_bytes sink) (h.held_bytes sink_mid) (h.held_bytes sink_new) (run_text opened records)
+    told-part text = AppendsPrefix-after_Appends (h.held_bytes sink) (h.held_bytes sink_mid) (h.held_bytes sink_new) (run_text opened records)
         (end_lines (list_end opened) records) (accounts_text (with_records opened records)) [] drained.text
         (rw (← drained.accounts) (AppendsPart-prefix _ _ _ text))
         (sym (append-nil (run_text opened records)))
 
     told-short : AppendsPart (h.held_bytes sink_mid) (h.held_bytes sink_new) (rows_text ended.closed.tail ended.closed.accounts.rows)
         → AppendsPart (h.held_bytes sink) (h.held_bytes sink_new) (run_text opened records)
-    told-short text = AppendsPart-behind (h.held_bytes sink) (h.held_bytes sink_mid) (h.held_bytes sink_new) (run_text opened records)
+    told-short text = AppendsPart-after_Appends (h.held_bytes sink) (h.held_bytes sink_mid) (h.held_bytes sink_new) (run_text opened records)
         (end_lines (list_end opened) records) (accounts_text (with_records opened records)) [] drained.text (rw (← drained.accounts) text)
         (sym (append-nil (run_text opened records)))
 
@@ -219,7 +219,7 @@ module _ {D : Type 0} {K : Type 0} (g : Ghosts D) (h : SinkGhosts K) (options : 
         → RanWhole g options old new
     whole-ran all written = let text = told-whole written in record {
       out = out (run_text opened records, [], sym (append-nil (run_text opened records)), text);
-      whole = whole-ended g h ready.prepared opened Lines disk disk_new sink sink_mid ended has all;
+      whole = ended-runs_whole g h ready.prepared opened Lines disk disk_new sink sink_mid ended has all;
       text = text;
     }
 
@@ -228,46 +228,46 @@ module _ {D : Type 0} {K : Type 0} (g : Ghosts D) (h : SinkGhosts K) (options : 
     into-end tail total first same = let text = told-lines same in record {
       out = out (end_lines (list_end opened) records, accounts_text (with_records opened records), refl, text);
       stops = subst (λ (made : ℕ × ℕ). StopsAtLogEnd opened jobs taken records made.0 made.1 tail total) (λ i. (is.ring i, is.slots i))
-          (stops-ended g h ready.prepared opened Lines disk disk_new sink sink_mid ended has fine tail total first);
+          (ended-stops_at_log_end g h ready.prepared opened Lines disk disk_new sink sink_mid ended has fine tail total first);
       text = text;
     }
 
-  pub answers-concluded : (detail : Detail) → Concludes h ended (closed_text ended) sink_mid sink_new detail
+  pub Concludes-answers_run : (detail : Detail) → Concludes h ended (closed_text ended) sink_mid sink_new detail
       → AnswersRun g options old new detail
-  answers-concluded = by-conclusion h ended (closed_text ended) sink_mid sink_new (AnswersRun g options old new)
+  Concludes-answers_run = Concludes-cases h ended (closed_text ended) sink_mid sink_new (AnswersRun g options old new)
       (λ said. inr (ran-failed said.1)) (λ said. ran-failed said.1) (λ said. ran-short said.0.0 said.1)
       (λ said. whole-ran said.0.0 said.0.1 said.1) (λ tail total said. into-end said.0.0 tail total said.0.1 said.1)
 
 -- ---- what is promised of each answer besides
 
 -- the answers that come before any transfer are answers of `run`
-pub range-before : (detail : Detail) → IsBeforeRun detail → IsAnswerToRun detail
-range-before Fine before = tt
-range-before Write before = tt
-range-before (LogEnd tail total) before = tt
-range-before detail before = before
+pub IsBeforeRun-answer_to_run : (detail : Detail) → IsBeforeRun detail → IsAnswerToRun detail
+IsBeforeRun-answer_to_run Fine before = tt
+IsBeforeRun-answer_to_run Write before = tt
+IsBeforeRun-answer_to_run (LogEnd tail total) before = tt
+IsBeforeRun-answer_to_run detail before = before
 
 -- where nothing was written, all that has to stay silent did
-pub silent-before : (text : Option (List ℕ)) (detail : Detail) → RunStaysSilent text text detail
-silent-before text Fine = tt
-silent-before text (LogEnd tail total) = tt
-silent-before text Write = tt
-silent-before text Disk = tt
-silent-before text detail = keeps-refl text
+pub RunStaysSilent-refl : (text : Option (List ℕ)) (detail : Detail) → RunStaysSilent text text detail
+RunStaysSilent-refl text Fine = tt
+RunStaysSilent-refl text (LogEnd tail total) = tt
+RunStaysSilent-refl text Write = tt
+RunStaysSilent-refl text Disk = tt
+RunStaysSilent-refl text detail = keeps-refl text
 
 -- no answer that comes before any transfer is a fault of the output
-pub write-before : (detail : Detail) → IsBeforeRun detail → detail ≡ Write → ⊥
-write-before detail before is = subst IsBeforeRun is before
+pub IsBeforeRun-not_write : (detail : Detail) → IsBeforeRun detail → detail ≡ Write → ⊥
+IsBeforeRun-not_write detail before is = subst IsBeforeRun is before
 
 -- what is concluded is an answer of `run` at which something may be written, and no fault of the input
 module _ {K : Type 0} (h : SinkGhosts K) (ended : RunEnd) (text : List ℕ) (sink sink_new : K) where
-  pub range-concluded : (detail : Detail) → Concludes h ended text sink sink_new detail → IsAnswerToRun detail
-  range-concluded = by-conclusion h ended text sink sink_new IsAnswerToRun (λ _. tt) (λ _. tt) (λ _. tt) (λ _. tt) (λ _ _ _. tt)
+  pub Concludes-answer_to_run : (detail : Detail) → Concludes h ended text sink sink_new detail → IsAnswerToRun detail
+  Concludes-answer_to_run = Concludes-cases h ended text sink sink_new IsAnswerToRun (λ _. tt) (λ _. tt) (λ _. tt) (λ _. tt) (λ _ _ _. tt)
 
-  pub silent-concluded : (old new : Option (List ℕ)) (detail : Detail) → Concludes h ended text sink sink_new detail
+  pub Concludes-stays_silent : (old new : Option (List ℕ)) (detail : Detail) → Concludes h ended text sink sink_new detail
       → RunStaysSilent old new detail
-  silent-concluded old new =
-      by-conclusion h ended text sink sink_new (RunStaysSilent old new) (λ _. tt) (λ _. tt) (λ _. tt) (λ _. tt) (λ _ _ _. tt)
+  Concludes-stays_silent old new =
+      Concludes-cases h ended text sink sink_new (RunStaysSilent old new) (λ _. tt) (λ _. tt) (λ _. tt) (λ _. tt) (λ _ _ _. tt)
 
-  pub read-concluded : (detail : Detail) → Concludes h ended text sink sink_new detail → detail ≡ Read → ⊥
-  read-concluded detail concludes is = subst (Concludes h ended text sink sink_new) is concludes
+  pub Concludes-not_read : (detail : Detail) → Concludes h ended text sink sink_new detail → detail ≡ Read → ⊥
+  Concludes-not_read detail concludes is = subst (Concludes h ended text sink sink_new) is concludes

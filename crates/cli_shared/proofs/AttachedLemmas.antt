@@ -13,7 +13,7 @@ leaves-attached file before now Disk is = inr is
 leaves-attached file before now detail is = is
 
 -- what came behind the call that attached it attached no other, whether it succeeded or failed
-pub attached-then : {T E : Type 0} (file : Attached) (before mid now : Option Attached) (result : Result T E) → mid ≡ Some file → now ≡ mid
+pub attached-whatever_result : {T E : Type 0} (file : Attached) (before mid now : Option Attached) (result : Result T E) → mid ≡ Some file → now ≡ mid
     → MatchResult result (λ _. now ≡ Some file) (λ _. MayAttach file before now)
-attached-then file before mid now (Ok value) is same = same ∙ is
-attached-then file before mid now (Err fault) is same = inr (same ∙ is)
+attached-whatever_result file before mid now (Ok value) is same = same ∙ is
+attached-whatever_result file before mid now (Err fault) is same = inr (same ∙ is)

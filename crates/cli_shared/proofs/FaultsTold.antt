@@ -11,9 +11,9 @@ use Rattle.cli_shared.proofs.ToldLemmas.{TellsRead, TellsWrite, TellsDisk}
 
 module _ {D S K : Type 0} (g : Ghosts D) (h : SourceGhosts S) (i : SinkGhosts K) (old new : World D S K) where
   -- nothing failed
-  pub told-fine : h.faults new.input ≡ h.faults old.input → i.faults new.out ≡ i.faults old.out → g.faults new.disk ≡ g.faults old.disk
+  pub TellsFaults-fine : h.faults new.input ≡ h.faults old.input → i.faults new.out ≡ i.faults old.out → g.faults new.disk ≡ g.faults old.disk
       → (g.honest old.disk ↔ g.honest new.disk) → TellsFaults g h i old new Fine
-  told-fine read write disk honest = record {
+  TellsFaults-fine read write disk honest = record {
     read = record { counted = λ is. absurd (subst TellsRead (sym is) tt); fine = λ other. read };
     write = record { counted = λ is. absurd (subst TellsWrite (sym is) tt); fine = λ other. write };
     disk = record { counted = λ is. absurd (subst TellsDisk (sym is) tt); fine = λ other. disk };
@@ -21,9 +21,9 @@ module _ {D S K : Type 0} (g : Ghosts D) (h : SourceGhosts S) (i : SinkGhosts K)
   }
 
   -- the writing failed
-  pub told-part : h.faults new.input ≡ h.faults old.input → Rose (i.faults old.out) (i.faults new.out)
+  pub TellsFaults-write : h.faults new.input ≡ h.faults old.input → Rose (i.faults old.out) (i.faults new.out)
       → g.faults new.disk ≡ g.faults old.disk → (g.honest old.disk ↔ g.honest new.disk) → TellsFaults g h i old new Write
-  told-part read write disk honest = record {
+  TellsFaults-write read write disk honest = record {
     read = record { counted = λ is. absurd (subst TellsRead (sym is) tt); fine = λ other. read };
     write = record { counted = λ is. write; fine = λ other. absurd (other refl) };
     disk = record { counted = λ is. absurd (subst TellsDisk (sym is) tt); fine = λ other. disk };
@@ -31,11 +31,11 @@ module _ {D S K : Type 0} (g : Ghosts D) (h : SourceGhosts S) (i : SinkGhosts K)
   }
 
   -- a part failed that writes nothing out, with this detail
-  pub told-before : {T : Type 0} (detail : Detail) → (detail ≡ Write → ⊥)
+  pub TellsFaults-not_write : {T : Type 0} (detail : Detail) → (detail ≡ Write → ⊥)
       → CountsWhere (IsErrOf {T = T} (Err detail) Read) (h.faults old.input) (h.faults new.input) → i.faults new.out ≡ i.faults old.out
       → CountsWhere (IsErrOf {T = T} (Err detail) Disk) (g.faults old.disk) (g.faults new.disk) → (g.honest old.disk ↔ g.honest new.disk)
       → TellsFaults g h i old new detail
-  told-before detail other read write disk honest = record {
+  TellsFaults-not_write detail other read write disk honest = record {
     read = record { counted = λ is. read.counted (ap Err is); fine = λ not. read.fine (λ is. not cc) };
     write = record { counted = λ is. absurd (other is); fine = λ not. write };
     disk = record { counted = λ is. disk.counted (ap Err is); fine = λ not. disk.fine (λ is. not cc) };

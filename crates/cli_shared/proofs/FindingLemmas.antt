@@ -6,8 +6,8 @@ use Rattle.segment_file.specs.File.{BeginsOpen}
 use Rattle.segment_file.specs.StandingLog.{IsStableGate}
 
 -- on a settled disk the first gate is stable
-pub gate-settled : (file : List ℕ) (images : List ℕ → Type 0) → IsOnlyImage file images → (BeginsOpen file → ⊥) → IsStableGate 0 images
-gate-settled file images settled closed = record {
+pub IsOnlyImage-stable_gate : (file : List ℕ) (images : List ℕ → Type 0) → IsOnlyImage file images → (BeginsOpen file → ⊥) → IsStableGate 0 images
+IsOnlyImage-stable_gate file images settled closed = record {
   gate = slice_get file 0;
   stable = λ c image. ap (λ bytes. slice_get bytes 0) (settled c image);
   closed = λ c image opened. closed (subst BeginsOpen (settled c image) opened);

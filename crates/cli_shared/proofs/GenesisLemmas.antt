@@ -14,12 +14,12 @@ use Rattle.lock_core.specs.History.{history, history_from, end_from, entry_at}
 use Rattle.lock_core.specs.Lawful.{IsLawful, base_with}
 use Rattle.log_recovery.specs.Recovery.{HoldsLawful}
 use Rattle.segment_file.specs.File.{HoldsUnits}
-use Rattle.segment_file.proofs.FirstFormat.{units-log}
+use Rattle.segment_file.proofs.FirstFormat.{HoldsUnits-HoldsLog}
 use Rattle.lock_core.specs.AccountRows.{KeepsRows}
 use Rattle.lock_core.specs.Tests.{IsGenesis}
 use Rattle.log_recovery.specs.Text.{rows_text, accounts_text}
-use Rattle.lock_core.proofs.JudgingLemmas.{shows-kept}
-use Rattle.lock_core.proofs.KindLemmas.{accounts-genesis, keeps-genesis, passes-genesis}
+use Rattle.lock_core.proofs.JudgingLemmas.{keeps_rows-shows_accounts}
+use Rattle.lock_core.proofs.KindLemmas.{all_genesis-accounts_count, keeps_rows-first_genesis, passes-genesis}
 use Rattle.log_recovery.proofs.TextLemmas.{rows_text-shown}
 use Rattle.cli_shared.specs.Creation.{genesis_from, genesis_list, new_list}
 
@@ -79,11 +79,11 @@ opens-more : (h : List Placed) (rows : List (ℕ × ℕ)) (account : ℕ) (balan
     → Opens (history_from 0 h (genesis_from account balances)) (rows ++ opening_rows balances)
 opens-more h rows account [] all next range opened = subst (Opens h) (sym (append-nil rows)) opened
 opens-more h rows account (balance ∷ balances) all next range opened =
-    let counted = accounts-genesis no_opening h all in
+    let counted = all_genesis-accounts_count no_opening h all in
     let end = (entry_at (end_from 0 h) (Genesis account balance)).end in
     let one : Opens (entry_at (end_from 0 h) (Genesis account balance) ∷ h) (rows ++ (balance, 0) ∷ []) = record {
       lawful = (passes-genesis no_opening h end account balance all refl next, opened.lawful);
-      kept = keeps-genesis no_opening rows h end account balance opened.kept all (omega (arith, counted, next)) range.0 (λ a. refl);
+      kept = keeps_rows-first_genesis no_opening rows h end account balance opened.kept all (omega (arith, counted, next)) range.0 (λ a. refl);
     } in
     let more = opens-more (entry_at (end_from 0 h) (Genesis account balance) ∷ h) (rows ++ (balance, 0) ∷ []) (account + 1) balances
     (tt, all) (omega arith) range.1 one in
@@ -121,17 +121,17 @@ module _ (balances : List ℕ) (few : length balances ≤ MOST_ACCOUNTS) (each :
   pub genesis-lawful : IsLawful no_opening (history (genesis_list balances))
   genesis-lawful = opens-genesis.lawful
 
-  pub genesis-kept : KeepsRows (opening_rows balances) (base_with no_opening (history (genesis_list balances)))
+  pub genesis-keeps_rows : KeepsRows (opening_rows balances) (base_with no_opening (history (genesis_list balances)))
       (history (genesis_list balances))
-  genesis-kept = opens-genesis.kept
+  genesis-keeps_rows = opens-genesis.kept
 
   -- bytes that hold its units hold the list, which is lawful
-  pub genesis-holds : (c : List ℕ) → HoldsUnits c (units_of (genesis_list balances)) → HoldsLawful c (new_list balances)
-  genesis-holds c held = record {
-    list = record { each = genesis-spellable; holds = units-log c (units_of (genesis_list balances)) held };
+  pub genesis-holds_lawful : (c : List ℕ) → HoldsUnits c (units_of (genesis_list balances)) → HoldsLawful c (new_list balances)
+  genesis-holds_lawful c held = record {
+    list = record { each = genesis-spellable; holds = HoldsUnits-HoldsLog c (units_of (genesis_list balances)) held };
     lawful = genesis-lawful;
   }
 
   pub genesis-text : (lsn : ℕ) → lsn ≡ 2 * length balances → rows_text lsn (opening_rows balances) ≡ accounts_text (new_list balances)
   genesis-text lsn is = rows_text-shown lsn (opening_rows balances) (new_list balances) (omega (arith, is, end_of-genesis 0 balances))
-      (shows-kept _ _ _ opens-genesis.kept)
+      (keeps_rows-shows_accounts _ _ _ opens-genesis.kept)

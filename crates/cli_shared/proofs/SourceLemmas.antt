@@ -8,19 +8,19 @@ use Rattle.cli_shared.specs.declared.report.Detail.TheVariants.{NoMemory, Read}
 use Rattle.cli_shared.specs.Answers.{HasSourceFault, IsReadingFault, IsSourceFault, recover_detail}
 
 -- what holds where the reading failed and where there was no memory holds where an input gives no bytes
-pub by-reading : (P : Detail → Type 0) → P Read → P NoMemory → (detail : Detail) → IsReadingFault detail → P detail
-by-reading P failed wanting Read is = failed
-by-reading P failed wanting NoMemory is = wanting
-by-reading P failed wanting detail is = absurd is
+pub IsReadingFault-cases : (P : Detail → Type 0) → P Read → P NoMemory → (detail : Detail) → IsReadingFault detail → P detail
+IsReadingFault-cases P failed wanting Read is = failed
+IsReadingFault-cases P failed wanting NoMemory is = wanting
+IsReadingFault-cases P failed wanting detail is = absurd is
 
 -- the fault that a source has, of all its bytes
-pub source-told : (left left_new : Option (List ℕ)) (f : RecoverFault) → HasSourceFault left left_new f
+pub HasSourceFault-fault_of_bytes : (left left_new : Option (List ℕ)) (f : RecoverFault) → HasSourceFault left left_new f
     → IfSome left (λ bytes. (left_new ≡ Some []) × IsFaultOf bytes f)
-source-told None left_new f is = tt
-source-told (Some all) left_new f is = (is.1.1, subst (λ b. IsFaultOf b f) is.1.0 is.2)
+HasSourceFault-fault_of_bytes None left_new f is = tt
+HasSourceFault-fault_of_bytes (Some all) left_new f is = (is.1.1, subst (λ b. IsFaultOf b f) is.1.0 is.2)
 
 -- why nothing is recovered is why a source gives no log
-pub source-fault : (left left_new : Option (List ℕ)) (f : RecoverFault) → HasSourceFault left left_new f
+pub HasSourceFault-is_source_fault : (left left_new : Option (List ℕ)) (f : RecoverFault) → HasSourceFault left left_new f
     → IsSourceFault left left_new (recover_detail f)
-source-fault left left_new fault.NoMemory is = tt
-source-fault left left_new f is = is
+HasSourceFault-is_source_fault left left_new fault.NoMemory is = tt
+HasSourceFault-is_source_fault left left_new f is = is

@@ -5,14 +5,14 @@ use Rattle.cli_shared.specs.declared.report.Detail.{Detail}
 use Rattle.cli_shared.specs.declared.report.Detail.TheVariants.{Read, Write, Disk}
 
 -- what may be known of a text stays as it was
-pub kept-text : (text : Option (List ℕ)) → Keeps text text
-kept-text None = tt
-kept-text (Some bytes) = refl
+pub Keeps-refl : (text : Option (List ℕ)) → Keeps text text
+Keeps-refl None = tt
+Keeps-refl (Some bytes) = refl
 
 -- of a detail that says nothing of an input nothing is said, whatever the input holds
-pub nothing-said : (left : Option (List ℕ)) → IfSome left (λ bytes. Unit {0})
-nothing-said None = tt
-nothing-said (Some bytes) = tt
+pub IfSome-nothing_said : (left : Option (List ℕ)) → IfSome left (λ bytes. Unit {0})
+IfSome-nothing_said None = tt
+IfSome-nothing_said (Some bytes) = tt
 
 abbrev pub TellsRead : Detail → Type 0
 TellsRead Read = Unit {0}

@@ -2,16 +2,16 @@
 use Rattle.std.proofs.Common.{◌≡◌, ◌∙◌, ⊎_elim, inl, inr, refl, sym, ap, subst, ℕ, List, [], ◌∷◌, ◌++◌, append_assoc, Option, Some, None, IfSome}
 use Rattle.log_disk.specs.declared.disk.LogDisk.{Ghosts}
 use Rattle.log_record.specs.declared.rec.Rec.{Rec}
-use Rattle.lock_core.proofs.Fronts.{lawful-records}
+use Rattle.lock_core.proofs.Fronts.{lawful-records_front}
 use Rattle.lock_core.specs.History.{history_from}
 use Rattle.lock_core.specs.Lawful.{IsLawful}
 use Rattle.lock_core.specs.declared.reason.Why.{Why}
 use Rattle.log_recovery.specs.declared.recovery.RecoverFault.{RecoverFault}
 use Rattle.log_recovery.specs.Opened.{OpenedList, list_end, opening_before, placed}
 use Rattle.log_recovery.specs.Recovery.{HoldsLawful, IsFaultOf}
-use Rattle.log_recovery.proofs.AnswerLemmas.{lawful-fault, lawful-unlawful, one-list}
+use Rattle.log_recovery.proofs.AnswerLemmas.{HoldsLawful-fault_no_memory, lawful-unlawful, one-list}
 use Rattle.ship_stream.specs.Stream.{HasFrames, records_of}
-use Rattle.ship_stream.proofs.StreamLemmas.{one_stream-fine, one_stream-front}
+use Rattle.ship_stream.proofs.StreamLemmas.{is_stream-not_bad_stream, one_stream-front}
 use Rattle.standby.specs.AppliedFrames.{with_frames}
 use Rattle.standby.specs.declared.fault.StandbyFault.{StandbyFault}
 use Rattle.standby.specs.declared.fault.StandbyFault.TheVariants as stream
@@ -22,14 +22,14 @@ use Rattle.cli_shared.specs.declared.report.Detail.{Detail}
 use Rattle.cli_shared.specs.declared.report.Detail.TheVariants.{Read, Write, Disk, BadStream, Gap, StreamUnlawful}
 use Rattle.cli_standby.specs.Following.{AnswersFollow, IsFollowDone, IsLawfulStream, Stopped}
 use Rattle.cli_standby.specs.Feeding.{stream_detail}
-use Rattle.cli_standby.proofs.FollowCases.{feeding-each, follow-case, FollowCase}
+use Rattle.cli_standby.proofs.FollowCases.{feeding_fault-by_cases, follow-case, FollowCase}
 
 -- the list with the first of some frames is lawful where it is with all
 lawful-frames : (list : OpenedList) (frames later : List (List Rec))
     → IsLawful (opening_before list) (placed (with_frames list (frames ++ later)))
     → IsLawful (opening_before list) (placed (with_frames list frames))
 lawful-frames list frames later lawful =
-    lawful-records (opening_before list) list.opening.lsn (list.records ++ records_of frames) (records_of later)
+    lawful-records_front (opening_before list) list.opening.lsn (list.records ++ records_of frames) (records_of later)
     (subst (λ records. IsLawful (opening_before list) (history_from list.opening.lsn [] records))
     (ap (λ rs. list.records ++ rs) (records_of-append frames later)
     ∙ sym (append_assoc list.records (records_of frames) (records_of later))) lawful)
@@ -59,7 +59,7 @@ module _ {D : Type 0} (g : Ghosts D) (disk disk_new : D) (bytes : List ℕ) (lef
   no-bad-stream : (offset : ℕ) → Stopped g (BadStream offset) old new → ⊥
   no-bad-stream offset stopped =
       let cause = stopped.cause.1 in
-      one_stream-fine bytes (list_end opened) asked.frames offset asked.stream (cause.0, cause.3)
+      is_stream-not_bad_stream bytes (list_end opened) asked.frames offset asked.stream (cause.0, cause.3)
 
   -- it begins where the list ends
   no-gap : (have from : ℕ) → Stopped g (Gap have from) old new → ⊥
@@ -88,7 +88,7 @@ module _ {D : Type 0} (g : Ghosts D) (disk disk_new : D) (bytes : List ℕ) (lef
 
   -- a lawful log has no fault but want of memory
   found-done : (f : RecoverFault) → IsFaultOf (g.reads disk) f → IsFollowDone (recover_detail f)
-  found-done f is = subst (λ f. IsFollowDone (recover_detail f)) (sym (lawful-fault (g.reads disk) opened f held is)) tt
+  found-done f is = subst (λ f. IsFollowDone (recover_detail f)) (sym (HoldsLawful-fault_no_memory (g.reads disk) opened f held is)) tt
 
   case-done : (detail : Detail) → FollowCase g old new detail → (detail ≡ Read → ReadFails) → (detail ≡ Write → WriteFails)
       → (detail ≡ Disk → DiskFails) → IsFollowDone detail
@@ -97,7 +97,7 @@ module _ {D : Type 0} (g : Ghosts D) (disk disk_new : D) (bytes : List ℕ) (lef
   case-done detail (inr (inl looked)) reads writes disks =
       ⊎_elim (λ failed. absurd (no_disk (disks failed))) (λ found. subst IsFollowDone found.2 (found-done found.0 found.1)) looked.1
   case-done detail (inr (inr stopped)) reads writes disks =
-      feeding-each (λ d. Stopped g d old new → (d ≡ Read → ReadFails) → (d ≡ Disk → DiskFails) → IsFollowDone d)
+      feeding_fault-by_cases (λ d. Stopped g d old new → (d ≡ Read → ReadFails) → (d ≡ Disk → DiskFails) → IsFollowDone d)
       (λ unread reads disks. absurd (no_read (reads refl))) (λ f ended reads disks. stopped-done f ended disks)
       detail stopped.1 stopped.0 reads disks
 

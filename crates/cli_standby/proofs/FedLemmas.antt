@@ -22,7 +22,7 @@ use Rattle.standby.specs.declared.standby.Standby.{Standby}
 use Rattle.standby.proofs.FollowedParts.{begins-followed, begins-longer}
 use Rattle.standby.proofs.FrameLists.{holds-front-none, holds-lawful}
 use Rattle.standby.proofs.JudgedFrames.{with_records-none}
-use Rattle.standby.proofs.StoppedStreams.{has-longer}
+use Rattle.standby.proofs.StoppedStreams.{has_frames-more}
 use Rattle.cli_shared.specs.declared.report.Detail.{Detail}
 use Rattle.cli_shared.specs.declared.report.Detail.TheVariants.{Disk, NoMemory, Read}
 use Rattle.cli_standby.specs.Feeding.{begun, FeedEnds, HasFed, HasFedAll, StopsFeeding, stream_detail}
@@ -31,40 +31,40 @@ use Rattle.cli_standby.specs.Following.{IsCause}
 -- ---- the input and the bytes that were read of it
 
 -- what is said of the bytes that were read, whatever follows
-pub of-input : (P : List ℕ → Type 0) (left left_new : Option (List ℕ)) (fed : List ℕ) → Consumes left left_new fed
+pub consumes-holds_of_input : (P : List ℕ → Type 0) (left left_new : Option (List ℕ)) (fed : List ℕ) → Consumes left left_new fed
     → ((more : List ℕ) → P (fed ++ more)) → IfSome left P
-of-input P None left_new fed taken all = tt
-of-input P (Some bytes) None fed taken all = absurd taken
-of-input P (Some bytes) (Some rest) fed taken all = subst P (sym taken) (all rest)
+consumes-holds_of_input P None left_new fed taken all = tt
+consumes-holds_of_input P (Some bytes) None fed taken all = absurd taken
+consumes-holds_of_input P (Some bytes) (Some rest) fed taken all = subst P (sym taken) (all rest)
 
 -- what is said of all bytes
-pub of-all : (P : List ℕ → Type 0) (left left_new : Option (List ℕ)) (fed : List ℕ) → Consumes left left_new fed
+pub consumes_all-holds_of_input : (P : List ℕ → Type 0) (left left_new : Option (List ℕ)) (fed : List ℕ) → Consumes left left_new fed
     → IfSome left (λ bytes. left_new ≡ Some []) → P fed → IfSome left P
-of-all P None left_new fed taken end all = tt
-of-all P (Some bytes) None fed taken end all = absurd taken
-of-all P (Some bytes) (Some rest) fed taken end all =
+consumes_all-holds_of_input P None left_new fed taken end all = tt
+consumes_all-holds_of_input P (Some bytes) None fed taken end all = absurd taken
+consumes_all-holds_of_input P (Some bytes) (Some rest) fed taken end all =
     let none : rest ≡ [] = subst (λ left. IfSome left (λ bytes. bytes ≡ [])) (sym end) refl in
     subst P (sym (taken ∙ ap (λ b. fed ++ b) none ∙ append-nil fed)) all
 
-pub at-end : (left left_new : Option (List ℕ)) (fed : List ℕ) → Consumes left left_new fed → IsAtEnd left_new
+pub consumes_to_end-nothing_left : (left left_new : Option (List ℕ)) (fed : List ℕ) → Consumes left left_new fed → IsAtEnd left_new
     → IfSome left (λ bytes. left_new ≡ Some [])
-at-end None left_new fed taken end = tt
-at-end (Some bytes) None fed taken end = absurd taken
-at-end (Some bytes) (Some rest) fed taken end = ap Some end
+consumes_to_end-nothing_left None left_new fed taken end = tt
+consumes_to_end-nothing_left (Some bytes) None fed taken end = absurd taken
+consumes_to_end-nothing_left (Some bytes) (Some rest) fed taken end = ap Some end
 
 pub begins-input : (left left_new : Option (List ℕ)) (fed : List ℕ) (list : OpenedList) (frames : List (List Rec))
     → Consumes left left_new fed
     → BeginsWithFrames fed list frames → IfSome left (λ bytes. BeginsWithFrames bytes list frames)
 begins-input left left_new fed list frames taken begins =
-    of-input (λ bytes. BeginsWithFrames bytes list frames) left left_new fed taken (λ more. begins-longer fed more list frames begins)
+    consumes-holds_of_input (λ bytes. BeginsWithFrames bytes list frames) left left_new fed taken (λ more. begins-longer fed more list frames begins)
 
 -- before any byte
 pub begins-unread : (left : Option (List ℕ)) (list : OpenedList) → IfSome left (λ bytes. BeginsWithFrames bytes list [])
 begins-unread None list = tt
 begins-unread (Some bytes) list = inl refl
 
-pub holds-unread : (list : OpenedList) (c : List ℕ) → HoldsLawful c list → HoldsFront (with_frames list []) [] c
-holds-unread list c held = holds-front-none (with_frames list []) c (subst (HoldsLawful c) (sym (with_records-none list)) held)
+pub holds_front-none : (list : OpenedList) (c : List ℕ) → HoldsLawful c list → HoldsFront (with_frames list []) [] c
+holds_front-none list c held = holds-front-none (with_frames list []) c (subst (HoldsLawful c) (sym (with_records-none list)) held)
 
 -- ---- the fault of a standby
 
@@ -73,14 +73,14 @@ input-has : (left left_new : Option (List ℕ)) (fed : List ℕ) → Consumes le
     → (rest : List ℕ) × HasFrames fed from frames rest
     → IfSome left (λ bytes. (rest : List ℕ) × HasFrames bytes from frames rest)
 input-has left left_new fed taken from frames has =
-    of-input (λ bytes. (rest : List ℕ) × HasFrames bytes from frames rest) left left_new fed taken
-    (λ more. (has.0 ++ more, has-longer fed from frames has.0 more has.1))
+    consumes-holds_of_input (λ bytes. (rest : List ℕ) × HasFrames bytes from frames rest) left left_new fed taken
+    (λ more. (has.0 ++ more, has_frames-more fed from frames has.0 more has.1))
 
 cause-stopped : (list : OpenedList) (left left_new : Option (List ℕ)) (fed : List ℕ) → Consumes left left_new fed
     → (frames cut : List (List Rec))
     (fault : StandbyFault) → IsReason list fed frames cut fault → IsCause list left frames cut (stream_detail fault)
 cause-stopped list left left_new fed taken frames cut (stream.BadStream offset) is =
-    (is.0, (is.1.0, is.1.1, is.1.2, of-input (λ bytes. IsBadBehind is.1.0 bytes offset) left left_new fed taken is.1.3))
+    (is.0, (is.1.0, is.1.1, is.1.2, consumes-holds_of_input (λ bytes. IsBadBehind is.1.0 bytes offset) left left_new fed taken is.1.3))
 cause-stopped list left left_new fed taken frames cut (stream.Gap have from) is =
     (is.0, is.1, is.2, is.3, input-has left left_new fed taken from [] is.4)
 cause-stopped list left left_new fed taken frames cut (stream.StreamUnlawful lsn why) is =
@@ -99,12 +99,12 @@ counts-stopped stream.DiskFault before now counts = record { counted = λ is. co
 counts-stopped stream.NoMemory before now counts = record { counted = λ is. absurd cc; fine = λ other. counts.fine (λ is. cc) }
 
 -- it is no fault of the input
-pub read-stopped : (fault : StandbyFault) → stream_detail fault ≡ Read → ⊥
-read-stopped (stream.BadStream offset) is = cc
-read-stopped (stream.Gap have from) is = cc
-read-stopped (stream.StreamUnlawful lsn why) is = cc
-read-stopped stream.DiskFault is = cc
-read-stopped stream.NoMemory is = cc
+pub stream_detail-not_read : (fault : StandbyFault) → stream_detail fault ≡ Read → ⊥
+stream_detail-not_read (stream.BadStream offset) is = cc
+stream_detail-not_read (stream.Gap have from) is = cc
+stream_detail-not_read (stream.StreamUnlawful lsn why) is = cc
+stream_detail-not_read stream.DiskFault is = cc
+stream_detail-not_read stream.NoMemory is = cc
 
 -- nothing was written
 wrote-none : {D : Type 0} (g : Ghosts D) (base : Base D) → Wrote g base [] base.disk
@@ -118,16 +118,16 @@ wrote-none g base = record {
 }
 
 -- there was no memory for a standby
-pub stops-unmade : {D : Type 0} (g : Ghosts D) (list : OpenedList) (judge : Judge) (tail : Tail) (disk : D)
+pub no_memory-stops_feeding : {D : Type 0} (g : Ghosts D) (list : OpenedList) (judge : Judge) (tail : Tail) (disk : D)
     (left left_new : Option (List ℕ))
     → KeepsList g list judge tail disk → StopsFeeding g (begun list tail disk) left left_new NoMemory disk
-stops-unmade g list judge tail disk left left_new kept = record {
+no_memory-stops_feeding g list judge tail disk left left_new kept = record {
   frames = [];
   cut = [];
   cause = refl;
   begins = begins-unread left list;
   images = λ honest c image.
-      holds-unread list c (holds-lawful list c kept.each kept.taken.ledger.judged.lawful (kept.stands honest c image).held);
+      holds_front-none list c (holds-lawful list c kept.each kept.taken.ledger.judged.lawful (kept.stands honest c image).held);
   wrote = wrote-none g (begun list tail disk);
   faults = record { counted = λ is. absurd cc; fine = λ no. refl };
 }
@@ -173,8 +173,8 @@ module _ {D : Type 0} (g : Ghosts D) (base : Base D) (left left_new : Option (Li
     }
 
     -- the input could not be read
-    pub stops-unread : StopsFeeding g base left left_new Read s.disk.now
-    stops-unread = stops-between Read (λ is. cc) refl
+    pub read_failed-stops_feeding : StopsFeeding g base left left_new Read s.disk.now
+    read_failed-stops_feeding = stops-between Read (λ is. cc) refl
 
     -- it ended within the stream
     pub stops-early : IfSome left (λ bytes. left_new ≡ Some []) → (fault : StandbyFault) → (offset : ℕ) × (fault ≡ stream.BadStream offset)
@@ -187,7 +187,7 @@ module _ {D : Type 0} (g : Ghosts D) (base : Base D) (left left_new : Option (Li
             has.follows.came,
             refl,
             has.follows.goes_on,
-            of-all (λ bytes. IsBadBehind has.follows.came bytes bad.0) left left_new has.fed has.taken end bad.2,
+            consumes_all-holds_of_input (λ bytes. IsBadBehind has.follows.came bytes bad.0) left left_new has.fed has.taken end bad.2,
           ),
         ))
 
@@ -200,9 +200,9 @@ counts-no-read result before now other same = record { counted = λ is. absurd (
 
 module _ {D S : Type 0} (g : Ghosts D) (h : SourceGhosts S) where
   -- that is so whatever would have been made of the whole input
-  pub ends-failed : {T U : Type 0} (Made : Base D → T → Type 0) (Other : Base D → U → Type 0) (s t : Standby D) (input script_new : S)
+  pub feed_ends_err-any_made : {T U : Type 0} (Made : Base D → T → Type 0) (Other : Base D → U → Type 0) (s t : Standby D) (input script_new : S)
       (detail : Detail) → FeedEnds g h Made s t input script_new (Err detail) → FeedEnds g h Other s t input script_new (Err detail)
-  ends-failed Made Other s t input script_new detail ends = record {
+  feed_ends_err-any_made Made Other s t input script_new detail ends = record {
     ok = tt;
     stops = ends.stops;
     range = ends.range;
@@ -211,16 +211,16 @@ module _ {D S : Type 0} (g : Ghosts D) (h : SourceGhosts S) where
   }
 
   -- the standby went no further, and no read failed
-  pub ends-no-further : {T : Type 0} (Made : Base D → T → Type 0) (s t : Standby D) (input script_new : S) (f : StandbyFault)
+  pub stops_feeding-feed_ends : {T : Type 0} (Made : Base D → T → Type 0) (s t : Standby D) (input script_new : S) (f : StandbyFault)
       → ((base : Base D) → Follows g base [] s
       → StopsFeeding g base (h.left input) (h.left script_new) (stream_detail f) t.disk.now)
       → h.faults script_new ≡ h.faults input → t.disk.ghost_name ≡ s.disk.ghost_name
       → FeedEnds g h Made s t input script_new (Err (stream_detail f))
-  ends-no-further Made s t input script_new f stops fine same = record {
+  stops_feeding-feed_ends Made s t input script_new f stops fine same = record {
     ok = tt;
     stops = stops;
     range = inr (f, refl);
-    read = counts-no-read (Err (stream_detail f)) _ _ (λ is. read-stopped f cc) fine;
+    read = counts-no-read (Err (stream_detail f)) _ _ (λ is. stream_detail-not_read f cc) fine;
     same = same;
   }
 
@@ -231,9 +231,9 @@ pub fed-none : {D : Type 0} (g : Ghosts D) (base : Base D) (left left_new : Opti
 fed-none g base left left_new s taken follows = record { fed = []; taken = taken; follows = follows }
 
 -- a read that failed takes nothing
-pub fed-kept : {D : Type 0} (g : Ghosts D) (base : Base D) (left mid left_new : Option (List ℕ)) (s : Standby D) → HasFed g base left mid s
+pub fed-failed_read : {D : Type 0} (g : Ghosts D) (base : Base D) (left mid left_new : Option (List ℕ)) (s : Standby D) → HasFed g base left mid s
     → Keeps mid left_new → HasFed g base left left_new s
-fed-kept g base left mid left_new s has kept =
+fed-failed_read g base left mid left_new s has kept =
     record { fed = has.fed; taken = Consumes-kept left mid left_new has.fed has.taken kept; follows = has.follows }
 
 pub fed-more : {D : Type 0} (g : Ghosts D) (base : Base D) (left mid left_new : Option (List ℕ)) (s t : Standby D) (piece : List ℕ)
@@ -250,7 +250,7 @@ pub fed-end : {D : Type 0} (g : Ghosts D) (base : Base D) (left mid left_new : O
 fed-end g base left mid left_new s n buf has none taken end =
     let all = subst (Consumes left left_new) (append-nil has.fed) (Consumes-trans left mid left_new has.fed [] has.taken
     (subst (λ k. Consumes mid left_new (take k buf)) none taken)) in
-    record { has = record { fed = has.fed; taken = all; follows = has.follows }; all = at-end left left_new has.fed all end }
+    record { has = record { fed = has.fed; taken = all; follows = has.follows }; all = consumes_to_end-nothing_left left left_new has.fed all end }
 
 -- a piece at which the standby stopped
 pub fed-stopped : {D : Type 0} (g : Ghosts D) (base : Base D) (left mid left_new : Option (List ℕ)) (s : Standby D) (piece : List ℕ)

@@ -17,16 +17,16 @@ use Rattle.cli_standby.specs.Following.{AnswersFollow, Stopped}
 use Rattle.cli_standby.specs.Leaving.{LeavesFronts}
 
 -- what holds where the disk failed, and of each fault of recovery, holds wherever the log isn't opened
-pub unopened-each : (P : Detail → Type 0) → P Disk → ((f : RecoverFault) → P (recover_detail f)) → (detail : Detail)
+pub unopened-by_cases : (P : Detail → Type 0) → P Disk → ((f : RecoverFault) → P (recover_detail f)) → (detail : Detail)
     → IsUnopened detail → P detail
-unopened-each P disk each detail (inl is) = subst P (sym is) disk
-unopened-each P disk each detail (inr found) = subst P found.1 (each found.0)
+unopened-by_cases P disk each detail (inl is) = subst P (sym is) disk
+unopened-by_cases P disk each detail (inr found) = subst P found.1 (each found.0)
 
 -- what holds where a read failed, and of each fault of a standby, holds wherever the input isn't read to its end
-pub feeding-each : (P : Detail → Type 0) → P Read → ((f : StandbyFault) → P (stream_detail f)) → (detail : Detail)
+pub feeding_fault-by_cases : (P : Detail → Type 0) → P Read → ((f : StandbyFault) → P (stream_detail f)) → (detail : Detail)
     → IsFeedingFault detail → P detail
-feeding-each P read each detail (inl is) = subst P (sym is) read
-feeding-each P read each detail (inr found) = subst P found.1 (each found.0)
+feeding_fault-by_cases P read each detail (inl is) = subst P (sym is) read
+feeding_fault-by_cases P read each detail (inr found) = subst P found.1 (each found.0)
 
 -- the whole input was followed; or the disk was only looked at, and it failed or has this fault of a log; or it stopped behind some frames
 abbrev pub FollowCase : {D : Type 0} → Ghosts D → Outside D → Outside D → Detail → Type 0
@@ -72,4 +72,4 @@ module _ {D : Type 0} (g : Ghosts D) (old new : Outside D) where
 
   pub answers-stopped : (detail : Detail) → IsFeedingFault detail → Stopped g detail old new → AnswersFollow g old new detail
   answers-stopped =
-      feeding-each (λ detail. Stopped g detail old new → AnswersFollow g old new detail) (λ stopped. stopped) stopped-standby
+      feeding_fault-by_cases (λ detail. Stopped g detail old new → AnswersFollow g old new detail) (λ stopped. stopped) stopped-standby

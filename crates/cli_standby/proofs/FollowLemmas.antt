@@ -1,7 +1,7 @@
 -- From the opened log, and what came to it, to what `follow` answers.
 use Rattle.std.proofs.Common.{◌≡◌, ◌∙◌, ◌↔◌, inl, inr, refl, sym, ap, subst, ℕ, ◌+◌, ◌*◌, List, [], ◌++◌, length, Option, Some, None, IfSome, Result, Ok, Err, IfOk, IfErr, IsErrOf, arith}
-use Rattle.log_disk.proofs.Counting.{CountsWhere-after, Costs-more, Costs-then}
-use Rattle.log_disk.proofs.Lengths.{GrowsAtMostTo-more, GrowsAtMostTo-trans}
+use Rattle.log_disk.proofs.Counting.{CountsWhere-same_before, Costs-weaken, Costs-trans}
+use Rattle.log_disk.proofs.Lengths.{GrowsAtMostTo-weaken, GrowsAtMostTo-trans}
 use Rattle.log_disk.proofs.Moments.{Leaves-trans, Leaves-weaken}
 use Rattle.log_disk.specs.Attachment.{Attached}
 use Rattle.log_disk.specs.Faults.{CountsWhere}
@@ -36,21 +36,21 @@ use Rattle.cli_shared.specs.declared.report.Detail.TheVariants.{Read, Write, Dis
 use Rattle.cli_shared.specs.Answers.{recover_detail, StaysSilent}
 use Rattle.cli_shared.specs.Attached.{LeavesAttached}
 use Rattle.cli_shared.proofs.AttachedLemmas.{leaves-attached}
-use Rattle.cli_shared.proofs.ToldLemmas.{kept-text}
+use Rattle.cli_shared.proofs.ToldLemmas.{Keeps-refl}
 use Rattle.cli_standby.specs.Feeding.{AnswersUnsaid, begun, FollowEnds, HasFedEnd, HasFedWhole, HasFollowedInput, IsFeedingFault, IsOpened, IsUnopened, IsUnsaid, StopsFeeding, stream_detail}
 use Rattle.cli_standby.specs.Following.{Followed, FollowedWhole, IsAnswerToFollow}
 use Rattle.cli_standby.specs.Leaving.{LeavesFronts}
-use Rattle.cli_standby.proofs.FedLemmas.{counts-no-read, of-all}
-use Rattle.cli_standby.proofs.FollowCases.{answers-stopped, feeding-each, unopened-each}
+use Rattle.cli_standby.proofs.FedLemmas.{counts-no-read, consumes_all-holds_of_input}
+use Rattle.cli_standby.proofs.FollowCases.{answers-stopped, feeding_fault-by_cases, unopened-by_cases}
 
 whole-input : (left left_new : Option (List ℕ)) → IfSome left (λ bytes. left_new ≡ Some []) → (P : List ℕ → Type 0) → IfSome left P
     → IfSome left (λ bytes. (left_new ≡ Some []) × P bytes)
 whole-input None left_new end P is = tt
 whole-input (Some bytes) left_new end P is = (end, is)
 
-pub counts-err : {T : Type 0} (result : Result T Detail) (detail other : Detail) → result ≡ Err detail → (before now : ℕ)
+pub counts_where-is_err_of : {T : Type 0} (result : Result T Detail) (detail other : Detail) → result ≡ Err detail → (before now : ℕ)
     → CountsWhere (detail ≡ other) before now → CountsWhere (IsErrOf result other) before now
-counts-err result detail other same before now counts = record {
+counts_where-is_err_of result detail other same before now counts = record {
   counted = λ is. counts.counted (let both = sym same ∙ is in cc);
   fine = λ no. counts.fine (λ is. no (same ∙ ap Err is));
 }
@@ -78,13 +78,13 @@ module _ {D : Type 0} (g : Ghosts D) (old mid : D) (tail : Tail) (judge : Judge)
     held = opened.held honest;
     begins = begins;
     moments = moments-followed frames wrote;
-    count = Costs-more g _ _ _ _ old new (omega arith) (omega arith)
-        (Costs-then g 3 (4 * length frames) (most_calls g old + 3) (4 * length frames) old mid new (opened.count honest)
+    count = Costs-weaken g _ _ _ _ old new (omega arith) (omega arith)
+        (Costs-trans g 3 (4 * length frames) (most_calls g old + 3) (4 * length frames) old mid new (opened.count honest)
         (wrote.count honest_mid));
     tail = tail;
     stands = opened.stands honest;
     grows = GrowsAtMostTo-trans g (place_behind tail.at frames + 1) old mid new
-        (GrowsAtMostTo-more g (tail.at + 1) (place_behind tail.at frames + 1) old mid (omega arith) (opened.grows honest))
+        (GrowsAtMostTo-weaken g (tail.at + 1) (place_behind tail.at frames + 1) old mid (omega arith) (opened.grows honest))
         (wrote.grows honest_mid);
   }
 
@@ -98,7 +98,7 @@ module _ {D : Type 0} (g : Ghosts D) (old mid : D) (tail : Tail) (judge : Judge)
     followed = followed (stops.frames ++ stops.cut) stops.wrote stops.begins text text;
     images = stops.images honest_mid;
     cause = stops.cause;
-    silent = kept-text text;
+    silent = Keeps-refl text;
   })
 
   -- the whole input was followed
@@ -143,7 +143,7 @@ module _ {D S : Type 0} (g : Ghosts D) (h : SourceGhosts S) (old mid : D) (tail 
     honest = (λ was. stops.wrote.honest.0 (honest.0 was), λ is. honest.1 (stops.wrote.honest.1 is));
     attached = λ was. leaves-attached file _ _ detail (stops.wrote.attached ∙ attached was);
     read = read;
-    disk = counts-err (Err detail) detail Disk refl _ _ (CountsWhere-after _ _ _ _ fine stops.faults);
+    disk = counts_where-is_err_of (Err detail) detail Disk refl _ _ (CountsWhere-same_before _ _ _ _ fine stops.faults);
   }
 
   pub follow-ends : (result : Result (ℕ × Accounts) Detail)
@@ -163,7 +163,7 @@ module _ {D : Type 0} (g : Ghosts D) (base : Base D) (left left_new : Option (Li
   frames_fed = has.followed.frames
 
   of-fed : (P : List ℕ → Type 0) → P has.fed → IfSome left P
-  of-fed P is = of-all P left left_new has.fed has.taken has.all is
+  of-fed P is = consumes_all-holds_of_input P left left_new has.fed has.taken has.all is
 
   stream-fed : IsStream has.fed (list_end base.list) frames_fed
   stream-fed = subst (λ n. IsStream has.fed n frames_fed) has.followed.goes_on has.followed.ended
@@ -194,32 +194,32 @@ abbrev IsSilent : Detail → Type 0
 IsSilent detail = ((text : Option (List ℕ)) → StaysSilent text text detail) × IsAnswerToFollow detail × (detail ≡ Write → ⊥)
 
 silent-recovery : (f : RecoverFault) → IsSilent (recover_detail f)
-silent-recovery fault.NotALog = (kept-text, tt, λ is. cc)
-silent-recovery fault.BadSnapshot = (kept-text, tt, λ is. cc)
-silent-recovery (fault.BadBatch offset) = (kept-text, tt, λ is. cc)
-silent-recovery (fault.BadRec lsn) = (kept-text, tt, λ is. cc)
-silent-recovery (fault.Unlawful lsn why) = (kept-text, tt, λ is. cc)
-silent-recovery fault.NoMemory = (kept-text, tt, λ is. cc)
+silent-recovery fault.NotALog = (Keeps-refl, tt, λ is. cc)
+silent-recovery fault.BadSnapshot = (Keeps-refl, tt, λ is. cc)
+silent-recovery (fault.BadBatch offset) = (Keeps-refl, tt, λ is. cc)
+silent-recovery (fault.BadRec lsn) = (Keeps-refl, tt, λ is. cc)
+silent-recovery (fault.Unlawful lsn why) = (Keeps-refl, tt, λ is. cc)
+silent-recovery fault.NoMemory = (Keeps-refl, tt, λ is. cc)
 
 silent-standby : (f : StandbyFault) → IsSilent (stream_detail f)
-silent-standby (stream.BadStream offset) = (kept-text, tt, λ is. cc)
-silent-standby (stream.Gap have from) = (kept-text, tt, λ is. cc)
-silent-standby (stream.StreamUnlawful lsn why) = (kept-text, tt, λ is. cc)
-silent-standby stream.DiskFault = (kept-text, tt, λ is. cc)
-silent-standby stream.NoMemory = (kept-text, tt, λ is. cc)
+silent-standby (stream.BadStream offset) = (Keeps-refl, tt, λ is. cc)
+silent-standby (stream.Gap have from) = (Keeps-refl, tt, λ is. cc)
+silent-standby (stream.StreamUnlawful lsn why) = (Keeps-refl, tt, λ is. cc)
+silent-standby stream.DiskFault = (Keeps-refl, tt, λ is. cc)
+silent-standby stream.NoMemory = (Keeps-refl, tt, λ is. cc)
 
 silent-detail : (detail : Detail) → IsUnsaid detail → IsSilent detail
-silent-detail detail (inl is) = unopened-each IsSilent (kept-text, tt, λ is. cc) silent-recovery detail is
-silent-detail detail (inr is) = feeding-each IsSilent (kept-text, tt, λ is. cc) silent-standby detail is
+silent-detail detail (inl is) = unopened-by_cases IsSilent (Keeps-refl, tt, λ is. cc) silent-recovery detail is
+silent-detail detail (inr is) = feeding_fault-by_cases IsSilent (Keeps-refl, tt, λ is. cc) silent-standby detail is
 
 pub silent-unsaid : (text : Option (List ℕ)) (detail : Detail) → IsUnsaid detail → StaysSilent text text detail
 silent-unsaid text detail is = (silent-detail detail is).0 text
 
-pub range-unsaid : (detail : Detail) → IsUnsaid detail → IsAnswerToFollow detail
-range-unsaid detail is = (silent-detail detail is).1
+pub unsaid-is_answer_to_follow : (detail : Detail) → IsUnsaid detail → IsAnswerToFollow detail
+unsaid-is_answer_to_follow detail is = (silent-detail detail is).1
 
-pub write-unsaid : (detail : Detail) → IsUnsaid detail → detail ≡ Write → ⊥
-write-unsaid detail is = (silent-detail detail is).2
+pub unsaid-not_write : (detail : Detail) → IsUnsaid detail → detail ≡ Write → ⊥
+unsaid-not_write detail is = (silent-detail detail is).2
 
 -- ---- the log wasn't opened
 
@@ -233,7 +233,7 @@ no-read-recovery (fault.Unlawful lsn why) is = cc
 no-read-recovery fault.NoMemory is = cc
 
 no-read : (detail : Detail) → IsUnopened detail → detail ≡ Read → ⊥
-no-read = unopened-each (λ detail. detail ≡ Read → ⊥) (λ is. cc) no-read-recovery
+no-read = unopened-by_cases (λ detail. detail ≡ Read → ⊥) (λ is. cc) no-read-recovery
 
 pub ends-unopened : {D S T : Type 0} (g : Ghosts D) (h : SourceGhosts S) (file : Attached) (old new : D) (input : S) (detail : Detail)
     → (g.honest old → AnswersUnsaid g old new (h.left input) (h.left input) detail) → IsUnopened detail → (g.honest old ↔ g.honest new)

@@ -1,7 +1,7 @@
 -- A log that was opened, and perhaps settled, to follow a stream; or why it wasn't.
 use Rattle.std.proofs.Common.{◌≡◌, ◌≤◌, ◌^◌, ◌∙◌, inl, inr, refl, sym, subst, ℕ, ◌+◌, List, [], length, Option, arith}
-use Rattle.log_disk.proofs.Counting.{Costs-more, Costs-then}
-use Rattle.log_disk.proofs.Lengths.{GrowsAtMostTo-more, GrowsAtMostTo-same, GrowsAtMostTo-trans}
+use Rattle.log_disk.proofs.Counting.{Costs-weaken, Costs-trans}
+use Rattle.log_disk.proofs.Lengths.{GrowsAtMostTo-weaken, GrowsAtMostTo-same, GrowsAtMostTo-trans}
 use Rattle.log_disk.proofs.Moments.{Leaves-weaken}
 use Rattle.log_disk.specs.Costs.{Costs}
 use Rattle.log_disk.specs.Disk.{IsOnlyImage, Leaves}
@@ -15,22 +15,22 @@ use Rattle.log_recovery.specs.Recovery.{HoldsLawful, IsFaultOf, JudgesBytes}
 use Rattle.segment_file.specs.Log.{HoldsLog}
 use Rattle.segment_file.specs.StandingLog.{IsShut, IsStableGate, LogStands, LogStandsAt}
 use Rattle.segment_file.specs.declared.scan_result.Tail.{Tail}
-use Rattle.segment_file.proofs.Scanned.{all-stands, stands-stable, stands-within}
+use Rattle.segment_file.proofs.Scanned.{only_image-LogStands, stands-stable, stands-within}
 use Rattle.cli_shared.specs.Answers.{recover_detail}
 use Rattle.cli_shared.specs.Opening.{MayHold, OnlyLooks, most_calls}
 use Rattle.cli_shared.specs.Outside.{OnlyReads, outside}
 use Rattle.cli_shared.specs.declared.report.Detail.TheVariants.{Disk}
-use Rattle.cli_shared.proofs.ToldLemmas.{kept-text}
+use Rattle.cli_shared.proofs.ToldLemmas.{Keeps-refl}
 use Rattle.standby.specs.AppliedFrames.{HoldsFront}
 use Rattle.standby.proofs.FrameLists.{holds-front-none}
 use Rattle.cli_standby.specs.Feeding.{AnswersUnsaid, IsOpened}
 use Rattle.cli_standby.specs.Leaving.{LeavesFronts}
-use Rattle.cli_standby.proofs.FedLemmas.{begins-unread, holds-unread}
+use Rattle.cli_standby.proofs.FedLemmas.{begins-unread, holds_front-none}
 
 -- a disk that was attached, synced and read
 module _ {D : Type 0} (g : Ghosts D) (old mid : D) (looks : OnlyLooks g old mid) (left left_new : Option (List ℕ)) where
   pub only-reads : (text : Option (List ℕ)) → OnlyReads g (outside old left text) (outside mid left_new text)
-  only-reads text = record { silent = kept-text text; disk = looks }
+  only-reads text = record { silent = Keeps-refl text; disk = looks }
 
   pub unsaid-fault : (f : RecoverFault) → IsFaultOf (g.reads old) f → AnswersUnsaid g old mid left left_new (recover_detail f)
   unsaid-fault fault.NotALog is text = (only-reads text, is)
@@ -53,14 +53,14 @@ module _ {D : Type 0} (g : Ghosts D) (old mid : D) (bytes : List ℕ) (read : Ma
   alone : g.honest old → IsOnlyImage bytes (g.images mid)
   alone honest = subst (λ file. IsOnlyImage file (g.images mid)) (sym (file-is honest)) (settled honest)
 
-  pub place-read : length bytes ≤ 2 ^ 63 → tail.at ≤ 2 ^ 63
-  place-read short = let within = stands-within tail (log_of list) bytes judges.stands in omega (arith, within, short)
+  pub read_tail-place_within_2_63 : length bytes ≤ 2 ^ 63 → tail.at ≤ 2 ^ 63
+  read_tail-place_within_2_63 short = let within = stands-within tail (log_of list) bytes judges.stands in omega (arith, within, short)
 
-  pub gate-read : g.honest old → IsStableGate tail.at (g.images mid)
-  gate-read honest = stands-stable tail (log_of list) bytes judges.stands (g.images mid) (alone honest)
+  pub read_tail-stable_gate : g.honest old → IsStableGate tail.at (g.images mid)
+  read_tail-stable_gate honest = stands-stable tail (log_of list) bytes judges.stands (g.images mid) (alone honest)
 
-  pub stand-read : g.honest old → LogStands tail (log_of list) (g.images mid)
-  stand-read honest = all-stands tail (log_of list) bytes judges.stands (g.images mid) (alone honest)
+  pub read_tail-log_stands : g.honest old → LogStands tail (log_of list) (g.images mid)
+  read_tail-log_stands honest = only_image-LogStands tail (log_of list) bytes judges.stands (g.images mid) (alone honest)
 
   held-read : g.honest old → HoldsLawful (g.reads old) list
   held-read honest = subst (λ file. HoldsLawful file list) (read honest) judges.held
@@ -78,13 +78,13 @@ module _ {D : Type 0} (g : Ghosts D) (old mid : D) (bytes : List ℕ) (read : Ma
     moments-settled honest = record {
       disk = mid;
       looks = looks honest;
-      each = λ c image. holds-opened c (stand-read honest c image).held;
+      each = λ c image. holds-opened c (read_tail-log_stands honest c image).held;
       moments = Leaves-weaken g.moment g.images_since (λ c. HoldsLog c (log_of list)) (HoldsFront list []) mid new
           (λ c held. holds-front-none list c (holds-opened c held)) (moments honest);
     }
 
     count-settled : g.honest old → Costs g 3 (most_calls g old + 3) old new
-    count-settled honest = Costs-then g 1 2 (most_calls g old) 3 old mid new (looks honest).count (count honest)
+    count-settled honest = Costs-trans g 1 2 (most_calls g old) 3 old mid new (looks honest).count (count honest)
 
     stands-read : g.honest old → LogStandsAt tail (log_of list) (g.reads old)
     stands-read honest = subst (LogStandsAt tail (log_of list)) (read honest) judges.stands
@@ -113,8 +113,8 @@ module _ {D : Type 0} (g : Ghosts D) (old mid : D) (bytes : List ℕ) (read : Ma
     })
 
     -- the settling failed
-    pub unsettled : g.honest old → (left left_new : Option (List ℕ)) → AnswersUnsaid g old new left left_new Disk
-    unsettled honest left left_new text = inr (record {
+    pub settling_failed-answers_unsaid : g.honest old → (left left_new : Option (List ℕ)) → AnswersUnsaid g old new left left_new Disk
+    settling_failed-answers_unsaid honest left left_new text = inr (record {
       opened = list;
       frames = [];
       cut = [];
@@ -122,12 +122,12 @@ module _ {D : Type 0} (g : Ghosts D) (old mid : D) (bytes : List ℕ) (read : Ma
         held = held-read honest;
         begins = begins-unread left list;
         moments = moments-settled honest;
-        count = Costs-more g 3 _ (most_calls g old + 3) _ old new (omega arith) (omega arith) (count-settled honest);
+        count = Costs-weaken g 3 _ (most_calls g old + 3) _ old new (omega arith) (omega arith) (count-settled honest);
         tail = tail;
         stands = stands-read honest;
-        grows = GrowsAtMostTo-more g (tail.at + 1) _ old new (omega arith) (grows-settled honest);
+        grows = GrowsAtMostTo-weaken g (tail.at + 1) _ old new (omega arith) (grows-settled honest);
       };
-      images = λ c image. holds-unread list c (holds-opened c (stand honest c image).held);
+      images = λ c image. holds_front-none list c (holds-opened c (stand honest c image).held);
       cause = inl (refl, refl);
-      silent = kept-text text;
+      silent = Keeps-refl text;
     })

@@ -17,7 +17,7 @@ use Rattle.ship_stream.specs.Frames.{stream_of}
 use Rattle.cli_shared.specs.LogInput.{ReadsTaken}
 use Rattle.cli_shared.specs.declared.report.Detail.TheVariants.{Fine, Write, NoSuchLsn}
 use Rattle.cli_reports.specs.Reports.{AnswersReport, OfList, RefusesLsn}
-use Rattle.cli_reports.proofs.ReportLemmas.{of-list}
+use Rattle.cli_reports.proofs.ReportLemmas.{ReadsAll-of_list}
 use Rattle.cli_standby.specs.Shipping.{SaysStream}
 
 module _ (left left_new : Option (List ℕ)) (judge : Judge) (listed : Listed) (read : ReadsTaken HasJudged left left_new judge listed)
@@ -26,25 +26,25 @@ module _ (left left_new : Option (List ℕ)) (judge : Judge) (listed : Listed) (
   abbrev list_read : OpenedList
   list_read = list_of listed read.2.records
 
-  pub has-units : AreUnitsOf units read.2.records
-  has-units = subst (λ us. AreUnitsOf us read.2.records) (sym same) read.2.has.list
+  pub read_units-are_units_of : AreUnitsOf units read.2.records
+  read_units-are_units_of = subst (λ us. AreUnitsOf us read.2.records) (sym same) read.2.has.list
 
   said : (Said : OpenedList → Type 0) → Said list_read → IfSome left (λ all. OfList all left_new Said)
-  said Said is = of-list left left_new read.0 list_read Said read.1 read.2.held is
+  said Said is = ReadsAll-of_list left left_new read.0 list_read Said read.1 read.2.held is
 
   -- from an LSN that is no boundary nothing is shipped
   pub ship-refused : (old new : Option (List ℕ)) → ((records : List Rec) → AreUnitsOf units records
       → IsListBoundary (record { opening = listed.opening; records = records }) from → ⊥)
       → IfSome left (λ all. AnswersReport (SaysStream from) (RefusesLsn from) all left_new old new (NoSuchLsn from))
-  ship-refused old new none = said (λ list. RefusesLsn from list (NoSuchLsn from)) (refl, none read.2.records has-units)
+  ship-refused old new none = said (λ list. RefusesLsn from list (NoSuchLsn from)) (refl, none read.2.records read_units-are_units_of)
 
   module _ (rest : List ℕ) (goes_on : (records : List Rec) → AreUnitsOf units records → GoesOnAt listed.opening.lsn records from rest) where
     abbrev pub goes : GoesOnAt listed.opening.lsn read.2.records from rest
-    goes = goes_on read.2.records has-units
+    goes = goes_on read.2.records read_units-are_units_of
 
     pub rest-units : AreUnitsOf rest goes.later
     rest-units = record {
-      spellable = (all-split IsSpellable goes.front goes.later (subst (AllByRecursion IsSpellable) goes.whole has-units.spellable)).1;
+      spellable = (all-split IsSpellable goes.front goes.later (subst (AllByRecursion IsSpellable) goes.whole read_units-are_units_of.spellable)).1;
       units_are = goes.units;
     }
 

@@ -81,11 +81,11 @@ module _ (WasCut Ends : ℕ → Type 0) (left : Type 0) where
         (own.0 ++ rest.0, cuts-joined (length list) (places_of one) (concat (map places_of list)) own.0 rest.0 own.1 rest.1)
 
     -- that of one worker first
-    pub cuts-first : (First : ℕ → Type 0) (list : List A) → EachCuts list → (i : ℕ) (one : A) → get_elem? list i ≡ some one
+    pub EachCuts-has_first_cut : (First : ℕ → Type 0) (list : List A) → EachCuts list → (i : ℕ) (one : A) → get_elem? list i ≡ some one
         → (x : ℕ) → Cuts 1 (places_of one) (x ∷ []) → First x
         → HasFirstCut WasCut Ends left (length list) (concat (map places_of list)) First
-    cuts-first First [] each i one at x own first = absurd (some-ne-none one (sym at))
-    cuts-first First (other ∷ list) each zero one at x own first =
+    EachCuts-has_first_cut First [] each i one at x own first = absurd (some-ne-none one (sym at))
+    EachCuts-has_first_cut First (other ∷ list) each zero one at x own first =
         let rest = cuts-all list (λ i another at. each (suc i) another at) in
         let here : Cuts 1 (places_of other) (x ∷ []) = subst (λ a. Cuts 1 (places_of a) (x ∷ [])) (sym (some-injective other one at)) own in
         record {
@@ -94,9 +94,9 @@ module _ (WasCut Ends : ℕ → Type 0) (left : Type 0) where
           cuts = cuts-joined (length list) (places_of other) (concat (map places_of list)) (x ∷ []) rest.0 here rest.1;
           first = first;
         }
-    cuts-first First (other ∷ list) each (suc i) one at x own first =
+    EachCuts-has_first_cut First (other ∷ list) each (suc i) one at x own first =
         let before = each 0 other refl in
-        let rest = cuts-first First list (λ i another at. each (suc i) another at) i one at x own first in
+        let rest = EachCuts-has_first_cut First list (λ i another at. each (suc i) another at) i one at x own first in
         let more = concat (map places_of list) in
         record {
           cut = rest.cut;

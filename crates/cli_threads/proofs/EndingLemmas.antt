@@ -39,7 +39,7 @@ use Rattle.job_queue.specs.Passes.{jobs_of, workers_of}
 use Rattle.txn_jobs.specs.Places.{NumberedJobs}
 use Rattle.cli_threads.specs.Shares.{Share, sharing_of}
 use Rattle.cli_threads.specs.Sharing.{IsSharedOut, Sharing}
-use Rattle.cli_threads.proofs.RunLemmas.{sends, serial, kept, whole_after, tally-all, keeps, drained, whole, stops-at-end, never-stops, reason, same}
+use Rattle.cli_threads.proofs.RunLemmas.{transferred-sends_by, transferred-partly_serial_after, transferred-keeps_rows, transferred-serial_after, transferred-tally_counted, transferred-keeps_log, transferred-drained, transferred-runs_whole, transferred-stops_at_log_end, transferred-no_stop_cut, transferred-has_reason, transferred-same_daemon}
 use Rattle.cli_threads.proofs.RunHistory.{later_of}
 use Rattle.cli_threads.proofs.RunPlaces.{tasks_of}
 
@@ -69,34 +69,34 @@ length-behind : (below above : List Worked) (end : Worked) → length below < le
 length-behind [] above end = omega arith
 length-behind (first ∷ below) above end = let shorter = length-behind below above end in omega arith
 
--- what is concluded is Disk, Write, where something stopped the transfers or the text could not be written whole, Fine or LogEnd
+-- what is concluded is Disk, Write, where something stopped the transfers or the text could not be written transferred-runs_whole, Fine or LogEnd
 module _ {K : Type 0} (h : SinkGhosts K) (ended : RunEnd) (text : List ℕ) (old new : K) (P : Detail → Type 0)
     (disk : Concludes h ended text old new Disk → P Disk) (stopped : StoppedAs ended Write × (new ≡ old) → P Write)
     (cut : NothingStopped ended × AppendsPart (h.held_bytes old) (h.held_bytes new) text → P Write)
     (fine : Concludes h ended text old new Fine → P Fine)
     (log_end : (tail total : ℕ) → Concludes h ended text old new (LogEnd tail total) → P (LogEnd tail total)) where
-  pub by-conclusion : (detail : Detail) → Concludes h ended text old new detail → P detail
-  by-conclusion Disk said = disk said
-  by-conclusion Write (inl said) = stopped said
-  by-conclusion Write (inr said) = cut said
-  by-conclusion Fine said = fine said
-  by-conclusion (LogEnd tail total) said = log_end tail total said
-  by-conclusion NoMemory said = absurd said
-  by-conclusion Usage said = absurd said
-  by-conclusion (Script line) said = absurd said
-  by-conclusion Read said = absurd said
-  by-conclusion NotALog said = absurd said
-  by-conclusion BadSnapshot said = absurd said
-  by-conclusion (BadBatch offset) said = absurd said
-  by-conclusion (BadRec lsn) said = absurd said
-  by-conclusion (Unlawful lsn why) said = absurd said
-  by-conclusion (TxnEnd first count) said = absurd said
-  by-conclusion Exists said = absurd said
-  by-conclusion (NoSuchLsn lsn) said = absurd said
-  by-conclusion (BadStream offset) said = absurd said
-  by-conclusion (Gap have from) said = absurd said
-  by-conclusion (StreamUnlawful lsn why) said = absurd said
-  by-conclusion (NoAccount account) said = absurd said
+  pub Concludes-cases : (detail : Detail) → Concludes h ended text old new detail → P detail
+  Concludes-cases Disk said = disk said
+  Concludes-cases Write (inl said) = stopped said
+  Concludes-cases Write (inr said) = cut said
+  Concludes-cases Fine said = fine said
+  Concludes-cases (LogEnd tail total) said = log_end tail total said
+  Concludes-cases NoMemory said = absurd said
+  Concludes-cases Usage said = absurd said
+  Concludes-cases (Script line) said = absurd said
+  Concludes-cases Read said = absurd said
+  Concludes-cases NotALog said = absurd said
+  Concludes-cases BadSnapshot said = absurd said
+  Concludes-cases (BadBatch offset) said = absurd said
+  Concludes-cases (BadRec lsn) said = absurd said
+  Concludes-cases (Unlawful lsn why) said = absurd said
+  Concludes-cases (TxnEnd first count) said = absurd said
+  Concludes-cases Exists said = absurd said
+  Concludes-cases (NoSuchLsn lsn) said = absurd said
+  Concludes-cases (BadStream offset) said = absurd said
+  Concludes-cases (Gap have from) said = absurd said
+  Concludes-cases (StreamUnlawful lsn why) said = absurd said
+  Concludes-cases (NoAccount account) said = absurd said
 
 module _ {D : Type 0} {K : Type 0} (g : Ghosts D) (h : SinkGhosts K) (prepared : Prepared) (opened : OpenedList) (voice : Voice)
     {tail : Tail} {wait : Bool} (disk disk_new : D) (sink sink_new : K) (ended : RunEnd)
@@ -111,41 +111,41 @@ module _ {D : Type 0} {K : Type 0} (g : Ghosts D) (h : SinkGhosts K) (prepared :
   abbrev pub sharing : Sharing
   sharing = sharing_of has.front has.shares
 
-  pub shared-ended : IsSharedOut (workers_of prepared.jobs) jobs sharing
-  shared-ended = subst (λ n. IsSharedOut n jobs sharing) has.count has.transferred.workers.sharing
+  pub ended-shared_out : IsSharedOut (workers_of prepared.jobs) jobs sharing
+  ended-shared_out = subst (λ n. IsSharedOut n jobs sharing) has.count has.transferred.workers.sharing
 
-  pub keeps-ended : RunKeepsLog g voice opened jobs sharing list tail.at (key_of prepared.table).ring disk disk_new (h.held_bytes sink)
+  pub ended-keeps_log : RunKeepsLog g voice opened jobs sharing list tail.at (key_of prepared.table).ring disk disk_new (h.held_bytes sink)
       (h.held_bytes sink_new)
-  keeps-ended = rw (← has.speaks, ← has.tail_is, ← has.disk_old, ← has.disk_is, ← has.sink_old, ← has.sink_is)
-      (keeps g h opened jobs has.front has.shares (key_of prepared.table) has.first has.last has.view ended.closed.tail
+  ended-keeps_log = rw (← has.speaks, ← has.tail_is, ← has.disk_old, ← has.disk_is, ← has.sink_old, ← has.sink_is)
+      (transferred-keeps_log g h opened jobs has.front has.shares (key_of prepared.table) has.first has.last has.view ended.closed.tail
       ended.closed.accounts.rows has.transferred)
 
-  pub whole-ended : AreWhole ended.ends.items → RunsWhole opened jobs list
-  whole-ended all = whole g h opened jobs has.front has.shares (key_of prepared.table) has.first has.last has.view ended.closed.tail
+  pub ended-runs_whole : AreWhole ended.ends.items → RunsWhole opened jobs list
+  ended-runs_whole all = transferred-runs_whole g h opened jobs has.front has.shares (key_of prepared.table) has.first has.last has.view ended.closed.tail
       ended.closed.accounts.rows has.transferred (all-whole has.shares (subst AreWhole (sym has.ends) all))
 
   -- what was written of the transfers, whatever befell the daemon
-  pub told-ended : (more : List Rec) × AppendsPrefix (h.held_bytes sink) (h.held_bytes sink_new) (text_of voice (list_end opened) more)
-  told-ended =
-      let sent = sends g h opened jobs has.front has.shares (key_of prepared.table) has.first has.last has.view ended.closed.tail
+  pub ended-text_prefix : (more : List Rec) × AppendsPrefix (h.held_bytes sink) (h.held_bytes sink_new) (text_of voice (list_end opened) more)
+  ended-text_prefix =
+      let sent = transferred-sends_by g h opened jobs has.front has.shares (key_of prepared.table) has.first has.last has.view ended.closed.tail
       ended.closed.accounts.rows has.transferred in
       (sent.more, rw (← has.speaks, ← has.sink_old, ← has.sink_is) sent.text)
 
-  pub serial-ended : IsPartlySerialAfter (base_left opened) (tasks_of jobs) (later_of opened list)
-  serial-ended = serial g h opened jobs has.front has.shares (key_of prepared.table) has.first has.last has.view ended.closed.tail
+  pub ended-partly_serial_after : IsPartlySerialAfter (base_left opened) (tasks_of jobs) (later_of opened list)
+  ended-partly_serial_after = transferred-partly_serial_after g h opened jobs has.front has.shares (key_of prepared.table) has.first has.last has.view ended.closed.tail
       ended.closed.accounts.rows has.transferred
 
-  pub kept-ended : KeepsRows ended.closed.accounts.rows (base_left opened) (later_of opened list)
-  kept-ended = kept g h opened jobs has.front has.shares (key_of prepared.table) has.first has.last has.view ended.closed.tail
+  pub ended-keeps_rows : KeepsRows ended.closed.accounts.rows (base_left opened) (later_of opened list)
+  ended-keeps_rows = transferred-keeps_rows g h opened jobs has.front has.shares (key_of prepared.table) has.first has.last has.view ended.closed.tail
       ended.closed.accounts.rows has.transferred
 
-  pub whole_after-ended : AreWhole ended.ends.items → IsSerialAfter (base_left opened) (tasks_of jobs) (later_of opened list)
-  whole_after-ended all = whole_after g h opened jobs has.front has.shares (key_of prepared.table) has.first has.last has.view ended.closed.tail
+  pub ended-serial_after : AreWhole ended.ends.items → IsSerialAfter (base_left opened) (tasks_of jobs) (later_of opened list)
+  ended-serial_after all = transferred-serial_after g h opened jobs has.front has.shares (key_of prepared.table) has.first has.last has.view ended.closed.tail
       ended.closed.accounts.rows has.transferred (all-whole has.shares (subst AreWhole (sym has.ends) all))
 
   -- what befell the daemon, and what was counted then
   reason-ended : HasReason g h has.first has.last
-  reason-ended = reason g h opened jobs has.front has.shares (key_of prepared.table) has.first has.last has.view ended.closed.tail
+  reason-ended = transferred-has_reason g h opened jobs has.front has.shares (key_of prepared.table) has.first has.last has.view ended.closed.tail
       ended.closed.accounts.rows has.transferred
 
   disk-ended : CountsWhere (ended.fault ≡ Some DiskFault) (g.faults disk) (g.faults disk_new)
@@ -154,56 +154,56 @@ module _ {D : Type 0} {K : Type 0} (g : Ghosts D) (h : SinkGhosts K) (prepared :
   sink-ended : CountsWhere (ended.fault ≡ Some WriteFault) (h.faults sink) (h.faults sink_new)
   sink-ended = rw (← has.sink_old, ← has.sink_is, ← has.fault) reason-ended.sink
 
-  pub speaks-ended : ended.fault ≡ Some WriteFault → voice ≡ Lines
-  speaks-ended fault = sym has.speaks ∙ (subst (StopTells has.first has.last) (has.fault ∙ fault) reason-ended.stop).1
+  pub write_fault-voice_lines : ended.fault ≡ Some WriteFault → voice ≡ Lines
+  write_fault-voice_lines fault = sym has.speaks ∙ (subst (StopTells has.first has.last) (has.fault ∙ fault) reason-ended.stop).1
 
   -- the disk is as honest as it was
-  pub honest-ended : g.honest disk ↔ g.honest disk_new
-  honest-ended = rw (← has.disk_old, ← has.disk_is) (same g h opened jobs has.front has.shares (key_of prepared.table) has.first has.last
+  pub ended-same_honest : g.honest disk ↔ g.honest disk_new
+  ended-same_honest = rw (← has.disk_old, ← has.disk_is) (transferred-same_daemon g h opened jobs has.front has.shares (key_of prepared.table) has.first has.last
       has.view ended.closed.tail ended.closed.accounts.rows has.transferred).flusher.honest
 
-  -- and has the same file attached
-  pub attached-ended : g.attached disk_new ≡ g.attached disk
-  attached-ended = rw (← has.disk_old, ← has.disk_is) (same g h opened jobs has.front has.shares (key_of prepared.table) has.first has.last
+  -- and has the transferred-same_daemon file attached
+  pub ended-same_attached : g.attached disk_new ≡ g.attached disk
+  ended-same_attached = rw (← has.disk_old, ← has.disk_is) (transferred-same_daemon g h opened jobs has.front has.shares (key_of prepared.table) has.first has.last
       has.view ended.closed.tail ended.closed.accounts.rows has.transferred).flusher.attached
 
   module _ (fine : ended.fault ≡ None) where
-    pub drained-ended : RunIsDrained g voice opened list tail.at (key_of prepared.table).ring disk disk_new (h.held_bytes sink)
+    pub ended-drained : RunIsDrained g voice opened list tail.at (key_of prepared.table).ring disk disk_new (h.held_bytes sink)
         (h.held_bytes sink_new) ended.closed.tail ended.closed.accounts.rows
-    drained-ended = rw (← has.speaks, ← has.tail_is, ← has.disk_old, ← has.disk_is, ← has.sink_old, ← has.sink_is)
-        (drained g h opened jobs has.front has.shares (key_of prepared.table) has.first has.last has.view ended.closed.tail
+    ended-drained = rw (← has.speaks, ← has.tail_is, ← has.disk_old, ← has.disk_is, ← has.sink_old, ← has.sink_is)
+        (transferred-drained g h opened jobs has.front has.shares (key_of prepared.table) has.first has.last has.view ended.closed.tail
         ended.closed.accounts.rows has.transferred (has.fault ∙ fine))
 
     -- each end record was counted
-    pub counted-ended : (ended.done ≡ done_in list) × (ended.refused ≡ refused_in list)
-    counted-ended =
-        let all = tally-all g h opened jobs has.front has.shares (key_of prepared.table) has.first has.last has.view ended.closed.tail
+    pub ended-counted : (ended.done ≡ done_in list) × (ended.refused ≡ refused_in list)
+    ended-counted =
+        let all = transferred-tally_counted g h opened jobs has.front has.shares (key_of prepared.table) has.first has.last has.view ended.closed.tail
         ended.closed.accounts.rows has.transferred (has.fault ∙ fine) in
         let done = ap (λ (t : Tally). t.done) all in
         let refused = ap (λ (t : Tally). t.refused) all in
         (omega (arith, done, has.done_is, has.none_counted.0), omega (arith, refused, has.refused_is, has.none_counted.1))
 
-    pub none_stopped-ended : NoneStopped ended.ends.items
-    none_stopped-ended = subst NoneStopped has.ends each
+    pub ended-none_stopped : NoneStopped ended.ends.items
+    ended-none_stopped = subst NoneStopped has.ends each
       where
         each : NoneStopped (map work_of has.shares)
         each k other below word at =
             let found = share-at has.shares k other (omega (arith, below, length-map has.shares work_of)) in
             let stopped : found.0.worked ≡ worked.Cut (cause.Stop word) = sym found.2 ∙ at in
-            never-stops g h opened jobs has.front has.shares (key_of prepared.table) has.first has.last has.view ended.closed.tail
+            transferred-no_stop_cut g h opened jobs has.front has.shares (key_of prepared.table) has.first has.last has.view ended.closed.tail
             ended.closed.accounts.rows has.transferred (has.fault ∙ fine) k found.0.taken word
             (found.1 ∙ (λ i. some (record { taken = found.0.taken; worked = stopped i })))
 
-    pub stops-ended : (tail total : ℕ) → IsFirstLogEnd ended.ends.items tail total
+    pub ended-stops_at_log_end : (tail total : ℕ) → IsFirstLogEnd ended.ends.items tail total
         → StopsAtLogEnd opened jobs sharing list (key_of prepared.table).ring (key_of prepared.table).slots tail total
-    stops-ended tail total first =
+    ended-stops_at_log_end tail total first =
         let ends = has.ends ∙ first.whole in
         let counted = ap length ends in
         let found = share-at has.shares (length first.below) worked.All
         (omega (arith, counted, length-map has.shares work_of, length-behind first.below first.above (worked.Cut (cause.LogEnd tail total)))) in
         let stopped : found.0.worked ≡ worked.Cut (cause.LogEnd tail total) =
         sym found.2 ∙ ap (λ list. get_or list (length first.below) worked.All) ends ∙ get_or-behind first.below first.above _ worked.All in
-        stops-at-end g h opened jobs has.front has.shares (key_of prepared.table) has.first has.last has.view ended.closed.tail
+        transferred-stops_at_log_end g h opened jobs has.front has.shares (key_of prepared.table) has.first has.last has.view ended.closed.tail
         ended.closed.accounts.rows has.transferred (has.fault ∙ fine) (length first.below) found.0.taken tail total
         (found.1 ∙ (λ i. some (record { taken = found.0.taken; worked = stopped i })))
 
@@ -212,19 +212,19 @@ module _ {D : Type 0} {K : Type 0} (g : Ghosts D) (h : SinkGhosts K) (prepared :
     none-failed : (fault : DaemonFault) → ended.fault ≡ None → ended.fault ≢ Some fault
     none-failed fault none failed = none≢some fault (sym none ∙ failed)
 
-    pub disk-concluded : (detail : Detail) → Concludes h ended text sink_new sink_end detail
+    pub Concludes-counts_disk : (detail : Detail) → Concludes h ended text sink_new sink_end detail
         → CountsWhere (detail ≡ Disk) (g.faults disk) (g.faults disk_new)
-    disk-concluded = by-conclusion h ended text sink_new sink_end (λ detail. CountsWhere (detail ≡ Disk) (g.faults disk) (g.faults disk_new))
+    Concludes-counts_disk = Concludes-cases h ended text sink_new sink_end (λ detail. CountsWhere (detail ≡ Disk) (g.faults disk) (g.faults disk_new))
         (λ said. record { counted = λ _. disk-ended.counted said.0; fine = λ other. absurd (other refl) })
         (λ said. let cut = said.0 in record { counted = λ same. cc; fine = λ _. disk-ended.fine (λ failed. absurd cc) })
         (λ said. record { counted = λ same. cc; fine = λ _. disk-ended.fine (none-failed DiskFault said.0.0) })
         (λ said. record { counted = λ same. cc; fine = λ _. disk-ended.fine (none-failed DiskFault said.0.0) })
         (λ tail total said. record { counted = λ same. cc; fine = λ _. disk-ended.fine (none-failed DiskFault said.0.0) })
 
-    pub write-concluded : (detail : Detail) → Concludes h ended text sink_new sink_end detail
+    pub Concludes-counts_write : (detail : Detail) → Concludes h ended text sink_new sink_end detail
         → CountsWhere ((detail ≡ Write) × (ended.fault ≡ None)) (h.faults sink_new) (h.faults sink_end)
         → CountsWhere (detail ≡ Write) (h.faults sink) (h.faults sink_end)
-    write-concluded = by-conclusion h ended text sink_new sink_end
+    Concludes-counts_write = Concludes-cases h ended text sink_new sink_end
         (λ detail. CountsWhere ((detail ≡ Write) × (ended.fault ≡ None)) (h.faults sink_new) (h.faults sink_end)
         → CountsWhere (detail ≡ Write) (h.faults sink) (h.faults sink_end))
         (λ said last. let cut = said.0 in record {

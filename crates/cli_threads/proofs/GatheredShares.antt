@@ -5,7 +5,7 @@ use Rattle.std.proofs.lemmas.List.Elements.{All-contains, All-from_recursion, Co
 use Rattle.std.specs.List.{AllByRecursion}
 use mathlib.Core.Option.{some, some-injective, some-ne-none}
 use lib.ListN.{get_elem?}
-use Rattle.lsn_space.proofs.TilingLemmas.{all-weaker}
+use Rattle.lsn_space.proofs.TilingLemmas.{all-weaken}
 use Rattle.log_record.specs.LogList.{size_of}
 use Rattle.lock_core.specs.Records.{txn_of}
 use Rattle.log_table.specs.declared.table.LogTable.{LogTable}
@@ -16,7 +16,7 @@ use Rattle.log_rule.specs.ClosedLog.{IsGathered}
 use Rattle.log_rule.specs.Log.{IsFull, IsSpelled}
 use Rattle.log_rule.specs.Sound.{HasReadStop}
 use Rattle.log_rule.specs.CrewViews.{takes_in}
-use Rattle.commit_pipeline.proofs.ToldLemmas.{size_of-some}
+use Rattle.commit_pipeline.proofs.ToldLemmas.{size_of-positive}
 use Rattle.txn_jobs.specs.declared.cause.Cause.{Cause}
 use Rattle.txn_jobs.specs.declared.cause.Cause.TheVariants.{Stop, LogEnd}
 use Rattle.txn_jobs.specs.declared.cause.Worked.{Worked}
@@ -27,16 +27,16 @@ use Rattle.ring_buffer.proofs.TotalLemmas.{IsTotalFor-weaker}
 use Rattle.txn_runner.specs.Places.{NumberedJobs, number_at, job_at, jobs_taken}
 use Rattle.txn_runner.specs.Working.{EndsLog, HasEnd, HaveEnded, IsCutBy, LieInTurn, Works, jobs_of, places_in}
 use Rattle.txn_runner.proofs.EntryLemmas.{LieInOrder-ends}
-use Rattle.txn_making.proofs.Held.{account-given}
+use Rattle.txn_making.proofs.Held.{account_given-found}
 use Rattle.txn_runner.proofs.WorkLemmas.{IsOwnEntry}
 use Rattle.cli_workers.specs.declared.workers.Worker.{Worker}
 use Rattle.cli_threads.specs.Gathering.{AreFront, all_marks, all_places, share_of, takes_all, view_in, worked_of}
 use Rattle.cli_threads.specs.Shares.{Share, all_taken, IsGivenUncommitted, AreGivenUncommitted, CameTo, HasGathered, HasShare, WasCutBy}
 use Rattle.cli_workers.specs.Workers.{Numbered}
 use Rattle.cli_threads.specs.Workers.{AreDone, HasServed, IsDoneAs}
-use Rattle.cli_threads.proofs.ServedLemmas.{served}
-use Rattle.cli_threads.proofs.TakenPlaces.{Apart, AreOnce, all-shared, front-once, once-apart, once-second, shared-out}
-use Rattle.cli_threads.proofs.MergedEntries.{all-merged, merged-all, contains-first, contains-second, contains-merged, Rises-in_order, merged-others, merged-own}
+use Rattle.cli_threads.proofs.ServedLemmas.{IsDone-has_served}
+use Rattle.cli_threads.proofs.TakenPlaces.{Apart, AreOnce, worked_all-front_whole, front-once, once-apart, once-append_second, AreFront-shared_out}
+use Rattle.cli_threads.proofs.MergedEntries.{all-merged, merged_entries-all_split, contains-merged_left, contains-merged_right, contains-merged_either, LieInOrder-rises, own_records-merged_left, own_records-merged_right}
 
 -- what was asked for, by a seat that another takes in, whose table has such a ring and so many slots too
 asked-first : (view other : View) (size total : ℕ) → IsTotalOfSeat view size total → IsTotalOfSeat (takes_in view other) size total
@@ -69,7 +69,7 @@ module _ (jobs : NumberedJobs) where
   -- so it is with fewer places
   LieElsewhere-fewer : (places fewer : List ℕ) → ((place : ℕ) → Contains fewer place → Contains places place) → (entries : List Entry)
       → LieElsewhere places entries → LieElsewhere fewer entries
-  LieElsewhere-fewer places fewer among entries lie = all-weaker (IsElsewhere places) (IsElsewhere fewer) entries
+  LieElsewhere-fewer places fewer among entries lie = all-weaken (IsElsewhere places) (IsElsewhere fewer) entries
       (λ entry elsewhere place has. elsewhere place (among place has)) lie
 
   -- entries of one worker lie at no other's places
@@ -81,7 +81,7 @@ module _ (jobs : NumberedJobs) where
   LieElsewhere-own : (mine others : List ℕ) → Apart others mine → (entries : List Entry) → AllByRecursion (IsOwnEntry jobs mine) entries
       → LieElsewhere others entries
   LieElsewhere-own mine others apart entries own =
-      all-weaker (IsOwnEntry jobs mine) (IsElsewhere others) entries (own-elsewhere mine others apart) own
+      all-weaken (IsOwnEntry jobs mine) (IsElsewhere others) entries (own-elsewhere mine others apart) own
 
 module _ (queue : Queue) (crew : ℕ) where
   abbrev jobs : NumberedJobs
@@ -97,9 +97,9 @@ module _ (queue : Queue) (crew : ℕ) where
     others = places_in other.rows
 
     HaveEnded-keeps : (places : List ℕ) → HaveEnded jobs places view → HaveEnded jobs places after
-    HaveEnded-keeps places ended = all-weaker (λ place. HasEnd (number_at jobs place) view.entries)
+    HaveEnded-keeps places ended = all-weaken (λ place. HasEnd (number_at jobs place) view.entries)
         (λ place. HasEnd (number_at jobs place) after.entries) places
-        (λ place. HasEnd-of (number_at jobs place) view.entries after.entries (contains-first view.entries (view_in other).entries)) ended
+        (λ place. HasEnd-of (number_at jobs place) view.entries after.entries (contains-merged_left view.entries (view_in other).entries)) ended
 
     gave-keeps : (number tail balance account : ℕ) → IsGivenUncommitted number tail balance view.books.given account
         → IsGivenUncommitted number tail balance after.books.given account
@@ -124,13 +124,13 @@ module _ (queue : Queue) (crew : ℕ) where
       WasCutBy-keeps place (LogEnd tail total) has was = record {
         balances = was.balances;
         last_commits = was.last_commits;
-        gave = all-weaker (AreGivenUncommitted (number_at jobs place) tail was.balances view.books.given)
+        gave = all-weaken (AreGivenUncommitted (number_at jobs place) tail was.balances view.books.given)
             (AreGivenUncommitted (number_at jobs place) tail was.balances after.books.given) (job_at jobs place).legs
             (λ leg both. (gave-keeps _ _ _ _ both.0, gave-keeps _ _ _ _ both.1)) was.gave;
         next = was.next;
         rest = was.rest;
-        plan = ap (λ l. l ++ was.next ∷ was.rest) (merged-others (number_at jobs place) view.entries (view_in other).entries
-            (all-weaker (IsElsewhere jobs taken) (λ (entry : Entry). txn_of entry.rec ≢ number_at jobs place) (view_in other).entries
+        plan = ap (λ l. l ++ was.next ∷ was.rest) (own_records-merged_left (number_at jobs place) view.entries (view_in other).entries
+            (all-weaken (IsElsewhere jobs taken) (λ (entry : Entry). txn_of entry.rec ≢ number_at jobs place) (view_in other).entries
             (λ entry elsewhere. elsewhere place has) theirs)) ∙ was.plan;
         asked = asked-first view (view_in other) (size_of was.next) total was.asked;
         too_long = was.too_long;
@@ -151,7 +151,7 @@ module _ (queue : Queue) (crew : ℕ) where
       -- an entry at one of these places is none of the other's
       stays : (place : ℕ) (entry : Entry) → Contains taken place → Contains after.entries entry → txn_of entry.rec ≡ number_at jobs place
           → Contains view.entries entry
-      stays place entry mine has is = by_place (contains-merged view.entries (view_in other).entries entry has)
+      stays place entry mine has is = by_place (contains-merged_either view.entries (view_in other).entries entry has)
         where
           by_place : Contains view.entries entry ⊎ Contains (view_in other).entries entry → Contains view.entries entry
           by_place (inl own) = own
@@ -162,8 +162,8 @@ module _ (queue : Queue) (crew : ℕ) where
       in_turn-keeps turn i j first second less mine mine' has has' is is' =
           turn i j first second less mine mine' (stays i first mine has is) (stays j second mine' has' is') is is'
 
-    pub HasShare-keeps : (share : Share) → Apart share.taken others → HasShare jobs crew share view → HasShare jobs crew share after
-    HasShare-keeps share apart has = record {
+    pub HasShare-takes_in_other : (share : Share) → Apart share.taken others → HasShare jobs crew share view → HasShare jobs crew share after
+    HasShare-takes_in_other share apart has = record {
       places = has.places;
       came_to = CameTo-keeps share.taken apart share.worked has.came_to;
       in_turn = in_turn-keeps share.taken apart has.in_turn;
@@ -186,9 +186,9 @@ module _ (queue : Queue) (crew : ℕ) where
     mine = places_in worker.rows
 
     HaveEnded-taken : (places : List ℕ) → HaveEnded jobs places own → HaveEnded jobs places taken_in'
-    HaveEnded-taken places ended = all-weaker (λ place. HasEnd (number_at jobs place) own.entries)
+    HaveEnded-taken places ended = all-weaken (λ place. HasEnd (number_at jobs place) own.entries)
         (λ place. HasEnd (number_at jobs place) taken_in'.entries) places
-        (λ place. HasEnd-of (number_at jobs place) own.entries taken_in'.entries (contains-second view.entries own.entries)) ended
+        (λ place. HasEnd-of (number_at jobs place) own.entries taken_in'.entries (contains-merged_right view.entries own.entries)) ended
 
     alone-ends : (tail : ℕ) → tail ≡ own.seen.tail → crew ≡ 1
         → AllByRecursion (λ (entry : Entry). entry.start + entry.size ≤ tail) taken_in'.entries
@@ -201,7 +201,7 @@ module _ (queue : Queue) (crew : ℕ) where
         → Contains (map account_given ends.given.back) account
         → IsGivenUncommitted (number_at jobs place) tail (ends.balances account) taken_in'.books.given account
     gave-taken place tail total ends account has =
-        let one = account-given ends.given.back account has in
+        let one = account_given-found ends.given.back account has in
         let last = All-contains (IsUncommittedAt tail) ends.given.back one.0 (All-from_recursion (IsUncommittedAt tail) ends.given.back ends.uncommitted) one.1 in
         record {
           back = one.0;
@@ -231,10 +231,10 @@ module _ (queue : Queue) (crew : ℕ) where
           (gave-taken place tail total cut _ both.0, gave-taken place tail total cut _ both.1));
       next = cut.next;
       rest = cut.rest;
-      plan = ap (λ l. l ++ cut.next ∷ cut.rest) (merged-own (number_at jobs place) view.entries own.entries
-          (all-weaker (IsElsewhere jobs mine) (λ (entry : Entry). txn_of entry.rec ≢ number_at jobs place) view.entries
+      plan = ap (λ l. l ++ cut.next ∷ cut.rest) (own_records-merged_right (number_at jobs place) view.entries own.entries
+          (all-weaken (IsElsewhere jobs mine) (λ (entry : Entry). txn_of entry.rec ≢ number_at jobs place) view.entries
           (λ entry elsewhere. elsewhere place has) lacks)
-          (Rises-in_order 0 own.seen.tail own.entries done.has.below sized)) ∙ cut.plan;
+          (LieInOrder-rises 0 own.seen.tail own.entries done.has.below sized)) ∙ cut.plan;
       asked = asked-second view own (size_of cut.next) total (done.seat.ring ∙ sym ring) (done.seat.slots ∙ sym slots) cut.asked;
       too_long = cut.too_long;
       seen = Contains-append_right view.seen.lsns own.seen.lsns tail cut.seen;
@@ -254,7 +254,7 @@ module _ (queue : Queue) (crew : ℕ) where
     -- an entry at one of its places is one that it brings
     brought : (place : ℕ) (entry : Entry) → Contains mine place → Contains taken_in'.entries entry → txn_of entry.rec ≡ number_at jobs place
         → Contains own.entries entry
-    brought place entry at has is = by_place (contains-merged view.entries own.entries entry has)
+    brought place entry at has is = by_place (contains-merged_either view.entries own.entries entry has)
       where
         by_place : Contains view.entries entry ⊎ Contains own.entries entry → Contains own.entries entry
         by_place (inl before) = absurd (All-contains (IsElsewhere jobs mine) view.entries entry
@@ -265,8 +265,8 @@ module _ (queue : Queue) (crew : ℕ) where
     in_turn-taken i j first second less at at' has has' is is' =
         done.has.in_turn i j first second less at at' (brought i first at has is) (brought j second at' has' is') is is'
 
-    pub HasShare-taken : HasShare jobs crew (share_of worker) taken_in'
-    HasShare-taken = record {
+    pub HasShare-takes_in_own : HasShare jobs crew (share_of worker) taken_in'
+    HasShare-takes_in_own = record {
       places = done.has.places;
       came_to = CameTo-taken (worked_of worker) done.works;
       in_turn = in_turn-taken;
@@ -294,7 +294,7 @@ module _ (queue : Queue) (crew : ℕ) where
         let mine = places_in other.rows in
         HasShare-keeps_all (number + 1) others done.1 (omega (arith, later)) (omega (arith, few)) (takes_in view (view_in other)) share
         (λ place one two. apart place one (Contains-append_right mine (all_places others) place two))
-        (HasShare-keeps table view other (λ one. absurd (omega (arith, one, later, few))) (served table queue wait other done.0.1) share
+        (HasShare-takes_in_other table view other (λ one. absurd (omega (arith, one, later, few))) (IsDone-has_served table queue wait other done.0.1) share
         (λ place one two. apart place one (Contains-append_left mine (all_places others) place two)) has)
 
     HasShare-all : (number : ℕ) (workers : List Worker) → AreDoneFrom number workers → number + length workers ≤ crew
@@ -309,7 +309,7 @@ module _ (queue : Queue) (crew : ℕ) where
     HasShare-all number (worker ∷ workers) done few once view lacks first sized stops ring slots zero share at =
         let mine = places_in worker.rows in
         let rest = all_places workers in
-        let taken = HasShare-taken table view worker (served table queue wait worker done.0.1)
+        let taken = HasShare-takes_in_own table view worker (IsDone-has_served table queue wait worker done.0.1)
         (LieElsewhere-fewer jobs (mine ++ rest) mine (λ place. Contains-append_left mine rest place) view.entries lacks)
         (λ one. first (omega (arith, one, few))) sized.0 stops.0 ring slots in
         subst (λ s. HasShare jobs crew s (takes_all view (map view_in (worker ∷ workers)))) (some-injective (share_of worker) share at)
@@ -318,8 +318,8 @@ module _ (queue : Queue) (crew : ℕ) where
     HasShare-all number (worker ∷ workers) done few once view lacks first sized stops ring slots (suc i) share at =
         let mine = places_in worker.rows in
         let rest = all_places workers in
-        let lacks_next = LieElsewhere-next table view worker rest (served table queue wait worker done.0.1) once lacks in
-        HasShare-all (number + 1) workers done.1 (omega (arith, few)) (once-second mine rest once) (takes_in view (view_in worker))
+        let lacks_next = LieElsewhere-next table view worker rest (IsDone-has_served table queue wait worker done.0.1) once lacks in
+        HasShare-all (number + 1) workers done.1 (omega (arith, few)) (once-append_second mine rest once) (takes_in view (view_in worker))
         lacks_next (λ none. absurd (omega (arith, none))) sized.1 stops.1 ring slots i share at
 
     jobs-all : (number : ℕ) (workers : List Worker) → AreDoneFrom number workers → (view : View)
@@ -327,7 +327,7 @@ module _ (queue : Queue) (crew : ℕ) where
     jobs-all number [] done view = sym (append-nil view.books.jobs)
     jobs-all number (worker ∷ workers) done view =
         jobs-all (number + 1) workers done.1 (takes_in view (view_in worker))
-        ∙ (ap (λ l. (view.books.jobs ++ l) ++ all_taken jobs (map share_of workers)) (served table queue wait worker done.0.1).jobs_are
+        ∙ (ap (λ l. (view.books.jobs ++ l) ++ all_taken jobs (map share_of workers)) (IsDone-has_served table queue wait worker done.0.1).jobs_are
         ∙ append_assoc view.books.jobs (jobs_taken jobs (share_of worker).taken) (all_taken jobs (map share_of workers)))
 
 -- what holds of all entries in the end holds of each worker's
@@ -336,14 +336,14 @@ all-each : (P : Entry → Type 0) (view : View) (workers : List Worker) → AllB
 all-each P view [] all = (all, tt)
 all-each P view (worker ∷ workers) all =
     let rest = all-each P (takes_in view (view_in worker)) workers all in
-    let both = merged-all P view.entries (view_in worker).entries rest.0 in (both.0, (both.1, rest.1))
+    let both = merged_entries-all_split P view.entries (view_in worker).entries rest.0 in (both.0, (both.1, rest.1))
 
 -- an entry that is filled with its record's units has some
-pub sized : (entries : List Entry) → AllByRecursion IsFull entries → AllByRecursion IsSpelled entries
+pub full_entries-positive_size : (entries : List Entry) → AllByRecursion IsFull entries → AllByRecursion IsSpelled entries
     → AllByRecursion (λ (entry : Entry). 1 ≤ entry.size) entries
-sized [] full spelled = tt
-sized (entry ∷ entries) full spelled =
-    (omega (arith, full.0, ap length spelled.0.units, size_of-some entry.rec), sized entries full.1 spelled.1)
+full_entries-positive_size [] full spelled = tt
+full_entries-positive_size (entry ∷ entries) full spelled =
+    (omega (arith, full.0, ap length spelled.0.units, size_of-positive entry.rec), full_entries-positive_size entries full.1 spelled.1)
 
 -- Once the flusher's seat took in the seats of all workers, each done, and nothing before them, it has their shares, of a front of the script.
 pub HasGathered-all : (table : LogTable) (queue : Queue) (wait : Bool) (workers : List Worker) → AreDone table queue wait workers
@@ -357,13 +357,13 @@ HasGathered-all table queue wait workers done someone front view no_entries no_j
     let jobs = jobs_of queue in
     let crew = length (map share_of workers) in
     let count : crew ≡ length workers = length-map workers share_of in
-    let sizes = all-each (λ (entry : Entry). 1 ≤ entry.size) view workers (sized all.entries gathered.full gathered.spelled) in
+    let sizes = all-each (λ (entry : Entry). 1 ≤ entry.size) view workers (full_entries-positive_size all.entries gathered.full gathered.spelled) in
     record {
       someone = omega (arith, someone, count);
       taken = jobs-all queue crew table wait 0 workers done view ∙ ap (λ l. l ++ all_taken jobs (map share_of workers)) no_jobs;
       each = HasShare-all queue crew table wait 0 workers done (omega (arith, count))
           (front-once (length queue.script) (all_places workers) (all_marks workers) front) view
           (subst (LieElsewhere jobs (all_places workers)) (sym no_entries) tt) (λ none. no_entries) sizes.1 stops ring slots;
-      sharing = shared-out table queue wait workers done front;
-      all = all-shared table queue wait workers done front;
+      sharing = AreFront-shared_out table queue wait workers done front;
+      all = worked_all-front_whole table queue wait workers done front;
     }

@@ -57,11 +57,11 @@ module _ (P : Entry → Type 0) where
   all-merged xs [] first second = first
   all-merged xs (y ∷ ys) first second = all-inserted y (merged_entries xs ys) second.0 (all-merged xs ys first second.1)
 
-  pub merged-all : (xs ys : List Entry) → AllByRecursion P (merged_entries xs ys) → AllByRecursion P xs × AllByRecursion P ys
-  merged-all xs [] all = (all, tt)
-  merged-all xs (y ∷ ys) all =
+  pub merged_entries-all_split : (xs ys : List Entry) → AllByRecursion P (merged_entries xs ys) → AllByRecursion P xs × AllByRecursion P ys
+  merged_entries-all_split xs [] all = (all, tt)
+  merged_entries-all_split xs (y ∷ ys) all =
       let both = inserted-all y (merged_entries xs ys) all in
-      let rest = merged-all xs ys both.1 in (rest.0, (both.0, rest.1))
+      let rest = merged_entries-all_split xs ys both.1 in (rest.0, (both.0, rest.1))
 
 -- what is in the one list or in the other is in both
 inserted-contains : (entry : Entry) (entries : List Entry) (e : Entry) → Contains (entry ∷ []) e ⊎ Contains entries e → Contains (inserted entry entries) e
@@ -78,14 +78,14 @@ inserted-contains entry entries e has =
         by_place s (inr second) =
             Contains-append_right s.before (entry ∷ s.after) e (Contains-append_right (entry ∷ []) s.after e second)
 
-pub contains-first : (xs ys : List Entry) (e : Entry) → Contains xs e → Contains (merged_entries xs ys) e
-contains-first xs [] e has = has
-contains-first xs (y ∷ ys) e has = inserted-contains y (merged_entries xs ys) e (inr (contains-first xs ys e has))
+pub contains-merged_left : (xs ys : List Entry) (e : Entry) → Contains xs e → Contains (merged_entries xs ys) e
+contains-merged_left xs [] e has = has
+contains-merged_left xs (y ∷ ys) e has = inserted-contains y (merged_entries xs ys) e (inr (contains-merged_left xs ys e has))
 
-pub contains-second : (xs ys : List Entry) (e : Entry) → Contains ys e → Contains (merged_entries xs ys) e
-contains-second xs [] e has = absurd (omega (arith, has.1))
-contains-second xs (y ∷ ys) e has =
-    inserted-contains y (merged_entries xs ys) e (by_cases (Contains-append_cases (y ∷ []) ys e has) (contains-second xs ys e))
+pub contains-merged_right : (xs ys : List Entry) (e : Entry) → Contains ys e → Contains (merged_entries xs ys) e
+contains-merged_right xs [] e has = absurd (omega (arith, has.1))
+contains-merged_right xs (y ∷ ys) e has =
+    inserted-contains y (merged_entries xs ys) e (by_cases (Contains-append_cases (y ∷ []) ys e has) (contains-merged_right xs ys e))
   where
     by_cases : Contains (y ∷ []) e ⊎ Contains ys e → (Contains ys e → Contains (merged_entries xs ys) e)
         → Contains (y ∷ []) e ⊎ Contains (merged_entries xs ys) e
@@ -93,8 +93,8 @@ contains-second xs (y ∷ ys) e has =
     by_cases (inr there) more = inr (more there)
 
 -- what is in both is in the one list or in the other
-pub contains-merged : (xs ys : List Entry) (e : Entry) → Contains (merged_entries xs ys) e → Contains xs e ⊎ Contains ys e
-contains-merged xs ys e = All-contains IsInOne (merged_entries xs ys) e (All-from_recursion IsInOne (merged_entries xs ys)
+pub contains-merged_either : (xs ys : List Entry) (e : Entry) → Contains (merged_entries xs ys) e → Contains xs e ⊎ Contains ys e
+contains-merged_either xs ys e = All-contains IsInOne (merged_entries xs ys) e (All-from_recursion IsInOne (merged_entries xs ys)
     (all-merged IsInOne xs ys (among xs (λ entry has. inl has) xs (recursion_from_All (Contains xs) xs (All-contains_itself xs)))
     (among ys (λ entry has. inr has) ys (recursion_from_All (Contains ys) ys (All-contains_itself ys)))))
   where
@@ -118,12 +118,12 @@ above-in_order from least to (entry ∷ entries) below order =
     (omega (arith, below, order.0), above-in_order (entry.start + entry.size) least to entries (omega (arith, below, order.0)) order.1)
 
 -- entries that have units and lie in order rise
-pub Rises-in_order : (from to : ℕ) (entries : List Entry) → LieInOrder from to entries → AllByRecursion (λ (entry : Entry). 1 ≤ entry.size) entries
+pub LieInOrder-rises : (from to : ℕ) (entries : List Entry) → LieInOrder from to entries → AllByRecursion (λ (entry : Entry). 1 ≤ entry.size) entries
     → Rises entries
-Rises-in_order from to [] order some = tt
-Rises-in_order from to (entry ∷ entries) order some = (
+LieInOrder-rises from to [] order some = tt
+LieInOrder-rises from to (entry ∷ entries) order some = (
   above-in_order (entry.start + entry.size) entry.start to entries (omega (arith, some.0)) order.1,
-  Rises-in_order (entry.start + entry.size) to entries order.1 some.1,
+  LieInOrder-rises (entry.start + entry.size) to entries order.1 some.1,
 )
 
 module _ (number : ℕ) where
@@ -163,17 +163,17 @@ module _ (number : ℕ) where
       by_test true rest = own-skip entry (x ∷ xs) other
       by_test false rest = own-behind x (inserted entry xs) xs rest
 
-  pub merged-others : (xs ys : List Entry) → AllByRecursion IsOther ys → own_records number (merged_entries xs ys) ≡ own_records number xs
-  merged-others xs [] others = refl
-  merged-others xs (y ∷ ys) others = inserted-others y (merged_entries xs ys) others.0 ∙ merged-others xs ys others.1
+  pub own_records-merged_left : (xs ys : List Entry) → AllByRecursion IsOther ys → own_records number (merged_entries xs ys) ≡ own_records number xs
+  own_records-merged_left xs [] others = refl
+  own_records-merged_left xs (y ∷ ys) others = inserted-others y (merged_entries xs ys) others.0 ∙ own_records-merged_left xs ys others.1
 
   -- those of a list that rises stand in its order, where no other has the number
-  pub merged-own : (xs ys : List Entry) → AllByRecursion IsOther xs → Rises ys → own_records number (merged_entries xs ys) ≡ own_records number ys
-  merged-own xs [] others rises = own_records-none number xs others
-  merged-own xs (y ∷ ys) others rises =
+  pub own_records-merged_right : (xs ys : List Entry) → AllByRecursion IsOther xs → Rises ys → own_records number (merged_entries xs ys) ≡ own_records number ys
+  own_records-merged_right xs [] others rises = own_records-none number xs others
+  own_records-merged_right xs (y ∷ ys) others rises =
       inserted-own y (merged_entries xs ys)
       (all-merged (λ (other : Entry). txn_of other.rec ≡ number → y.start < other.start) xs ys (none-of xs others) (above ys rises.0))
-      ∙ own-behind y (merged_entries xs ys) ys (merged-own xs ys others rises.1)
+      ∙ own-behind y (merged_entries xs ys) ys (own_records-merged_right xs ys others rises.1)
     where
       none-of : (entries : List Entry) → AllByRecursion IsOther entries
           → AllByRecursion (λ (other : Entry). txn_of other.rec ≡ number → y.start < other.start) entries

@@ -19,8 +19,8 @@ use Rattle.cli_threads.specs.Run.{HoldsRun, GoesOn, transfers_of}
 use Rattle.cli_threads.specs.Sharing.{Sharing}
 use Rattle.cli_threads.specs.Transferred.{IsOpened}
 use Rattle.txn_runner.specs.Places.{NumberedJobs, number_at}
-use Rattle.cli_threads.proofs.RunHistory.{history-own}
-use Rattle.cli_threads.proofs.RunLedger.{goes-on}
+use Rattle.cli_threads.proofs.RunHistory.{own_records_of-later}
+use Rattle.cli_threads.proofs.RunLedger.{with_records-goes_on}
 
 -- of no records, each transfer is cut short before its first
 partly-none : (base : BaseState) (first : ℕ) (jobs : List PlainTransfer)
@@ -32,10 +32,10 @@ partly-none base first (job ∷ jobs) =
 module _ {D : Type 0} (g : Ghosts D) (disk : D) (tail : Tail) (opened : OpenedList) (jobs : NumberedJobs) (sharing : Sharing) (key : Start)
     (is : IsOpened g disk tail opened jobs.first key) (records : List Rec) where
   nothing-there : (place : ℕ) → own_records_of (number_at jobs place) (placed (with_records opened [])) ≡ []
-  nothing-there place = history-own opened [] (number_at jobs place) (omega (arith, is.below))
+  nothing-there place = own_records_of-later opened [] (number_at jobs place) (omega (arith, is.below))
 
   nothing-goes_on : GoesOn opened jobs sharing (with_records opened [])
-  nothing-goes_on = goes-on opened [] jobs is.lawful is.range is.some_accounts is.below
+  nothing-goes_on = with_records-goes_on opened [] jobs is.lawful is.range is.some_accounts is.below
       (subst (AllByRecursion IsSpellable) (sym (append-nil opened.records)) is.spellable) tt
       (record { each = partly-none _ jobs.first (transfers_of jobs); others = λ txn apart. refl })
       sharing (λ places i j one first second less recorded. absurd (recorded (nothing-there j))) (λ place behind. nothing-there place)
@@ -50,11 +50,11 @@ module _ {D : Type 0} (g : Ghosts D) (disk : D) (tail : Tail) (opened : OpenedLi
   }
 
   -- the images of all moments, those before the run and those of it
-  pub images-begun : (Before : List ℕ → Type 0) (entry new : D)
+  pub Leaves-before_or_run : (Before : List ℕ → Type 0) (entry new : D)
       → Leaves g.moment g.images_since (λ bytes. Before bytes ⊎ HoldsLawful bytes opened) entry disk
       → Leaves g.moment g.images_since (HoldsRun opened jobs sharing records) disk new
       → Leaves g.moment g.images_since (λ bytes. Before bytes ⊎ HoldsRun opened jobs sharing records bytes) entry new
-  images-begun Before entry new first then =
+  Leaves-before_or_run Before entry new first then =
       Leaves-trans g.moment g.images_since (λ bytes. Before bytes ⊎ HoldsRun opened jobs sharing records bytes) entry disk new
       (Leaves-weaken g.moment g.images_since (λ bytes. Before bytes ⊎ HoldsLawful bytes opened)
       (λ bytes. Before bytes ⊎ HoldsRun opened jobs sharing records bytes) entry disk

@@ -7,7 +7,7 @@ use mathlib.Core.Option.{some, some-injective, some-ne-none}
 use native.Mathlib.Decide.{dec_lt}
 use lib.ListN.{get_elem?}
 use Rattle.lsn_space.specs.Tiling.{IsTiling}
-use Rattle.lsn_space.proofs.TilingLemmas.{all-weaker}
+use Rattle.lsn_space.proofs.TilingLemmas.{all-weaken}
 use Rattle.log_record.specs.declared.rec.Rec.{Rec}
 use Rattle.log_record.specs.declared.rec.Placed.{Placed}
 use Rattle.log_record.specs.LogList.{size_of, end_of}
@@ -16,7 +16,7 @@ use Rattle.lock_core.specs.Alone.{outcome_alone}
 use Rattle.lock_core.specs.Records.{without_prev}
 use Rattle.lock_core.specs.Serial.{NumberedTransfer}
 use Rattle.lock_core.specs.Transactions.{own_records_of, has_end, all_without_prev, in_order}
-use Rattle.lock_core.proofs.NextRecords.{own_records_of-own, has_end-own, unended-next, planned-next, size-without_prev}
+use Rattle.lock_core.proofs.NextRecords.{own_records_of-history_from, contains_end-has_end, outcome_records-front_unended, planned_next-outcome_next, size-without_prev}
 use Rattle.log_rule.specs.declared.view.Entry.{Entry}
 use Rattle.log_rule.specs.declared.view.Given.{Given}
 use Rattle.log_rule.specs.declared.view.View.{View}
@@ -25,7 +25,7 @@ use Rattle.log_rule.specs.ClosedLog.{records_of, IsGathered}
 use Rattle.log_rule.specs.Log.{IsEntryBoundary}
 use Rattle.log_rule.specs.Members.{IsRefusalOf}
 use Rattle.job_queue.specs.Takings.{same, times}
-use Rattle.job_queue.proofs.Counting.{once-most, same-refl, times-push}
+use Rattle.job_queue.proofs.Counting.{once_below-le_one, same-refl, times-push}
 use Rattle.txn_jobs.specs.declared.cause.Cause.TheVariants.{Stop, LogEnd}
 use Rattle.txn_jobs.specs.declared.cause.Worked.{Worked}
 use Rattle.txn_jobs.specs.declared.cause.Worked.TheVariants.{All, Cut}
@@ -34,20 +34,20 @@ use Rattle.txn_runner.specs.Running.{IsTotalOfSeat}
 use Rattle.txn_runner.specs.Working.{HasEnd, HaveEnded, own_records}
 use Rattle.cli_threads.specs.RunStops.{EndsAs, FoundNoRoom, WasCutForRoom, IsTotalAmong, HadBalance, HadBalances, HasNextOf, StopsAtLogEnd}
 use Rattle.cli_threads.specs.Shares.{Share, CameTo, IsGivenUncommitted, AreGivenUncommitted, EndsLogAt, HasGathered, sharing_of}
-use Rattle.cli_threads.proofs.CutPlaces.{HasCuts, cuts-first}
-use Rattle.cli_threads.proofs.PlaceTimes.{contains-times, times-found, times-one}
+use Rattle.cli_threads.proofs.CutPlaces.{HasCuts, EachCuts-has_first_cut}
+use Rattle.cli_threads.proofs.PlaceTimes.{times_positive-contains, times-concat_member, times-concat_le}
 use Rattle.log_recovery.specs.Opened.{OpenedList, list_end, placed, with_records, opening_left}
 use Rattle.log_recovery.proofs.OpenedLemmas.{list_end-more}
-use Rattle.cli_threads.proofs.RunHistory.{later_of, end_of-append, history-own}
+use Rattle.cli_threads.proofs.RunHistory.{later_of, end_of-append, own_records_of-later}
 use Rattle.cli_threads.proofs.RunRecords.{tiling-end, boundary-front}
-use Rattle.cli_threads.proofs.RunPlaces.{tasks_of, each-numbered, share-at, taken-front, taken-inside}
+use Rattle.cli_threads.proofs.RunPlaces.{tasks_of, numbered-all, share-at, inside_front-taken, taken-inside_front}
 
 -- the record of an entry is among the records
-pub contains-record : (entries : List Entry) (entry : Entry) → Contains entries entry → Contains (records_of entries) entry.rec
-contains-record [] entry (i, inside, is) = absurd (omega arith)
-contains-record (first ∷ entries) entry (zero, inside, is) = (0, omega arith, ap (λ (e : Entry). e.rec) is)
-contains-record (first ∷ entries) entry (suc i, inside, is) =
-    let rest = contains-record entries entry (i, omega arith, is) in (suc rest.0, let more = rest.1 in omega arith, rest.2)
+pub contains-records_of : (entries : List Entry) (entry : Entry) → Contains entries entry → Contains (records_of entries) entry.rec
+contains-records_of [] entry (i, inside, is) = absurd (omega arith)
+contains-records_of (first ∷ entries) entry (zero, inside, is) = (0, omega arith, ap (λ (e : Entry). e.rec) is)
+contains-records_of (first ∷ entries) entry (suc i, inside, is) =
+    let rest = contains-records_of entries entry (i, omega arith, is) in (suc rest.0, let more = rest.1 in omega arith, rest.2)
 
 module _ (opened : OpenedList) (jobs : NumberedJobs) (view : View) (below : (opening_left opened).txn < jobs.first) where
   abbrev list : List Rec
@@ -58,11 +58,11 @@ module _ (opened : OpenedList) (jobs : NumberedJobs) (view : View) (below : (ope
 
   -- the whole list has of a transfer what follows the opened list
   own-later : (n : ℕ) → jobs.first ≤ n → own_records_of n (placed (with_records opened list)) ≡ own_records_of n later
-  own-later n high = history-own opened list n (omega (arith, below, high))
+  own-later n high = own_records_of-later opened list n (omega (arith, below, high))
 
   has_end-later : (n : ℕ) → HasEnd n view.entries → has_end (own_records_of n later) ≡ true
-  has_end-later n ended = has_end-own n (list_end opened) list ended.end.rec
-      (contains-record view.entries ended.end ended.contains) ended.number_is ended.is_end
+  has_end-later n ended = contains_end-has_end n (list_end opened) list ended.end.rec
+      (contains-records_of view.entries ended.end ended.contains) ended.number_is ended.is_end
 
   ends-as : (place : ℕ) → HasEnd (number_at jobs place) view.entries → EndsAs jobs place (placed (with_records opened list)) true
   ends-as place ended = ap has_end (own-later (number_at jobs place) (omega arith)) ∙ has_end-later (number_at jobs place) ended
@@ -71,7 +71,7 @@ module _ (opened : OpenedList) (jobs : NumberedJobs) (view : View) (below : (ope
   ended-in : (places : List ℕ) → HaveEnded jobs places view → (place : ℕ) → 1 ≤ times place places
       → HasEnd (number_at jobs place) view.entries
   ended-in places ended place has = All-contains (λ place. HasEnd (number_at jobs place) view.entries) places place
-      (All-from_recursion (λ place. HasEnd (number_at jobs place) view.entries) places ended) (contains-times place places has)
+      (All-from_recursion (λ place. HasEnd (number_at jobs place) view.entries) places ended) (times_positive-contains place places has)
 
   -- ---- what comes next
 
@@ -95,10 +95,10 @@ module _ (opened : OpenedList) (jobs : NumberedJobs) (view : View) (below : (ope
       let n : ℕ = number_at jobs place in
       let transfer = transfer_of (job_at jobs place) in
       let plan : in_order (own_records_of n later) (ends.next ∷ ends.rest) ≡ own_records n view.entries ++ ends.next ∷ ends.rest =
-      own_records_of-own n (list_end opened) [] list (ends.next ∷ ends.rest) in
+      own_records_of-history_from n (list_end opened) [] list (ends.next ∷ ends.rest) in
       record {
         balances = ends.balances;
-        each = all-weaker (AreGivenUncommitted n tail ends.balances view.books.given) (HadBalances (with_records opened list) tail ends.balances)
+        each = all-weaken (AreGivenUncommitted n tail ends.balances view.books.given) (HadBalances (with_records opened list) tail ends.balances)
             (job_at jobs place).legs
             (λ leg both. (had-it had n tail (ends.balances leg.0) leg.0 both.0, had-it had n tail (ends.balances leg.1) leg.1 both.1))
             ends.gave;
@@ -106,7 +106,7 @@ module _ (opened : OpenedList) (jobs : NumberedJobs) (view : View) (below : (ope
         rest = all_without_prev ends.rest;
         plan = ap (λ records. in_order (all_without_prev records) (without_prev ends.next ∷ all_without_prev ends.rest))
             (own-later n (omega arith))
-            ∙ planned-next n transfer ends.last_commits ends.balances (own_records_of n later) ends.rest ends.next (plan ∙ ends.plan);
+            ∙ planned_next-outcome_next n transfer ends.last_commits ends.balances (own_records_of n later) ends.rest ends.next (plan ∙ ends.plan);
         size = sym (size-without_prev ends.next);
       }
 
@@ -184,14 +184,14 @@ module _ (opened : OpenedList) (jobs : NumberedJobs) (view : View) (below : (ope
         subst (λ (w : Worked). CameTo jobs (length shares) share.taken w view) is (gathered.each worker share at).came_to
 
     -- where no worker was cut off, each transfer ended
-    pub all-ended : AllByRecursion (λ (share : Share). share.worked ≡ All) shares
+    pub worked_all-has_end : AllByRecursion (λ (share : Share). share.worked ≡ All) shares
         → AllByRecursion (λ (task : NumberedTransfer). has_end (own_records_of task.number later) ≡ true) (tasks_of jobs)
-    all-ended all = each-numbered (λ (task : NumberedTransfer). has_end (own_records_of task.number later) ≡ true) jobs.first jobs.script
+    worked_all-has_end all = numbered-all (λ (task : NumberedTransfer). has_end (own_records_of task.number later) ≡ true) jobs.first jobs.script
         (λ place inside.
         let first = share-at shares 0 gathered.someone in
         let whole = gathered.all 0 first.0 first.1 (worked-all shares 0 first.0 all first.1) in
-        let taken = taken-front jobs front shares gathered.sharing place (omega (arith, inside, whole)) in
-        let found = times-found (λ (share : Share). share.taken) place shares taken in
+        let taken = inside_front-taken jobs front shares gathered.sharing place (omega (arith, inside, whole)) in
+        let found = times-concat_member (λ (share : Share). share.taken) place shares taken in
         has_end-later (number_at jobs place)
         (ended-in found.1.taken (came found.0 found.1 found.2 All (worked-all shares found.0 found.1 all found.2)) place found.3))
       where
@@ -202,9 +202,9 @@ module _ (opened : OpenedList) (jobs : NumberedJobs) (view : View) (below : (ope
         worked-all (first ∷ others) (suc i) share all at = worked-all others i share all.1 at
 
     -- a stop word that a worker read is one that was stored
-    pub no-stop : view.sending.stop ≡ 0 → (worker word : ℕ) (share : Share) → get_elem? shares worker ≡ some share
+    pub no_stop_word-no_stop_cut : view.sending.stop ≡ 0 → (worker word : ℕ) (share : Share) → get_elem? shares worker ≡ some share
         → share.worked ≡ Cut (Stop word) → ⊥
-    no-stop no_stop worker word share at is =
+    no_stop_word-no_stop_cut no_stop worker word share at is =
         let reason = (came worker share at (Cut (Stop word)) is).4 in reason.0 (sym reason.1 ∙ no_stop)
 
     module _ (had : HadThem) (heard : HeardThem (length shares)) (lsn : ℕ) (whole : IsGathered lsn view)
@@ -232,9 +232,9 @@ module _ (opened : OpenedList) (jobs : NumberedJobs) (view : View) (below : (ope
           let n : ℕ = number_at jobs place in
           let transfer = transfer_of (job_at jobs place) in
           record {
-            inside = taken-inside jobs front shares gathered.sharing place
-                (omega (arith, has, times-one (λ (share : Share). share.taken) place shares worker share at));
-            unended = unended-next n transfer (outcome_alone transfer found.next.balances) (own_records_of n (placed (with_records opened list)))
+            inside = taken-inside_front jobs front shares gathered.sharing place
+                (omega (arith, has, times-concat_le (λ (share : Share). share.taken) place shares worker share at));
+            unended = outcome_records-front_unended n transfer (outcome_alone transfer found.next.balances) (own_records_of n (placed (with_records opened list)))
                 found.next.rest found.next.next found.next.plan;
             tail = tail;
             total = total;
@@ -283,24 +283,24 @@ module _ (opened : OpenedList) (jobs : NumberedJobs) (view : View) (below : (ope
           ended = λ place has none. ends-as place (ended-in share.taken (came worker share at All is) place has);
         },
       )
-      each-cuts worker share at (Cut (Stop word)) is = absurd (no-stop no_stop worker word share at is)
+      each-cuts worker share at (Cut (Stop word)) is = absurd (no_stop_word-no_stop_cut no_stop worker word share at is)
       each-cuts worker share at (Cut (LogEnd tail total)) is = let last = last-cut worker tail total share at is in (last.0 ∷ [], last.1)
 
-      pub stops : (worker tail total : ℕ) (share : Share) → get_elem? shares worker ≡ some share → share.worked ≡ Cut (LogEnd tail total)
+      pub log_end_cut-stops_at_log_end : (worker tail total : ℕ) (share : Share) → get_elem? shares worker ≡ some share → share.worked ≡ Cut (LogEnd tail total)
           → StopsAtLogEnd opened jobs (sharing_of front shares) list view.constants.ring view.constants.slots tail total
-      stops worker tail total share at is =
+      log_end_cut-stops_at_log_end worker tail total share at is =
           let last = last-cut worker tail total share at is in
-          let found = cuts-first (WasCut (length shares)) Ends IsLeftOver (λ (share : Share). share.taken)
+          let found = EachCuts-has_first_cut (WasCut (length shares)) Ends IsLeftOver (λ (share : Share). share.taken)
           (FoundNone (length shares) tail total) shares (λ other share at. each-cuts other share at share.worked refl)
           worker share at last.0 last.1 last.2 in
           let count = gathered.sharing.count in
           record {
             cut = found.cut;
             others = found.others;
-            once = λ place. omega (arith, found.cuts.within place, gathered.sharing.once place, once-most place front);
+            once = λ place. omega (arith, found.cuts.within place, gathered.sharing.once place, once_below-le_one place front);
             no_room = subst (λ n. FoundNone n tail total found.cut) (sym count) found.first;
             all_cut = subst (λ n. AllByRecursion (WasCut n) (found.cut ∷ found.others)) (sym count) found.cuts.all_cut;
-            ended = λ place inside none. found.cuts.ended place (taken-front jobs front shares gathered.sharing place inside) none;
+            ended = λ place inside none. found.cuts.ended place (inside_front-taken jobs front shares gathered.sharing place inside) none;
             most = omega (arith, found.cuts.most, count);
             just = λ left. omega (arith, found.cuts.just left, count);
           }

@@ -11,10 +11,10 @@ use Rattle.log_record.specs.Spelling.{IsSpellable}
 use Rattle.lock_core.specs.Records.{txn_of}
 use Rattle.lock_core.specs.Sums.{greatest_txn}
 use Rattle.lock_core.specs.Transactions.{of_transaction, own_records_of}
-use Rattle.lock_core.proofs.Apart.{own_records_of-left, of_transaction-none, below-greatest}
-use Rattle.lock_core.proofs.OneMore.{of_transaction-other}
+use Rattle.lock_core.proofs.Apart.{own_records_of-append_none, of_transaction-others_none, greatest_txn_below-all_below}
+use Rattle.lock_core.proofs.OneMore.{of_transaction-first_other}
 use Rattle.lock_core.specs.History.{end_from, entry_at, history_from}
-use Rattle.lock_core.proofs.Fronts.{history_from-append, history_from-onto, history_from-apart}
+use Rattle.lock_core.proofs.Fronts.{history_from-append, history_from-extends, history_from-split}
 use Rattle.log_recovery.specs.Opened.{OpenedList, list_end, placed, with_records}
 use Rattle.log_recovery.proofs.ListingLemmas.{units_of-append}
 use Rattle.log_recovery.proofs.OpenedLemmas.{placed-end}
@@ -26,17 +26,17 @@ later_of opened records = history_from (list_end opened) [] records
 pub end_of-append : (xs ys : List Rec) → end_of (xs ++ ys) ≡ end_of xs + end_of ys
 end_of-append xs ys = ap length (units_of-append xs ys) ∙ length-append (units_of xs) (units_of ys)
 
-pub history-later : (opened : OpenedList) (records : List Rec) → placed (with_records opened records) ≡ later_of opened records ++ placed opened
-history-later opened records =
-    history_from-append opened.opening.lsn [] opened.records records ∙ history_from-apart opened.opening.lsn (placed opened) records
+pub placed-with_records : (opened : OpenedList) (records : List Rec) → placed (with_records opened records) ≡ later_of opened records ++ placed opened
+placed-with_records opened records =
+    history_from-append opened.opening.lsn [] opened.records records ∙ history_from-split opened.opening.lsn (placed opened) records
     ∙ ap (λ end. history_from end [] records ++ placed opened) (placed-end opened)
 
 -- of a transaction above all of the opened list the whole has what follows that list
-pub history-own : (opened : OpenedList) (records : List Rec) (n : ℕ) → greatest_txn (placed opened) < n
+pub own_records_of-later : (opened : OpenedList) (records : List Rec) (n : ℕ) → greatest_txn (placed opened) < n
     → own_records_of n (placed (with_records opened records)) ≡ own_records_of n (later_of opened records)
-history-own opened records n below = ap (own_records_of n) (history-later opened records)
-    ∙ own_records_of-left n (later_of opened records) (placed opened)
-    (of_transaction-none n (placed opened) (other (placed opened) (below-greatest (placed opened) n below)))
+own_records_of-later opened records n below = ap (own_records_of n) (placed-with_records opened records)
+    ∙ own_records_of-append_none n (later_of opened records) (placed opened)
+    (of_transaction-others_none n (placed opened) (other (placed opened) (greatest_txn_below-all_below (placed opened) n below)))
   where
     other : (h : List Placed) → AllByRecursion (λ (entry : Placed). txn_of entry.rec < n) h
         → AllByRecursion (λ (entry : Placed). n ≢ txn_of entry.rec) h
@@ -44,18 +44,18 @@ history-own opened records n below = ap (own_records_of n) (history-later opened
     other (entry ∷ h) all = (λ same. let low = all.0 in omega arith, other h all.1)
 
 -- records of other transactions bring it no entry
-pub history-others : (n start : ℕ) (h : List Placed) (records : List Rec) → AllByRecursion (λ (rec : Rec). txn_of rec ≢ n) records
+pub of_transaction-pushed_others : (n start : ℕ) (h : List Placed) (records : List Rec) → AllByRecursion (λ (rec : Rec). txn_of rec ≢ n) records
     → of_transaction n h ≡ [] → of_transaction n (history_from start h records) ≡ []
-history-others n start h [] others none = none
-history-others n start h (rec ∷ records) others none =
-    history-others n start (entry_at (end_from start h) rec ∷ h) records others.1
-    (of_transaction-other n (entry_at (end_from start h) rec) h others.0 ∙ none)
+of_transaction-pushed_others n start h [] others none = none
+of_transaction-pushed_others n start h (rec ∷ records) others none =
+    of_transaction-pushed_others n start (entry_at (end_from start h) rec ∷ h) records others.1
+    (of_transaction-first_other n (entry_at (end_from start h) rec) h others.0 ∙ none)
 
 -- more records stand before
 pub later-append : (opened : OpenedList) (front rest : List Rec) → (more : List Placed) × (later_of opened (front ++ rest) ≡ more ++ later_of opened front)
 later-append opened front rest = (
   history_from (end_from (list_end opened) (later_of opened front)) [] rest,
-  history_from-append (list_end opened) [] front rest ∙ history_from-apart (list_end opened) (later_of opened front) rest,
+  history_from-append (list_end opened) [] front rest ∙ history_from-split (list_end opened) (later_of opened front) rest,
 )
 
 -- the entries of spellable records are spellable
@@ -87,5 +87,5 @@ history-front start records later front whole = onto [] records (omega arith) wh
     onto h (rec ∷ records) short whole = dite (dec_lt (length h) (length front))
         (λ less. let more = onto (entry_at (end_from start h) rec ∷ h) records (omega arith) whole in
         (rec ∷ more.0, more.1, ap (λ l. rec ∷ l) more.2, more.3))
-        (λ same. let below = history_from-onto start h (rec ∷ records) in
+        (λ same. let below = history_from-extends start h (rec ∷ records) in
         ([], rec ∷ records, refl, end-same later below.0 front h (sym whole ∙ below.1) (omega arith)))

@@ -2,7 +2,7 @@
 use Rattle.std.proofs.Common.{◌≡◌, ◌⊎◌, inl, inr, ⊎_elim, ◌≤◌, ℕ, ◌+◌, ◌*◌, List, [], ◌++◌, length, Option, Some, None, refl, ap, ◌∙◌, sym, subst, arith, append_assoc, append-nil}
 use Rattle.std.specs.Io.KnownBytes.{Appends}
 use Rattle.std.proofs.KnownBytes.{Appends-nil}
-use Rattle.log_disk.proofs.Counting.{Costs-more, Costs-none}
+use Rattle.log_disk.proofs.Counting.{Costs-weaken, Costs-none}
 use Rattle.log_disk.proofs.Lengths.{GrowsAtMostTo-same}
 use Rattle.log_disk.specs.Costs.{Costs}
 use Rattle.log_disk.specs.Disk.{Leaves}
@@ -28,7 +28,7 @@ use Rattle.commit_pipeline.specs.EndLines.{text_of}
 use Rattle.flusher.specs.KeptLog.{HoldsFront}
 use Rattle.commit_pipeline.specs.Later.{Ran, InFlight, extra, place_of, ring_of}
 use Rattle.commit_pipeline.specs.Turning.{IsMade, durable}
-use Rattle.commit_pipeline.proofs.Promised.{Ran-now, Ran-told, Ran-told_all, in_flight-read}
+use Rattle.commit_pipeline.proofs.Promised.{Ran-images_hold, Ran-appends_prefix, Ran-appends_all, in_flight-read}
 use Rattle.commit_pipeline.proofs.ToldLemmas.{text_of-none}
 
 -- the bytes hold the opened records and these
@@ -94,8 +94,8 @@ module _ {D : Type 0} {K : Type 0} (g : Ghosts D) (h : SinkGhosts K) (opened : O
   standing honest bytes image =
       subst (λ records. HoldsLog bytes (log_of (with_front opened records))) (sym (append-nil opened.records)) (stand honest bytes image).held
 
-  pub sends-still : SendsBy g h opened list old old
-  sends-still = record {
+  pub SendsBy-refl : SendsBy g h opened list old old
+  SendsBy-refl = record {
     more = [];
     cut = [];
     rest = list;
@@ -103,42 +103,42 @@ module _ {D : Type 0} {K : Type 0} (g : Ghosts D) (h : SinkGhosts K) (opened : O
     moments = λ honest. Leaves-refl g.moment g.images_since (HoldsSome opened list) old.flusher.disk.now;
     now = λ honest bytes image. inl (standing honest bytes image);
     text = ([], text_of old.voice (list_end opened) [], refl, Appends-nil (h.held_bytes old.sink.now));
-    count = λ honest. Costs-more g 0 _ 0 _ old.flusher.disk.now old.flusher.disk.now (omega arith) (omega arith)
+    count = λ honest. Costs-weaken g 0 _ 0 _ old.flusher.disk.now old.flusher.disk.now (omega arith) (omega arith)
         (Costs-none g old.flusher.disk.now);
     grows = λ honest. GrowsAtMostTo-same g _ old.flusher.disk.now old.flusher.disk.now refl;
   }
 
-  pub sent-still : AreSentBy g h opened [] old old
-  sent-still = record {
+  pub AreSentBy-refl : AreSentBy g h opened [] old old
+  AreSentBy-refl = record {
     now = standing;
     text = subst (Appends (h.held_bytes old.sink.now) (h.held_bytes old.sink.now)) (text_of-none old.voice (list_end opened))
         (Appends-nil (h.held_bytes old.sink.now));
-    count = λ honest. Costs-more g 0 _ 0 _ old.flusher.disk.now old.flusher.disk.now (omega arith) (omega arith)
+    count = λ honest. Costs-weaken g 0 _ 0 _ old.flusher.disk.now old.flusher.disk.now (omega arith) (omega arith)
         (Costs-none g old.flusher.disk.now);
     grows = λ honest. GrowsAtMostTo-same g _ old.flusher.disk.now old.flusher.disk.now refl;
   }
 
   module _ (ran : Ran g h old new) where
-    pub sent-now : sent_of new.flusher ≡ units_of ran.more
-    sent-now = ran.sent ∙ ap (λ l. l ++ units_of ran.more) made.unsent
+    pub Ran-sent_units : sent_of new.flusher ≡ units_of ran.more
+    Ran-sent_units = ran.sent ∙ ap (λ l. l ++ units_of ran.more) made.unsent
 
-    pub read-now : (view_of new.flusher.seat).sending.read ≡ units_of ran.cut
-    read-now = in_flight-read new.fault (view_of new.flusher.seat) ran.cut ran.in_flight
+    pub Ran-read_units : (view_of new.flusher.seat).sending.read ≡ units_of ran.cut
+    Ran-read_units = in_flight-read new.fault (view_of new.flusher.seat) ran.cut ran.in_flight
 
     torn-now : g.honest old.flusher.disk.now → (bytes : List ℕ) → g.images new.flusher.disk.now bytes
         → HoldsBoth opened ran.more bytes ⊎ HoldsBoth opened (ran.more ++ ran.cut) bytes
     torn-now honest bytes image =
         ⊎_elim (λ held. inl (subst (HoldsLog bytes) (with-records opened ran.more) held))
         (λ held. inr (subst (HoldsLog bytes) (with-both opened ran.more ran.cut) held))
-        (Ran-now g h old new made ran honest (log_of opened) (stand honest) bytes image)
+        (Ran-images_hold g h old new made ran honest (log_of opened) (stand honest) bytes image)
 
     -- the text is a front of the lines of what was sent
     text-front : AppendsPrefix (h.held_bytes old.sink.now) (h.held_bytes new.sink.now) (text_of old.voice (list_end opened) ran.more)
     text-front = subst (λ at. AppendsPrefix (h.held_bytes old.sink.now) (h.held_bytes new.sink.now) (text_of old.voice at ran.more)) start
-        (Ran-told g h old new made ran)
+        (Ran-appends_prefix g h old new made ran)
 
-    pub sends-ran : (rest : List Rec) → list ≡ (ran.more ++ ran.cut) ++ rest → SendsBy g h opened list old new
-    sends-ran rest splits = record {
+    pub Ran-sends_by : (rest : List Rec) → list ≡ (ran.more ++ ran.cut) ++ rest → SendsBy g h opened list old new
+    Ran-sends_by rest splits = record {
       more = ran.more;
       cut = ran.cut;
       rest = rest;
@@ -156,12 +156,12 @@ module _ {D : Type 0} {K : Type 0} (g : Ghosts D) (h : SinkGhosts K) (opened : O
       now = torn-now;
       text = text-front;
       count = λ honest. let most = extra-few new.fault in
-          Costs-more g _ _ _ _ old.flusher.disk.now new.flusher.disk.now (omega (arith, most)) (omega (arith, most)) (ran.count honest);
+          Costs-weaken g _ _ _ _ old.flusher.disk.now new.flusher.disk.now (omega (arith, most)) (omega (arith, most)) (ran.count honest);
       grows = ran.grows;
     }
 
-    pub sent-ran : new.fault ≡ None → AreSentBy g h opened ran.more old new
-    sent-ran fine =
+    pub Ran-are_sent_by : new.fault ≡ None → AreSentBy g h opened ran.more old new
+    Ran-are_sent_by fine =
         let none : ran.cut ≡ [] = (subst (λ fault. InFlight fault (view_of new.flusher.seat) ran.cut) fine ran.in_flight).0 in
         let extra_none : extra new.fault ≡ 0 = ap extra fine in
         record {
@@ -170,8 +170,8 @@ module _ {D : Type 0} {K : Type 0} (g : Ghosts D) (h : SinkGhosts K) (opened : O
               (ap (λ l. ran.more ++ l) none ∙ append-nil ran.more) held)
               (torn-now honest bytes image);
           text = subst (λ at. Appends (h.held_bytes old.sink.now) (h.held_bytes new.sink.now) (text_of old.voice at ran.more)) start
-              (Ran-told_all g h old new made ran fine);
-          count = λ honest. Costs-more g _ _ _ _ old.flusher.disk.now new.flusher.disk.now (omega (arith, extra_none))
+              (Ran-appends_all g h old new made ran fine);
+          count = λ honest. Costs-weaken g _ _ _ _ old.flusher.disk.now new.flusher.disk.now (omega (arith, extra_none))
               (omega (arith, extra_none)) (ran.count honest);
           grows = ran.grows;
         }

@@ -11,17 +11,17 @@ use Rattle.lock_core.specs.AccountRows.{KeepsRows}
 use Rattle.lock_core.specs.Soundness.{IsSoundAfter}
 use Rattle.lock_core.specs.Sums.{as_opening, BaseState, BeginsInRange, ShowsAccounts, balance_of, last_commit_of}
 use Rattle.lock_core.specs.Transactions.{own_records_of, has_end, ShareNoTransaction}
-use Rattle.lock_core.proofs.Apart.{share_none-numbers, below-greatest, none-shared}
-use Rattle.lock_core.proofs.Appending.{balance_of-append, last_commit_of-append, base_with-append, none-genesis, lawful-goes_on}
+use Rattle.lock_core.proofs.Apart.{numbers_apart-share_none, greatest_txn_below-all_below, share_none-of_transaction_none}
+use Rattle.lock_core.proofs.Appending.{balance_of-append, last_commit_of-append, base_with-append_no_genesis, lawful-no_genesis, lawful-append_opening_after}
 use Rattle.lock_core.proofs.Fronts.{lawful-front}
-use Rattle.lock_core.proofs.GoingOn.{lawful-joins}
+use Rattle.lock_core.proofs.GoingOn.{lawful_as_opening-lawful_after}
 use Rattle.lock_core.proofs.ListLemmas.{all-append, all-split}
-use Rattle.lock_core.proofs.JudgingLemmas.{shows-kept}
-use Rattle.lock_core.proofs.Meeting.{met-lawful}
-use Rattle.lock_core.proofs.SerialFronts.{partly_serial-front, partly-serial, numbers-from, numbered-from}
-use Rattle.lock_core.proofs.SoundLemmas.{sound-after}
+use Rattle.lock_core.proofs.JudgingLemmas.{keeps_rows-shows_accounts}
+use Rattle.lock_core.proofs.Meeting.{lawful-met}
+use Rattle.lock_core.proofs.SerialFronts.{partly_serial-front, partly_serial-all_ended_serial, no_others-numbers_from, numbered-from}
+use Rattle.lock_core.proofs.SoundLemmas.{lawful_after-sound_after}
 use Rattle.log_recovery.specs.Opened.{OpenedList, list_end, placed, with_records, opening_before, base_in, base_left, opening_left}
-use Rattle.log_recovery.proofs.OpenedLemmas.{rows-left}
+use Rattle.log_recovery.proofs.OpenedLemmas.{state_with-base_left}
 use Rattle.log_recovery.proofs.TextLemmas.{rows_text-shown}
 use Rattle.log_recovery.specs.Text.{rows_text, accounts_text}
 use Rattle.log_rule.specs.declared.start.Start.{Start}
@@ -29,15 +29,15 @@ use Rattle.log_rule.specs.Sound.{base_of}
 use Rattle.txn_runner.specs.Places.{NumberedJobs}
 use Rattle.cli_threads.specs.Run.{transfers_of, ComeInTurn, HasNoneBehind, GoesOn, RunsWhole}
 use Rattle.cli_threads.specs.Sharing.{Sharing}
-use Rattle.cli_threads.proofs.RunHistory.{later_of, history-later, later-append, spellable-history}
+use Rattle.cli_threads.proofs.RunHistory.{later_of, placed-with_records, later-append, spellable-history}
 use Rattle.cli_threads.proofs.RunPlaces.{tasks_of}
 
 -- ---- the base state
 
 -- the table's base state is that of the opened list
-pub base-opened : (opened : OpenedList) (key : Start) → IsLawful (opening_before opened) (placed opened) → key.start ≡ list_end opened
+pub base_of-base_left : (opened : OpenedList) (key : Start) → IsLawful (opening_before opened) (placed opened) → key.start ≡ list_end opened
     → ShowsAccounts key.accounts.rows (base_in opened) (placed opened) → base_of key ≡ base_left opened
-base-opened opened key lawful start shows = rows-left opened key.start key.accounts.rows lawful start shows
+base_of-base_left opened key lawful start shows = state_with-base_left opened key.start key.accounts.rows lawful start shows
 
 -- ---- a list that is lawful and partly serial after the opened one
 
@@ -47,48 +47,48 @@ module _ (opened : OpenedList) (list : List Rec) (jobs : NumberedJobs) (lawful :
     (spellable : AllByRecursion IsSpellable (opened.records ++ list))
     (after : IsLawful (as_opening (base_left opened)) (later_of opened list))
     (serial : IsPartlySerialAfter (base_left opened) (tasks_of jobs) (later_of opened list)) where
-  -- the records after the opened list have numbers from the first on
-  pub numbers : AllByRecursion (λ (entry : Placed). jobs.first ≤ txn_of entry.rec) (later_of opened list)
-  numbers = numbers-from jobs.first (tasks_of jobs) (later_of opened list) (numbered-from jobs.first (transfers_of jobs)) serial.others
+  -- the records after the opened list have later_of-numbered_from_first from the first on
+  pub later_of-numbered_from_first : AllByRecursion (λ (entry : Placed). jobs.first ≤ txn_of entry.rec) (later_of opened list)
+  later_of-numbered_from_first = no_others-numbers_from jobs.first (tasks_of jobs) (later_of opened list) (numbered-from jobs.first (transfers_of jobs)) serial.others
 
-  pub apart : ShareNoTransaction (later_of opened list) (placed opened)
-  apart = share_none-numbers jobs.first (later_of opened list) (placed opened) numbers (below-greatest (placed opened) jobs.first (omega (arith, below)))
+  pub later-shares_no_transaction : ShareNoTransaction (later_of opened list) (placed opened)
+  later-shares_no_transaction = numbers_apart-share_none jobs.first (later_of opened list) (placed opened) later_of-numbered_from_first (greatest_txn_below-all_below (placed opened) jobs.first (omega (arith, below)))
 
-  -- as their numbers are above those of the opened list, they are lawful behind the opening that it leaves
+  -- as their later_of-numbered_from_first are above those of the opened list, they are lawful behind the opening that it leaves
   behind : IsLawful (opening_left opened) (later_of opened list)
-  behind = lawful-joins (opening_before opened) jobs.first (later_of opened list) (placed opened) after numbers below
+  behind = lawful_as_opening-lawful_after (opening_before opened) jobs.first (later_of opened list) (placed opened) after later_of-numbered_from_first below
 
-  pub whole-lawful : IsLawful (opening_before opened) (placed (with_records opened list))
-  whole-lawful = subst (IsLawful (opening_before opened)) (sym (history-later opened list))
-      (lawful-goes_on (opening_before opened) (later_of opened list) (placed opened) lawful some_accounts behind)
+  pub with_records-lawful : IsLawful (opening_before opened) (placed (with_records opened list))
+  with_records-lawful = subst (IsLawful (opening_before opened)) (sym (placed-with_records opened list))
+      (lawful-append_opening_after (opening_before opened) (later_of opened list) (placed opened) lawful some_accounts behind)
 
-  pub goes-on : (sharing : Sharing) → ComeInTurn jobs sharing (placed (with_records opened list))
+  pub with_records-goes_on : (sharing : Sharing) → ComeInTurn jobs sharing (placed (with_records opened list))
       → HasNoneBehind jobs sharing (placed (with_records opened list)) → GoesOn opened jobs sharing (with_records opened list)
-  goes-on sharing in_turn none_behind = record {
-    sound = subst (IsSoundAfter (opening_before opened) (placed opened)) (sym (history-later opened list))
-        (sound-after (opening_before opened) (placed opened) (later_of opened list) range lawful some_accounts
-        (subst (AllByRecursion (λ (entry : Placed). IsSpellable entry.rec)) (history-later opened list)
+  with_records-goes_on sharing in_turn none_behind = record {
+    sound = subst (IsSoundAfter (opening_before opened) (placed opened)) (sym (placed-with_records opened list))
+        (lawful_after-sound_after (opening_before opened) (placed opened) (later_of opened list) range lawful some_accounts
+        (subst (AllByRecursion (λ (entry : Placed). IsSpellable entry.rec)) (placed-with_records opened list)
         (spellable-history opened.opening.lsn [] (opened.records ++ list) tt spellable)) behind);
-    serial = record { later = later_of opened list; whole = history-later opened list; serial = serial };
+    serial = record { later = later_of opened list; whole = placed-with_records opened list; serial = serial };
     in_turn = in_turn;
     rest = none_behind;
   }
 
   -- with each transfer ended
-  pub runs-whole : AllByRecursion (λ (task : NumberedTransfer). has_end (own_records_of task.number (later_of opened list)) ≡ true) (tasks_of jobs)
+  pub has_end-runs_whole : AllByRecursion (λ (task : NumberedTransfer). has_end (own_records_of task.number (later_of opened list)) ≡ true) (tasks_of jobs)
       → RunsWhole opened jobs list
-  runs-whole ended = record {
+  has_end-runs_whole ended = record {
     later = later_of opened list;
-    whole = history-later opened list;
-    serial = partly-serial (base_left opened) (tasks_of jobs) (later_of opened list) ended serial;
+    whole = placed-with_records opened list;
+    serial = partly_serial-all_ended_serial (base_left opened) (tasks_of jobs) (later_of opened list) ended serial;
   }
 
   -- rows that are its accounts
-  pub shows-all : (rows : List (ℕ × ℕ)) → KeepsRows rows (base_left opened) (later_of opened list)
+  pub KeepsRows-shows_accounts : (rows : List (ℕ × ℕ)) → KeepsRows rows (base_left opened) (later_of opened list)
       → ShowsAccounts rows (base_in (with_records opened list)) (placed (with_records opened list))
-  shows-all rows kept =
-      let shown = shows-kept rows (base_left opened) (later_of opened list) kept in
-      subst (λ (h : List Placed). ShowsAccounts rows (base_with (opening_before opened) h) h) (sym (history-later opened list)) (record {
+  KeepsRows-shows_accounts rows kept =
+      let shown = keeps_rows-shows_accounts rows (base_left opened) (later_of opened list) kept in
+      subst (λ (h : List Placed). ShowsAccounts rows (base_with (opening_before opened) h) h) (sym (placed-with_records opened list)) (record {
         count = shown.count ∙ ap (λ (base : BaseState). base.accounts) (sym genesis);
         each = λ account inside.
             let small : account < (base_in opened).accounts =
@@ -101,16 +101,16 @@ module _ (opened : OpenedList) (list : List Rec) (jobs : NumberedJobs) (lawful :
       all = later_of opened list ++ placed opened
 
       genesis : base_with (opening_before opened) (later_of opened list ++ placed opened) ≡ base_in opened
-      genesis = base_with-append (opening_before opened) (later_of opened list) (placed opened)
-          (none-genesis (as_opening (base_left opened)) (later_of opened list) some_accounts after)
+      genesis = base_with-append_no_genesis (opening_before opened) (later_of opened list) (placed opened)
+          (lawful-no_genesis (as_opening (base_left opened)) (later_of opened list) some_accounts after)
 
       balances : (account : ℕ) → account < (base_in opened).accounts
           → balance_of (base_with (opening_before opened) (later_of opened list ++ placed opened)) (later_of opened list ++ placed opened) account
           ≡ balance_of (base_left opened) (later_of opened list) account
       balances account small =
           ap (λ (base : BaseState). balance_of base (later_of opened list ++ placed opened) account) genesis
-          ∙ balance_of-append (base_in opened) (placed opened) (met-lawful (opening_before opened) (placed opened) lawful) (later_of opened list)
-          account small apart
+          ∙ balance_of-append (base_in opened) (placed opened) (lawful-met (opening_before opened) (placed opened) lawful) (later_of opened list)
+          account small later-shares_no_transaction
 
       commits : (account : ℕ)
           → last_commit_of (base_with (opening_before opened) (later_of opened list ++ placed opened)) (later_of opened list ++ placed opened) account
@@ -118,11 +118,11 @@ module _ (opened : OpenedList) (list : List Rec) (jobs : NumberedJobs) (lawful :
       commits account =
           ap (λ (base : BaseState). last_commit_of base (later_of opened list ++ placed opened) account) genesis
           ∙ last_commit_of-append (base_in opened) (base_left opened) (later_of opened list) (placed opened)
-          account refl (none-shared (later_of opened list) (placed opened) apart)
+          account refl (share_none-of_transaction_none (later_of opened list) (placed opened) later-shares_no_transaction)
 
-  pub text-shown : (lsn : ℕ) (rows : List (ℕ × ℕ)) → lsn ≡ list_end (with_records opened list)
+  pub KeepsRows-accounts_text : (lsn : ℕ) (rows : List (ℕ × ℕ)) → lsn ≡ list_end (with_records opened list)
       → KeepsRows rows (base_left opened) (later_of opened list) → rows_text lsn rows ≡ accounts_text (with_records opened list)
-  text-shown lsn rows end kept = rows_text-shown lsn rows (with_records opened list) end (shows-all rows kept)
+  KeepsRows-accounts_text lsn rows end kept = rows_text-shown lsn rows (with_records opened list) end (KeepsRows-shows_accounts rows kept)
 
 -- ---- fronts of it
 
@@ -152,8 +152,8 @@ module _ (opened : OpenedList) (list : List Rec) (jobs : NumberedJobs) (lawful :
       (subst (IsPartlySerialAfter (base_left opened) (tasks_of jobs)) later-front.1 serial)
 
   pub front-lawful : IsLawful (opening_before opened) (placed (with_records opened front))
-  front-lawful = whole-lawful opened front jobs lawful range some_accounts below front-spellable front-after front-serial
+  front-lawful = with_records-lawful opened front jobs lawful range some_accounts below front-spellable front-after front-serial
 
-  pub front-goes-on : (sharing : Sharing) → ComeInTurn jobs sharing (placed (with_records opened front))
+  pub front-goes_on : (sharing : Sharing) → ComeInTurn jobs sharing (placed (with_records opened front))
       → HasNoneBehind jobs sharing (placed (with_records opened front)) → GoesOn opened jobs sharing (with_records opened front)
-  front-goes-on = goes-on opened front jobs lawful range some_accounts below front-spellable front-after front-serial
+  front-goes_on = with_records-goes_on opened front jobs lawful range some_accounts below front-spellable front-after front-serial

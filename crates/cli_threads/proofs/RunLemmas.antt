@@ -4,10 +4,10 @@ use Rattle.std.specs.List.{AllByRecursion}
 use Rattle.std.proofs.lemmas.List.Elements.{All-from_recursion}
 use mathlib.Core.Option.{some}
 use lib.ListN.{get_elem?}
-use Rattle.lsn_space.proofs.TilingLemmas.{all-weaker}
+use Rattle.lsn_space.proofs.TilingLemmas.{all-weaken}
 use Rattle.log_disk.proofs.Moments.{Leaves-weaken}
-use Rattle.log_disk.proofs.Counting.{Costs-more}
-use Rattle.log_disk.proofs.Lengths.{GrowsAtMostTo-more}
+use Rattle.log_disk.proofs.Counting.{Costs-weaken}
+use Rattle.log_disk.proofs.Lengths.{GrowsAtMostTo-weaken}
 use Rattle.log_disk.specs.declared.disk.LogDisk.{Ghosts}
 use Rattle.log_disk.specs.declared.sink.Sink.{Ghosts as SinkGhosts}
 use Rattle.log_record.specs.declared.rec.Rec.{Rec}
@@ -20,12 +20,12 @@ use Rattle.lock_core.specs.Serial.{NumberedTransfer, IsPartlySerialAfter, IsSeri
 use Rattle.lock_core.specs.AccountRows.{KeepsRows}
 use Rattle.lock_core.specs.Sums.{as_opening, BaseState}
 use Rattle.lock_core.proofs.ListLemmas.{all-append, all-split}
-use Rattle.lock_core.proofs.SerialFronts.{partly-serial}
+use Rattle.lock_core.proofs.SerialFronts.{partly_serial-all_ended_serial}
 use Rattle.lock_core.proofs.SerialTasks.{partly_serial-more}
 use Rattle.log_recovery.proofs.ListingLemmas.{units_of-append}
 use Rattle.log_recovery.specs.Opened.{OpenedList, list_end, placed, with_records, base_left}
 use Rattle.log_recovery.proofs.OpenedLemmas.{list_end-more}
-use Rattle.log_recovery.proofs.TextLemmas.{AppendsPrefix-first}
+use Rattle.log_recovery.proofs.TextLemmas.{AppendsPrefix-append}
 use Rattle.segment_file.specs.Lengths.{most_end}
 use Rattle.log_rule.specs.declared.start.Start.{Start}
 use Rattle.log_rule.specs.declared.view.Constants.{Constants}
@@ -47,7 +47,7 @@ use Rattle.end_lines.specs.declared.tally.Tally.{Tally}
 use Rattle.commit_pipeline.specs.Later.{Later, Ran, HasReason, StopTells, place_of, ring_of}
 use Rattle.commit_pipeline.specs.Telling.{counted}
 use Rattle.commit_pipeline.specs.Turning.{IsSameDaemon, durable}
-use Rattle.commit_pipeline.proofs.RanLemmas.{Later-same, Later-reason, none≢some}
+use Rattle.commit_pipeline.proofs.RanLemmas.{Later-same_daemon, Later-reason, none≢some}
 use Rattle.commit_pipeline.proofs.LineLemmas.{text_of-append}
 use Rattle.txn_jobs.specs.declared.cause.Cause.TheVariants.{Stop, LogEnd}
 use Rattle.txn_jobs.specs.declared.cause.Worked.TheVariants.{All, Cut}
@@ -57,14 +57,14 @@ use Rattle.cli_threads.specs.RunStops.{HadBalance, StopsAtLogEnd}
 use Rattle.cli_threads.specs.Shares.{Share, all_taken, sharing_of}
 use Rattle.cli_threads.specs.Sharing.{Sharing}
 use Rattle.cli_threads.specs.Transferred.{HasTransferred}
-use Rattle.cli_threads.proofs.RunBalances.{had-balance}
-use Rattle.cli_threads.proofs.RunEnds.{all-ended, no-stop, stops}
+use Rattle.cli_threads.proofs.RunBalances.{WentBack-had_balance}
+use Rattle.cli_threads.proofs.RunEnds.{worked_all-has_end, no_stop_word-no_stop_cut, log_end_cut-stops_at_log_end}
 use Rattle.cli_threads.proofs.RunHistory.{later_of, end_of-append}
-use Rattle.cli_threads.proofs.RunImages.{HoldsBoth, HoldsSome, SendsBy, AreSentBy, sends-still, sent-still, sent-now, read-now, sends-ran, sent-ran}
-use Rattle.cli_threads.proofs.RunLedger.{base-opened, apart, whole-lawful, goes-on, runs-whole, text-shown, front-spellable, front-lawful, front-goes-on}
-use Rattle.cli_threads.proofs.RunRecords.{records-spellable, units_in-records, records-front, tiling-end}
+use Rattle.cli_threads.proofs.RunImages.{HoldsBoth, HoldsSome, SendsBy, AreSentBy, SendsBy-refl, AreSentBy-refl, Ran-sent_units, Ran-read_units, Ran-sends_by, Ran-are_sent_by}
+use Rattle.cli_threads.proofs.RunLedger.{base_of-base_left, later-shares_no_transaction, with_records-lawful, with_records-goes_on, has_end-runs_whole, KeepsRows-accounts_text, front-spellable, front-lawful, front-goes_on}
+use Rattle.cli_threads.proofs.RunRecords.{records-spellable, units_in-records, units_front-records_front, tiling-end}
 use Rattle.cli_threads.proofs.RunTurns.{front-in_turn, front-none_behind}
-use Rattle.cli_threads.proofs.RunPlaces.{tasks_of, each-numbered, taken-once, taken-numbered, taken-or_not}
+use Rattle.cli_threads.proofs.RunPlaces.{tasks_of, numbered-all, taken-once, taken-among_tasks, taken-or_not}
 
 module _ {D : Type 0} {K : Type 0} (g : Ghosts D) (h : SinkGhosts K) (opened : OpenedList) (jobs : NumberedJobs) (front : ℕ)
     (shares : List Share) (key : Start) (old new : Daemon D K g h) (view : View) (lsn : ℕ) (rows : List (ℕ × ℕ))
@@ -98,7 +98,7 @@ module _ {D : Type 0} {K : Type 0} (g : Ghosts D) (h : SinkGhosts K) (opened : O
 
   ledger : IsLedger base (later_of opened list) taken rows
   ledger =
-      let same = base-opened opened key known.log.lawful known.log.start known.log.accounts in
+      let same = base_of-base_left opened key known.log.lawful known.log.start known.log.accounts in
       subst (λ from. IsLedger from (later_of opened list) taken rows) same
       (subst (λ end. IsLedger (base_of key) (history_from end [] list) taken rows) known.log.start
       (subst (λ jobs. IsLedger (base_of key) (history_from key.start [] list) (map task_of jobs) rows) known.workers.taken
@@ -107,22 +107,22 @@ module _ {D : Type 0} {K : Type 0} (g : Ghosts D) (h : SinkGhosts K) (opened : O
   -- each account that was given back uncommitted went back with the balance of a front
   went-back : AllByRecursion (WentBack base (later_of opened list)) view.books.given
   went-back =
-      let same = base-opened opened key known.log.lawful known.log.start known.log.accounts in
+      let same = base_of-base_left opened key known.log.lawful known.log.start known.log.accounts in
       subst (λ from. AllByRecursion (WentBack from (later_of opened list)) view.books.given) same
       (subst (λ end. AllByRecursion (WentBack (base_of key) (history_from end [] list)) view.books.given) known.log.start
       (known.accounts.given once))
 
-  pub serial : IsPartlySerialAfter base (tasks_of jobs) (later_of opened list)
-  serial = partly_serial-more base taken (tasks_of jobs) (later_of opened list)
-      (taken-numbered jobs front shares known.workers.sharing)
-      (each-numbered _ jobs.first jobs.script (λ place inside. taken-or_not jobs front shares known.workers.sharing place))
+  pub transferred-partly_serial_after : IsPartlySerialAfter base (tasks_of jobs) (later_of opened list)
+  transferred-partly_serial_after = partly_serial-more base taken (tasks_of jobs) (later_of opened list)
+      (taken-among_tasks jobs front shares known.workers.sharing)
+      (numbered-all _ jobs.first jobs.script (λ place inside. taken-or_not jobs front shares known.workers.sharing place))
       ledger.serial
 
   lawful_after : IsLawful (as_opening base) (later_of opened list)
   lawful_after = ledger.lawful
 
-  pub kept : KeepsRows rows base (later_of opened list)
-  kept = ledger.accounts
+  pub transferred-keeps_rows : KeepsRows rows base (later_of opened list)
+  transferred-keeps_rows = ledger.accounts
 
   -- each worker's transfers come one behind another, in each front
   in_turn : (records rest : List Rec) → list ≡ records ++ rest → ComeInTurn jobs sharing (placed (with_records opened records))
@@ -152,22 +152,22 @@ module _ {D : Type 0} {K : Type 0} (g : Ghosts D) (h : SinkGhosts K) (opened : O
   start-view : view.constants.start ≡ list_end opened
   start-view = ap (λ (c : Constants). c.start) constants-view ∙ known.log.start
 
-  pub sends : SendsBy g h opened list old new
-  sends = by_later known.later
+  pub transferred-sends_by : SendsBy g h opened list old new
+  transferred-sends_by = by_later known.later
     where
       by_later : Later g h old new → SendsBy g h opened list old new
       by_later (inl same) = subst (SendsBy g h opened list old) (sym same)
-          (sends-still g h opened list old old known.log.stand known.fresh.made start-old)
+          (SendsBy-refl g h opened list old old known.log.stand known.fresh.made start-old)
       by_later (inr ran) =
           let sent : view.sending.sent ≡ units_of ran.more =
-          ap (λ (s : Sending). s.sent) known.sending ∙ sent-now g h opened list old new known.log.stand known.fresh.made start-old ran in
+          ap (λ (s : Sending). s.sent) known.sending ∙ Ran-sent_units g h opened list old new known.log.stand known.fresh.made start-old ran in
           let read : view.sending.read ≡ units_of ran.cut =
-          ap (λ (s : Sending). s.read) known.sending ∙ read-now g h opened list old new known.log.stand known.fresh.made start-old ran in
+          ap (λ (s : Sending). s.read) known.sending ∙ Ran-read_units g h opened list old new known.log.stand known.fresh.made start-old ran in
           let whole : units_of list ≡ units_of (ran.more ++ ran.cut) ++ known.gathered.unsent =
           sym list-units ∙ known.gathered.sent ∙ (λ i. (sent i ++ read i) ++ known.gathered.unsent)
           ∙ ap (λ l. l ++ known.gathered.unsent) (sym (units_of-append ran.more ran.cut)) in
-          let front = records-front list (ran.more ++ ran.cut) known.gathered.unsent list-spellable ran.spellable whole in
-          sends-ran g h opened list old new known.log.stand known.fresh.made start-old ran front.0 front.1
+          let front = units_front-records_front list (ran.more ++ ran.cut) known.gathered.unsent list-spellable ran.spellable whole in
+          Ran-sends_by g h opened list old new known.log.stand known.fresh.made start-old ran front.0 front.1
 
   -- ---- what each image holds
 
@@ -179,62 +179,62 @@ module _ {D : Type 0} {K : Type 0} (g : Ghosts D) (h : SinkGhosts K) (opened : O
     whole = splits;
     holds = record {
       list = record {
-        each = front-spellable opened list jobs known.log.lawful known.log.range known.log.some_accounts known.log.below spellable lawful_after serial
+        each = front-spellable opened list jobs known.log.lawful known.log.range known.log.some_accounts known.log.below spellable lawful_after transferred-partly_serial_after
             records rest splits;
         holds = held;
       };
-      lawful = front-lawful opened list jobs known.log.lawful known.log.range known.log.some_accounts known.log.below spellable lawful_after serial
+      lawful = front-lawful opened list jobs known.log.lawful known.log.range known.log.some_accounts known.log.below spellable lawful_after transferred-partly_serial_after
           records rest splits;
     };
-    goes_on = front-goes-on opened list jobs known.log.lawful known.log.range known.log.some_accounts known.log.below spellable lawful_after serial
+    goes_on = front-goes_on opened list jobs known.log.lawful known.log.range known.log.some_accounts known.log.below spellable lawful_after transferred-partly_serial_after
         records rest splits sharing (in_turn records rest splits) (none_behind records rest splits);
   }
 
-  pub keeps : RunKeepsLog g old.voice opened jobs sharing list (place_of old) key.ring old.flusher.disk.now new.flusher.disk.now
+  pub transferred-keeps_log : RunKeepsLog g old.voice opened jobs sharing list (place_of old) key.ring old.flusher.disk.now new.flusher.disk.now
       (h.held_bytes old.sink.now) (h.held_bytes new.sink.now)
-  keeps = record {
-    goes_on = goes-on opened list jobs known.log.lawful known.log.range known.log.some_accounts known.log.below spellable lawful_after serial
+  transferred-keeps_log = record {
+    goes_on = with_records-goes_on opened list jobs known.log.lawful known.log.range known.log.some_accounts known.log.below spellable lawful_after transferred-partly_serial_after
         sharing (in_turn list [] (sym (append-nil list))) (none_behind list [] (sym (append-nil list)));
     moments = λ honest. Leaves-weaken g.moment g.images_since (HoldsSome opened list) (HoldsRun opened jobs sharing list)
-        old.flusher.disk.now new.flusher.disk.now (λ bytes held. image-run held.0 held.1 held.2 bytes held.3) (sends.moments honest);
-    left = λ honest bytes image. ⊎_elim (left-first honest bytes) (left-both honest bytes) (sends.now honest bytes image);
+        old.flusher.disk.now new.flusher.disk.now (λ bytes held. image-run held.0 held.1 held.2 bytes held.3) (transferred-sends_by.moments honest);
+    left = λ honest bytes image. ⊎_elim (left-first honest bytes) (left-both honest bytes) (transferred-sends_by.now honest bytes image);
   }
     where
       IsLeftAs : List ℕ → Type 0
       IsLeftAs bytes = IsLeft g old.voice opened jobs sharing list (place_of old) key.ring old.flusher.disk.now new.flusher.disk.now
           (h.held_bytes old.sink.now) (h.held_bytes new.sink.now) bytes
 
-      left-first : g.honest old.flusher.disk.now → (bytes : List ℕ) → HoldsBoth opened sends.more bytes → IsLeftAs bytes
+      left-first : g.honest old.flusher.disk.now → (bytes : List ℕ) → HoldsBoth opened transferred-sends_by.more bytes → IsLeftAs bytes
       left-first honest bytes held = record {
-        run = image-run sends.more (sends.cut ++ sends.rest) (sends.splits ∙ append_assoc sends.more sends.cut sends.rest) bytes held;
-        text = sends.text;
-        count = sends.count honest;
-        grows = GrowsAtMostTo-more g (most_end (place_of old) (end_of sends.more) (ring_of old)) _ old.flusher.disk.now new.flusher.disk.now
-            (omega (arith, ring-is)) (sends.grows honest);
+        run = image-run transferred-sends_by.more (transferred-sends_by.cut ++ transferred-sends_by.rest) (transferred-sends_by.splits ∙ append_assoc transferred-sends_by.more transferred-sends_by.cut transferred-sends_by.rest) bytes held;
+        text = transferred-sends_by.text;
+        count = transferred-sends_by.count honest;
+        grows = GrowsAtMostTo-weaken g (most_end (place_of old) (end_of transferred-sends_by.more) (ring_of old)) _ old.flusher.disk.now new.flusher.disk.now
+            (omega (arith, ring-is)) (transferred-sends_by.grows honest);
       }
 
-      left-both : g.honest old.flusher.disk.now → (bytes : List ℕ) → HoldsBoth opened (sends.more ++ sends.cut) bytes → IsLeftAs bytes
+      left-both : g.honest old.flusher.disk.now → (bytes : List ℕ) → HoldsBoth opened (transferred-sends_by.more ++ transferred-sends_by.cut) bytes → IsLeftAs bytes
       left-both honest bytes held = record {
-        run = image-run (sends.more ++ sends.cut) sends.rest sends.splits bytes held;
-        text = AppendsPrefix-first (h.held_bytes old.sink.now) (h.held_bytes new.sink.now)
-            (text_of old.voice (list_end opened) (sends.more ++ sends.cut)) (text_of old.voice (list_end opened) sends.more)
-            (text_of old.voice (list_end opened + length (units_of sends.more)) sends.cut) sends.text
-            (text_of-append old.voice (list_end opened) sends.more sends.cut);
-        count = let long = length-append sends.more sends.cut in
-            Costs-more g _ _ _ _ old.flusher.disk.now new.flusher.disk.now (omega (arith, long)) (omega (arith, long)) (sends.count honest);
+        run = image-run (transferred-sends_by.more ++ transferred-sends_by.cut) transferred-sends_by.rest transferred-sends_by.splits bytes held;
+        text = AppendsPrefix-append (h.held_bytes old.sink.now) (h.held_bytes new.sink.now)
+            (text_of old.voice (list_end opened) (transferred-sends_by.more ++ transferred-sends_by.cut)) (text_of old.voice (list_end opened) transferred-sends_by.more)
+            (text_of old.voice (list_end opened + length (units_of transferred-sends_by.more)) transferred-sends_by.cut) transferred-sends_by.text
+            (text_of-append old.voice (list_end opened) transferred-sends_by.more transferred-sends_by.cut);
+        count = let long = length-append transferred-sends_by.more transferred-sends_by.cut in
+            Costs-weaken g _ _ _ _ old.flusher.disk.now new.flusher.disk.now (omega (arith, long)) (omega (arith, long)) (transferred-sends_by.count honest);
         grows =
-            let ends = end_of-append sends.more sends.cut in
-            GrowsAtMostTo-more g (most_end (place_of old) (end_of sends.more) (ring_of old)) _ old.flusher.disk.now new.flusher.disk.now
-            (omega (arith, ring-is, ends)) (sends.grows honest);
+            let ends = end_of-append transferred-sends_by.more transferred-sends_by.cut in
+            GrowsAtMostTo-weaken g (most_end (place_of old) (end_of transferred-sends_by.more) (ring_of old)) _ old.flusher.disk.now new.flusher.disk.now
+            (omega (arith, ring-is, ends)) (transferred-sends_by.grows honest);
       }
 
   -- ---- what befell the daemon
 
-  pub reason : HasReason g h old new
-  reason = Later-reason g h old new known.later known.fresh.fine
+  pub transferred-has_reason : HasReason g h old new
+  transferred-has_reason = Later-reason g h old new known.later known.fresh.fine
 
-  pub same : IsSameDaemon g old new
-  same = Later-same g h old new known.later
+  pub transferred-same_daemon : IsSameDaemon g old new
+  transferred-same_daemon = Later-same_daemon g h old new known.later
 
   -- ---- without a fault
 
@@ -250,7 +250,7 @@ module _ {D : Type 0} {K : Type 0} (g : Ghosts D) (h : SinkGhosts K) (opened : O
 
     list-more : (ran : Ran g h old new) → ran.more ≡ list
     list-more ran = list-is ran.more (all-split IsSpellable ran.more ran.cut ran.spellable).0
-        (ap (λ (s : Sending). s.sent) known.sending ∙ sent-now g h opened list old new known.log.stand known.fresh.made start-old ran)
+        (ap (λ (s : Sending). s.sent) known.sending ∙ Ran-sent_units g h opened list old new known.log.stand known.fresh.made start-old ran)
 
     sent-all : AreSentBy g h opened list old new
     sent-all = by_later known.later
@@ -258,13 +258,13 @@ module _ {D : Type 0} {K : Type 0} (g : Ghosts D) (h : SinkGhosts K) (opened : O
         by_later : Later g h old new → AreSentBy g h opened list old new
         by_later (inl same) = subst (AreSentBy g h opened list old) (sym same)
             (subst (λ (records : List Rec). AreSentBy g h opened records old old) (list-none same)
-            (sent-still g h opened list old old known.log.stand known.fresh.made start-old))
+            (AreSentBy-refl g h opened list old old known.log.stand known.fresh.made start-old))
         by_later (inr ran) = subst (λ (records : List Rec). AreSentBy g h opened records old new) (list-more ran)
-            (sent-ran g h opened list old new known.log.stand known.fresh.made start-old ran fine)
+            (Ran-are_sent_by g h opened list old new known.log.stand known.fresh.made start-old ran fine)
 
     -- and the end record of each was counted
-    pub tally-all : new.tally ≡ counted old.tally list
-    tally-all = by_later known.later
+    pub transferred-tally_counted : new.tally ≡ counted old.tally list
+    transferred-tally_counted = by_later known.later
       where
         counted-none : (tally : Tally) → tally ≡ counted tally []
         counted-none tally = λ i. record { done = sym (add-zero tally.done) i; refused = sym (add-zero tally.refused) i }
@@ -273,19 +273,19 @@ module _ {D : Type 0} {K : Type 0} (g : Ghosts D) (h : SinkGhosts K) (opened : O
         by_later (inl still) = ap (λ (d : Daemon D K g h). d.tally) still ∙ counted-none old.tally ∙ ap (counted old.tally) (list-none still)
         by_later (inr ran) = ran.tallied (λ failed. none≢some WriteFault (sym fine ∙ failed)) ∙ ap (counted old.tally) (list-more ran)
 
-    pub drained : RunIsDrained g old.voice opened list (place_of old) key.ring old.flusher.disk.now new.flusher.disk.now
+    pub transferred-drained : RunIsDrained g old.voice opened list (place_of old) key.ring old.flusher.disk.now new.flusher.disk.now
         (h.held_bytes old.sink.now) (h.held_bytes new.sink.now) lsn rows
-    drained = record {
+    transferred-drained = record {
       images = λ honest bytes image. record {
         list = record { each = spellable; holds = sent-all.now honest bytes image };
-        lawful = whole-lawful opened list jobs known.log.lawful known.log.range known.log.some_accounts known.log.below spellable lawful_after serial;
+        lawful = with_records-lawful opened list jobs known.log.lawful known.log.range known.log.some_accounts known.log.below spellable lawful_after transferred-partly_serial_after;
       };
       text = sent-all.text;
       end = end;
-      accounts = text-shown opened list jobs known.log.lawful known.log.range known.log.some_accounts known.log.below spellable lawful_after serial lsn rows
+      accounts = KeepsRows-accounts_text opened list jobs known.log.lawful known.log.range known.log.some_accounts known.log.below spellable lawful_after transferred-partly_serial_after lsn rows
           end ledger.accounts;
       count = sent-all.count;
-      grows = λ honest. GrowsAtMostTo-more g (most_end (place_of old) (end_of list) (ring_of old)) _ old.flusher.disk.now
+      grows = λ honest. GrowsAtMostTo-weaken g (most_end (place_of old) (end_of list) (ring_of old)) _ old.flusher.disk.now
           new.flusher.disk.now (omega (arith, ring-is)) (sent-all.grows honest);
     }
       where
@@ -295,32 +295,32 @@ module _ {D : Type 0} {K : Type 0} (g : Ghosts D) (h : SinkGhosts K) (opened : O
             omega (arith, tiles, start-view, list_end-more opened list)
 
     stop-none : view.sending.stop ≡ 0
-    stop-none = ap (λ (s : Sending). s.stop) known.sending ∙ subst (StopTells old new) fine reason.stop ∙ known.fresh.stop
+    stop-none = ap (λ (s : Sending). s.stop) known.sending ∙ subst (StopTells old new) fine transferred-has_reason.stop ∙ known.fresh.stop
 
     had : AllByRecursion (λ (given : Given). given.committed ≡ false → HadBalance (with_records opened list) given.tail given.account given.balance)
         view.books.given
-    had = all-weaker (WentBack base (later_of opened list)) _ view.books.given (had-balance opened list known.log.lawful known.log.some_accounts lawful_after
-        (apart opened list jobs known.log.lawful known.log.range known.log.some_accounts known.log.below spellable lawful_after serial)) went-back
+    had = all-weaken (WentBack base (later_of opened list)) _ view.books.given (WentBack-had_balance opened list known.log.lawful known.log.some_accounts lawful_after
+        (later-shares_no_transaction opened list jobs known.log.lawful known.log.range known.log.some_accounts known.log.below spellable lawful_after transferred-partly_serial_after)) went-back
 
-    pub stops-at-end : (worker : ℕ) (taken : List ℕ) (tail total : ℕ)
+    pub transferred-stops_at_log_end : (worker : ℕ) (taken : List ℕ) (tail total : ℕ)
         → get_elem? shares worker ≡ some (record { taken = taken; worked = Cut (LogEnd tail total) })
         → StopsAtLogEnd opened jobs sharing list key.ring key.slots tail total
-    stops-at-end worker taken tail total at =
+    transferred-stops_at_log_end worker taken tail total at =
         subst (λ (c : Constants). StopsAtLogEnd opened jobs sharing list c.ring c.slots tail total) constants-view
-        (stops opened jobs view known.log.below front shares known.workers had known.heard lsn known.gathered start-view
+        (log_end_cut-stops_at_log_end opened jobs view known.log.below front shares known.workers had known.heard lsn known.gathered start-view
         stop-none worker tail total (record { taken = taken; worked = Cut (LogEnd tail total) }) at refl)
 
-    pub never-stops : (worker : ℕ) (taken : List ℕ) (word : ℕ)
+    pub transferred-no_stop_cut : (worker : ℕ) (taken : List ℕ) (word : ℕ)
         → get_elem? shares worker ≡ some (record { taken = taken; worked = Cut (Stop word) }) → ⊥
-    never-stops worker taken word at =
-        no-stop opened jobs view known.log.below front shares known.workers stop-none worker word
+    transferred-no_stop_cut worker taken word at =
+        no_stop_word-no_stop_cut opened jobs view known.log.below front shares known.workers stop-none worker word
         (record { taken = taken; worked = Cut (Stop word) }) at refl
 
-  pub whole_after : AllByRecursion (λ (share : Share). share.worked ≡ All) shares
+  pub transferred-serial_after : AllByRecursion (λ (share : Share). share.worked ≡ All) shares
       → IsSerialAfter base (tasks_of jobs) (later_of opened list)
-  whole_after all = partly-serial base (tasks_of jobs) (later_of opened list)
-      (all-ended opened jobs view known.log.below front shares known.workers all) serial
+  transferred-serial_after all = partly_serial-all_ended_serial base (tasks_of jobs) (later_of opened list)
+      (worked_all-has_end opened jobs view known.log.below front shares known.workers all) transferred-partly_serial_after
 
-  pub whole : AllByRecursion (λ (share : Share). share.worked ≡ All) shares → RunsWhole opened jobs list
-  whole all = runs-whole opened list jobs known.log.lawful known.log.range known.log.some_accounts known.log.below spellable lawful_after serial
-      (all-ended opened jobs view known.log.below front shares known.workers all)
+  pub transferred-runs_whole : AllByRecursion (λ (share : Share). share.worked ≡ All) shares → RunsWhole opened jobs list
+  transferred-runs_whole all = has_end-runs_whole opened list jobs known.log.lawful known.log.range known.log.some_accounts known.log.below spellable lawful_after transferred-partly_serial_after
+      (worked_all-has_end opened jobs view known.log.below front shares known.workers all)

@@ -14,11 +14,11 @@ use Rattle.lock_core.proofs.ListLemmas.{all-append}
 use Rattle.log_rule.specs.declared.view.TakenJob.{TakenJob}
 use Rattle.log_rule.specs.Books.{task_of, times_taken}
 use Rattle.job_queue.specs.Takings.{same, times}
-use Rattle.job_queue.proofs.Counting.{same-refl, once-most, once-some, times-append}
+use Rattle.job_queue.proofs.Counting.{same-refl, once_below-le_one, once_below-positive_less, times-append}
 use Rattle.txn_runner.specs.Places.{NumberedJobs, number_at, taken_at, jobs_taken}
 use Rattle.cli_threads.specs.Shares.{Share, all_taken, sharing_of}
 use Rattle.cli_threads.specs.Sharing.{IsSharedOut}
-use Rattle.cli_threads.proofs.PlaceTimes.{same-is, same-other, once-inside}
+use Rattle.cli_threads.proofs.PlaceTimes.{same-equal, same-unequal, once_below-inside}
 
 -- the places that these workers took
 abbrev pub places_taken : List Share → List ℕ
@@ -52,11 +52,11 @@ module _ (jobs : NumberedJobs) (x : ℕ) where
       (λ is.
       let here : cond {A = ℕ} (number_at jobs place == number_at jobs x) 1 0 ≡ 1 =
       ap (λ b. cond {A = ℕ} b 1 0) (eq-eqb (number_at jobs place) (number_at jobs x) (ap (number_at jobs) (sym is))) in
-      omega (arith, here, same-is x place is))
+      omega (arith, here, same-equal x place is))
       (λ other.
       let here : cond {A = ℕ} (number_at jobs place == number_at jobs x) 1 0 ≡ 0 =
       ap (λ b. cond {A = ℕ} b 1 0) (ne_eqb (number_at jobs place) (number_at jobs x) (λ is. other (omega (arith, is)))) in
-      omega (arith, here, same-other x place other))
+      omega (arith, here, same-unequal x place other))
 
   times_taken-places : (places : List ℕ) → times_taken (number_at jobs x) (jobs_taken jobs places) ≡ times x places
   times_taken-places [] = refl
@@ -75,12 +75,12 @@ module _ (jobs : NumberedJobs) (x : ℕ) where
 
 module _ (P : NumberedTransfer → Type 0) where
   -- what holds of the job at each place
-  pub each-numbered : (first : ℕ) (script : List Job) → ((place : ℕ) → place < length script → P (task_at first script place))
+  pub numbered-all : (first : ℕ) (script : List Job) → ((place : ℕ) → place < length script → P (task_at first script place))
       → AllByRecursion P (numbered first (map transfer_of script))
-  each-numbered first [] each = tt
-  each-numbered first (job ∷ script) each = (
+  numbered-all first [] each = tt
+  numbered-all first (job ∷ script) each = (
     subst (λ n. P (record { number = n; job = transfer_of job })) (omega arith) (each 0 (omega arith)),
-    each-numbered (first + 1) script (λ place inside. subst (λ n. P (record { number = n; job = (task_at first script place).job }))
+    numbered-all (first + 1) script (λ place inside. subst (λ n. P (record { number = n; job = (task_at first script place).job }))
         (omega arith) (each (suc place) (omega arith))),
   )
 
@@ -97,23 +97,23 @@ module _ (P : NumberedTransfer → Type 0) where
       (each place (omega (arith, same-refl place)), tt)
 
   -- what holds of the job at each place that was taken
-  pub each-taken : (jobs : NumberedJobs) (shares : List Share)
+  pub all_taken-all : (jobs : NumberedJobs) (shares : List Share)
       → ((place : ℕ) → 1 ≤ times place (places_taken shares) → P (task_of (taken_at jobs place)))
       → AllByRecursion P (map task_of (all_taken jobs shares))
-  each-taken jobs [] each = tt
-  each-taken jobs (share ∷ shares) each = all-joined (jobs_taken jobs share.taken) (all_taken jobs shares)
+  all_taken-all jobs [] each = tt
+  all_taken-all jobs (share ∷ shares) each = all-joined (jobs_taken jobs share.taken) (all_taken jobs shares)
       (each-place jobs share.taken (λ place has. each place (omega (arith, has, times-append place share.taken (places_taken shares)))))
-      (each-taken jobs shares (λ place has. each place (omega (arith, has, times-append place share.taken (places_taken shares)))))
+      (all_taken-all jobs shares (λ place has. each place (omega (arith, has, times-append place share.taken (places_taken shares)))))
 
-pub numbered-has : (first : ℕ) (script : List Job) (place : ℕ) → place < length script
+pub numbered-contains_task_at : (first : ℕ) (script : List Job) (place : ℕ) → place < length script
     → Contains (numbered first (map transfer_of script)) (task_at first script place)
-numbered-has first [] place inside = absurd (omega arith)
-numbered-has first (job ∷ script) zero inside = (0, omega arith, ap (λ n. record { number = n; job = transfer_of job }) (omega arith))
-numbered-has first (job ∷ script) (suc place) inside =
+numbered-contains_task_at first [] place inside = absurd (omega arith)
+numbered-contains_task_at first (job ∷ script) zero inside = (0, omega arith, ap (λ n. record { number = n; job = transfer_of job }) (omega arith))
+numbered-contains_task_at first (job ∷ script) (suc place) inside =
     let tasks : List NumberedTransfer = numbered (first + 1) (map transfer_of script) in
     Contains-append_right (record { number = first; job = transfer_of job } ∷ []) tasks (task_at first (job ∷ script) (suc place))
     (subst (λ n. Contains tasks (record { number = n; job = (task_at first script place).job })) (omega arith)
-    (numbered-has (first + 1) script place (omega arith)))
+    (numbered-contains_task_at (first + 1) script place (omega arith)))
 
 module _ (jobs : NumberedJobs) (place : ℕ) where
   abbrev own_task : NumberedTransfer
@@ -133,7 +133,7 @@ module _ (jobs : NumberedJobs) (place : ℕ) where
   place-has (first ∷ places) has = dite (ℕ_discrete place first)
       (λ is. has-second (jobs_taken jobs places) (taken_at jobs first ∷ []) (0, omega arith, ap (λ p. task_of (taken_at jobs p)) (sym is)))
       (λ other. has-first (jobs_taken jobs places) (taken_at jobs first ∷ [])
-      (place-has places (omega (arith, has, same-other place first other))))
+      (place-has places (omega (arith, has, same-unequal place first other))))
 
   -- the job at a place that was taken is among those taken
   taken-has : (shares : List Share) → 1 ≤ times place (places_taken shares) → Contains (map task_of (all_taken jobs shares)) own_task
@@ -155,36 +155,36 @@ module _ (jobs : NumberedJobs) (front : ℕ) (shares : List Share) (shared : IsS
   taken = map task_of (all_taken jobs shares)
 
   -- the places that were taken are those of the front
-  pub taken-front : (place : ℕ) → place < front → 1 ≤ times place (places_taken shares)
-  taken-front place inside = omega (arith, shared.once place, once-inside place front inside)
+  pub inside_front-taken : (place : ℕ) → place < front → 1 ≤ times place (places_taken shares)
+  inside_front-taken place inside = omega (arith, shared.once place, once_below-inside place front inside)
 
-  pub taken-inside : (place : ℕ) → 1 ≤ times place (places_taken shares) → place < front
-  taken-inside place has = once-some place front (omega (arith, has, shared.once place))
+  pub taken-inside_front : (place : ℕ) → 1 ≤ times place (places_taken shares) → place < front
+  taken-inside_front place has = once_below-positive_less place front (omega (arith, has, shared.once place))
 
   -- no number was taken twice
   pub taken-once : (n : ℕ) → times_taken n (all_taken jobs shares) ≤ 1
   taken-once n = dite (dec_lt n jobs.first)
       (λ low.
-      let none = times_taken-none n (all_taken jobs shares) (each-taken (λ (task : NumberedTransfer). task.number ≢ n) jobs shares
+      let none = times_taken-none n (all_taken jobs shares) (all_taken-all (λ (task : NumberedTransfer). task.number ≢ n) jobs shares
       (λ place has is. omega (arith, low, is))) in omega (arith, none))
       (λ high. subst (λ m. times_taken m (all_taken jobs shares) ≤ 1) (omega (arith, high)) (at-place (n - jobs.first)))
     where
       at-place : (place : ℕ) → times_taken (number_at jobs place) (all_taken jobs shares) ≤ 1
-      at-place place = omega (arith, times_taken-shares jobs place shares, shared.once place, once-most place front)
+      at-place place = omega (arith, times_taken-shares jobs place shares, shared.once place, once_below-le_one place front)
 
   -- a job behind the front has another number than each that was taken
-  pub not_taken : (place : ℕ) → front ≤ place → AllByRecursion (λ (task : NumberedTransfer). task.number ≢ number_at jobs place) taken
-  not_taken place behind = each-taken (λ (task : NumberedTransfer). task.number ≢ number_at jobs place) jobs shares
-      (λ other has is. omega (arith, behind, is, taken-inside other has))
+  pub behind_front-not_taken : (place : ℕ) → front ≤ place → AllByRecursion (λ (task : NumberedTransfer). task.number ≢ number_at jobs place) taken
+  behind_front-not_taken place behind = all_taken-all (λ (task : NumberedTransfer). task.number ≢ number_at jobs place) jobs shares
+      (λ other has is. omega (arith, behind, is, taken-inside_front other has))
 
   -- each job of the script was taken, or has a number of its own
   pub taken-or_not : (place : ℕ)
       → Contains taken (task_at jobs.first jobs.script place) ⊎ AllByRecursion (λ (task : NumberedTransfer). task.number ≢ jobs.first + place) taken
   taken-or_not place = dite (dec_lt place front)
-      (λ inside. inl (taken-has jobs place shares (taken-front place inside)))
-      (λ behind. inr (not_taken place (omega (arith, behind))))
+      (λ inside. inl (taken-has jobs place shares (inside_front-taken place inside)))
+      (λ behind. inr (behind_front-not_taken place (omega (arith, behind))))
 
   -- each job that was taken is one of the script
-  pub taken-numbered : AllByRecursion (Contains (tasks_of jobs)) taken
-  taken-numbered = each-taken (Contains (tasks_of jobs)) jobs shares
-      (λ place has. numbered-has jobs.first jobs.script place (omega (arith, taken-inside place has, shared.within)))
+  pub taken-among_tasks : AllByRecursion (Contains (tasks_of jobs)) taken
+  taken-among_tasks = all_taken-all (Contains (tasks_of jobs)) jobs shares
+      (λ place has. numbered-contains_task_at jobs.first jobs.script place (omega (arith, taken-inside_front place has, shared.within)))

@@ -9,7 +9,7 @@ use Rattle.log_record.proofs.SpellingLemmas.{spelling-append-injective}
 use Rattle.log_rule.specs.declared.view.Entry.{Entry}
 use Rattle.log_rule.specs.ClosedLog.{records_of}
 use Rattle.log_rule.specs.Log.{IsFull, IsSpelled, units_in}
-use Rattle.commit_pipeline.proofs.ToldLemmas.{size_of-some}
+use Rattle.commit_pipeline.proofs.ToldLemmas.{size_of-positive}
 
 -- the entries' records are spellable, and their units are those of the records
 pub records-spellable : (entries : List Entry) → AllByRecursion IsSpelled entries → AllByRecursion IsSpellable (records_of entries)
@@ -21,16 +21,16 @@ units_in-records [] spelled = refl
 units_in-records (entry ∷ entries) spelled = λ i. spelled.0.units i ++ units_in-records entries spelled.1 i
 
 -- records that begin units that are records begin these
-pub records-front : (all front : List Rec) (more : List ℕ) → AllByRecursion IsSpellable all → AllByRecursion IsSpellable front
+pub units_front-records_front : (all front : List Rec) (more : List ℕ) → AllByRecursion IsSpellable all → AllByRecursion IsSpellable front
     → units_of all ≡ units_of front ++ more → (rest : List Rec) × (all ≡ front ++ rest)
-records-front all [] more each each' whole = (all, refl)
-records-front [] (rec ∷ front) more each each' whole =
+units_front-records_front all [] more each each' whole = (all, refl)
+units_front-records_front [] (rec ∷ front) more each each' whole =
     let long = length-append (spelling rec) (units_of front) in
-    absurd (omega (arith, ap length whole, size_of-some rec, length-append (spelling rec ++ units_of front) more, long))
-records-front (first ∷ all) (rec ∷ front) more each each' whole =
+    absurd (omega (arith, ap length whole, size_of-positive rec, length-append (spelling rec ++ units_of front) more, long))
+units_front-records_front (first ∷ all) (rec ∷ front) more each each' whole =
     let parts = spelling-append-injective first rec (units_of all) (units_of front ++ more) each.0 each'.0
     (whole ∙ append_assoc (spelling rec) (units_of front) more) in
-    let rest = records-front all front more each.1 each'.1 parts.1 in
+    let rest = units_front-records_front all front more each.1 each'.1 parts.1 in
     (rest.0, λ i. parts.0 i ∷ rest.1 i)
 
 -- each entry is as long as its record

@@ -12,9 +12,9 @@ use Rattle.lock_core.specs.Records.{txn_of}
 use Rattle.lock_core.specs.Serial.{HasNoOthers}
 use Rattle.lock_core.specs.Sums.{greatest_txn}
 use Rattle.lock_core.specs.Transactions.{of_transaction, recs_of, own_records_of, has_end}
-use Rattle.lock_core.proofs.Apart.{of_transaction-older}
+use Rattle.lock_core.proofs.Apart.{of_transaction-front_none}
 use Rattle.lock_core.proofs.ListLemmas.{all-split}
-use Rattle.lock_core.proofs.NextRecords.{has_end-own}
+use Rattle.lock_core.proofs.NextRecords.{contains_end-has_end}
 use Rattle.log_recovery.specs.Opened.{OpenedList, list_end, placed, with_records, opening_left}
 use Rattle.log_rule.specs.declared.view.Entry.{Entry}
 use Rattle.log_rule.specs.declared.view.View.{View}
@@ -29,10 +29,10 @@ use Rattle.txn_runner.proofs.EntryLemmas.{LieInOrder-starts}
 use Rattle.cli_threads.specs.Run.{ComeInTurn, HasNoneBehind}
 use Rattle.cli_threads.specs.Shares.{Share, CameTo, HasShare, all_taken, sharing_of, HasGathered}
 use Rattle.cli_threads.specs.Sharing.{Sharing}
-use Rattle.cli_threads.proofs.GatheredShares.{sized}
-use Rattle.cli_threads.proofs.RunEnds.{contains-record}
-use Rattle.cli_threads.proofs.RunHistory.{later_of, later-append, history-own, history-others}
-use Rattle.cli_threads.proofs.RunPlaces.{not_taken}
+use Rattle.cli_threads.proofs.GatheredShares.{full_entries-positive_size}
+use Rattle.cli_threads.proofs.RunEnds.{contains-records_of}
+use Rattle.cli_threads.proofs.RunHistory.{later_of, later-append, own_records_of-later, of_transaction-pushed_others}
+use Rattle.cli_threads.proofs.RunPlaces.{behind_front-not_taken}
 
 -- the last of places that rise is above those before it
 rises-last : (made : List ℕ) (place : ℕ) → Rises (made ++ place ∷ []) → AllByRecursion (λ before. before < place) made
@@ -141,18 +141,18 @@ module _ (opened : OpenedList) (jobs : NumberedJobs) (view : View) (below : (ope
     -- a transfer behind those that were taken has no record
     pub front-none_behind : HasNoneBehind jobs sharing (placed (with_records opened records))
     front-none_behind place behind =
-        history-own opened records (number_at jobs place) (number-high place)
-        ∙ ap recs_of (of_transaction-older (number_at jobs place) (later-append opened records rest).0 (later_of opened records)
+        own_records_of-later opened records (number_at jobs place) (number-high place)
+        ∙ ap recs_of (of_transaction-front_none (number_at jobs place) (later-append opened records rest).0 (later_of opened records)
         (ap (of_transaction (number_at jobs place)) (sym (later-append opened records rest).1)
         ∙ ap (λ l. of_transaction (number_at jobs place) (later_of opened l)) (sym splits)
-        ∙ others (number_at jobs place) (not_taken jobs front shares gathered.sharing place behind)))
+        ∙ others (number_at jobs place) (behind_front-not_taken jobs front shares gathered.sharing place behind)))
 
     -- a transfer with a record has an entry there
     has-entry : (place : ℕ) → own_records_of (number_at jobs place) (placed (with_records opened records)) ≢ []
         → (entry : Entry) × Contains parts.first entry × (txn_of entry.rec ≡ number_at jobs place)
     has-entry place recorded = ⊎_elim (λ found. found)
-        (λ none. absurd (recorded (history-own opened records n (number-high place)
-        ∙ ap recs_of (history-others n (list_end opened) [] records
+        (λ none. absurd (recorded (own_records_of-later opened records n (number-high place)
+        ∙ ap recs_of (of_transaction-pushed_others n (list_end opened) [] records
         (subst (AllByRecursion (λ (rec : Rec). txn_of rec ≢ n)) parts.records none) refl))))
         (one-of n parts.first)
       where
@@ -174,7 +174,7 @@ module _ (opened : OpenedList) (jobs : NumberedJobs) (view : View) (below : (ope
               (subst (LieInOrder view.constants.start lsn) parts.whole
               (tiling-in_order view.constants.start lsn view.entries whole.tiles)) other entry before later,
           All-contains (λ (e : Entry). 1 ≤ e.size) view.entries entry
-              (All-from_recursion _ view.entries (sized view.entries whole.full whole.spelled)) has,
+              (All-from_recursion _ view.entries (full_entries-positive_size view.entries whole.full whole.spelled)) has,
         ))
 
     pub front-in_turn : ComeInTurn jobs sharing (placed (with_records opened records))
@@ -189,7 +189,7 @@ module _ (opened : OpenedList) (jobs : NumberedJobs) (view : View) (below : (ope
         let before = share.in_turn i j ended.end entry.0 less first second ended.contains
         (subst (λ l. Contains l entry.0) (sym parts.whole) (Contains-append_left parts.first parts.others entry.0 entry.1))
         ended.number_is entry.2 in
-        ap has_end (history-own opened records (number_at jobs i) (number-high i))
-        ∙ has_end-own (number_at jobs i) (list_end opened) records ended.end.rec
-        (subst (λ l. Contains l ended.end.rec) parts.records (contains-record parts.first ended.end
+        ap has_end (own_records_of-later opened records (number_at jobs i) (number-high i))
+        ∙ contains_end-has_end (number_at jobs i) (list_end opened) records ended.end.rec
+        (subst (λ l. Contains l ended.end.rec) parts.records (contains-records_of parts.first ended.end
         (in-front ended.end entry.0 ended.contains entry.1 before))) ended.number_is ended.is_end

@@ -21,9 +21,9 @@ use Rattle.cli_threads.specs.Gathering.{worked_of}
 use Rattle.cli_threads.specs.Workers.{HasServed, IsDone}
 
 -- what is known of a worker that is done
-pub served : (table : LogTable) (queue : Queue) (wait : Bool) (worker : Worker) → IsDone table queue wait worker
+pub IsDone-has_served : (table : LogTable) (queue : Queue) (wait : Bool) (worker : Worker) → IsDone table queue wait worker
     → HasServed table queue wait worker (worked_of worker)
-served table queue wait worker done = by_case worker.worked done
+IsDone-has_served table queue wait worker done = by_case worker.worked done
   where
     by_case : (worked : Option Worked) → IsSomeAnd worked (HasServed table queue wait worker)
         → HasServed table queue wait worker (unwrap_or worked All)
@@ -32,18 +32,18 @@ served table queue wait worker done = by_case worker.worked done
 
 -- a seat that left is of the table that it was of
 module _ (old new : Seat) (left : Becomes old new (retired (view_of old))) where
-  pub view-left : view_of new ≡ retired (view_of old)
-  view-left = ap (λ me. me.0) left.me
+  pub left-view_retired : view_of new ≡ retired (view_of old)
+  left-view_retired = ap (λ me. me.0) left.me
 
-  pub ended-left : (view_of new).standing.role ≡ Ended
-  ended-left = ap (λ (view : View). view.standing.role) view-left
+  pub left-role_ended : (view_of new).standing.role ≡ Ended
+  left-role_ended = ap (λ (view : View). view.standing.role) left-view_retired
 
   pub IsOf-left : (table : LogTable) → IsOf table old → IsOf table new
   IsOf-left table of = record {
     table_is = left.table_is ∙ of.table_is;
     no_slots = ap (λ me. me.1) left.me ∙ of.no_slots;
-    ring = ap (λ (view : View). view.constants.ring) view-left ∙ of.ring;
-    slots = ap (λ (view : View). view.constants.slots) view-left ∙ of.slots;
+    ring = ap (λ (view : View). view.constants.ring) left-view_retired ∙ of.ring;
+    slots = ap (λ (view : View). view.constants.slots) left-view_retired ∙ of.slots;
   }
 
 module _ (jobs : NumberedJobs) where

@@ -5,7 +5,7 @@ use Rattle.std.proofs.lemmas.Bool.{cases_lt}
 use Rattle.std.proofs.lemmas.List.{length-map}
 use mathlib.Core.Option.{some, some-injective, some-ne-none}
 use lib.ListN.{get_elem?}
-use Rattle.lsn_space.proofs.TilingLemmas.{all-weaker}
+use Rattle.lsn_space.proofs.TilingLemmas.{all-weaken}
 use Rattle.log_table.specs.declared.table.LogTable.{LogTable}
 use Rattle.txn_jobs.specs.declared.cause.Worked.{Worked}
 use Rattle.txn_jobs.specs.declared.cause.Worked.TheVariants.{All}
@@ -14,7 +14,7 @@ use Rattle.job_queue.specs.declared.queue.Queue.{Queue}
 use Rattle.job_queue.specs.Takings.{times, once_below, ArePlaces, AreMarks}
 use Rattle.job_queue.specs.declared.jobs.Jobs.{Jobs}
 use Rattle.job_queue.specs.Passes.{AreAllTaken, HasFirstPass, IsSameQueue, marks_back, places_back}
-use Rattle.job_queue.proofs.Counting.{once-most, times-append}
+use Rattle.job_queue.proofs.Counting.{once_below-le_one, times-append}
 use Rattle.txn_runner.specs.Working.{EndsByMark, jobs_of, marks_in, places_in}
 use Rattle.cli_workers.specs.declared.workers.Worker.{Worker}
 use Rattle.cli_workers.specs.Workers.{Numbered}
@@ -22,14 +22,14 @@ use Rattle.cli_threads.specs.Gathering.{AreFront, all_marks, all_places, share_o
 use Rattle.cli_threads.specs.Shares.{Share, sharing_of}
 use Rattle.cli_threads.specs.Sharing.{IsSharedOut}
 use Rattle.cli_threads.specs.Workers.{IsDoneAs}
-use Rattle.cli_threads.proofs.PlaceTimes.{once-inside, once-behind, same-other, times-contains}
-use Rattle.cli_threads.proofs.ServedLemmas.{served}
+use Rattle.cli_threads.proofs.PlaceTimes.{once_below-inside, once_below-behind, same-unequal, contains-times_positive}
+use Rattle.cli_threads.proofs.ServedLemmas.{IsDone-has_served}
 
 -- ---- lists of places
 
 times-none : (x : ℕ) (list : List ℕ) → AllByRecursion (λ y. x ≢ y) list → times x list ≡ 0
 times-none x [] others = refl
-times-none x (y ∷ ys) others = omega (arith, same-other x y others.0, times-none x ys others.1)
+times-none x (y ∷ ys) others = omega (arith, same-unequal x y others.0, times-none x ys others.1)
 
 -- the places of two workers are other ones
 abbrev pub Apart : List ℕ → List ℕ → Type 0
@@ -44,12 +44,12 @@ once-apart xs ys once place one two = absurd (omega (
   arith,
   once place,
   times-append place xs ys,
-  times-contains place xs one,
-  times-contains place ys two,
+  contains-times_positive place xs one,
+  contains-times_positive place ys two,
 ))
 
-pub once-second : (xs ys : List ℕ) → AreOnce (xs ++ ys) → AreOnce ys
-once-second xs ys once x = omega (arith, once x, times-append x xs ys)
+pub once-append_second : (xs ys : List ℕ) → AreOnce (xs ++ ys) → AreOnce ys
+once-append_second xs ys once x = omega (arith, once x, times-append x xs ys)
 
 -- ---- the front of the script that was taken
 
@@ -60,13 +60,13 @@ module _ (count : ℕ) (places marks : List ℕ) (are : ArePlaces count places) 
   below x less = omega (
     arith,
     taken.once x,
-    times-none x marks (all-weaker (λ mark. count ≤ mark) (λ mark. x ≢ mark) marks
+    times-none x marks (all-weaken (λ mark. count ≤ mark) (λ mark. x ≢ mark) marks
         (λ mark from is. absurd (omega (arith, less, from, is))) behind),
   )
 
   -- and from there on none
   none : (x : ℕ) → count ≤ x → times x places ≡ 0
-  none x more = times-none x places (all-weaker (λ place. place < count) (λ place. x ≢ place) places
+  none x more = times-none x places (all-weaken (λ place. place < count) (λ place. x ≢ place) places
       (λ place less is. absurd (omega (arith, less, more, is))) are)
 
   -- all that were taken, where that is no more than there are
@@ -75,18 +75,18 @@ module _ (count : ℕ) (places marks : List ℕ) (are : ArePlaces count places) 
     where
       by_order : (x < count) ⊎ (count ≤ x) → times x places ≡ once_below x taken.next
       by_order (inl less) = below x less
-      by_order (inr more) = none x more ∙ sym (once-behind x taken.next (omega (arith, least, more)))
+      by_order (inr more) = none x more ∙ sym (once_below-behind x taken.next (omega (arith, least, more)))
 
   -- and else all that there are
   whole : count < taken.next → (x : ℕ) → times x places ≡ once_below x count
   whole greater x = by_order (cases_lt x count)
     where
       by_order : (x < count) ⊎ (count ≤ x) → times x places ≡ once_below x count
-      by_order (inl less) = below x less ∙ (once-inside x taken.next (omega (arith, less, greater)) ∙ sym (once-inside x count less))
-      by_order (inr more) = none x more ∙ sym (once-behind x count more)
+      by_order (inl less) = below x less ∙ (once_below-inside x taken.next (omega (arith, less, greater)) ∙ sym (once_below-inside x count less))
+      by_order (inr more) = none x more ∙ sym (once_below-behind x count more)
 
-  pub front-taken : AreFront count places marks
-  front-taken = by_order (cases_lt count taken.next)
+  pub AreAllTaken-are_front : AreFront count places marks
+  AreAllTaken-are_front = by_order (cases_lt count taken.next)
     where
       by_order : (count < taken.next) ⊎ (taken.next ≤ count) → AreFront count places marks
       by_order (inl greater) = record { front = count; within = omega arith; once = whole greater; all = λ some'. refl }
@@ -99,19 +99,19 @@ module _ (count : ℕ) (places marks : List ℕ) (are : ArePlaces count places) 
 
 -- no place of the front was taken twice
 pub front-once : (count : ℕ) (places marks : List ℕ) (front : AreFront count places marks) → AreOnce places
-front-once count places marks front x = omega (arith, front.once x, once-most x front.front)
+front-once count places marks front x = omega (arith, front.once x, once_below-le_one x front.front)
 
 -- So it is with what was given back to the first pass, which had nothing back before, once it learned what all took.
-pub front-back : (first back last : Jobs) (places marks : List ℕ) → (places_back first ≡ []) × (marks_back first ≡ [])
+pub places_back-are_front : (first back last : Jobs) (places marks : List ℕ) → (places_back first ≡ []) × (marks_back first ≡ [])
     → IsSameQueue first back → places_back back ≡ places_back first ++ places → marks_back back ≡ marks_back first ++ marks
     → HasFirstPass last → IsSameQueue back last → (places_back last ≡ places_back back) × (marks_back last ≡ marks_back back)
     → AreAllTaken (length last.queue.script) (places_back last) (marks_back last) → AreFront (length first.queue.script) places marks
-front-back first back last places marks none same gave marked has still kept all =
+places_back-are_front first back last places marks none same gave marked has still kept all =
     let count = length last.queue.script in
     let places_are : places_back last ≡ places = kept.0 ∙ (gave ∙ ap (λ l. l ++ places) none.0) in
     let marks_are : marks_back last ≡ marks = kept.1 ∙ (marked ∙ ap (λ l. l ++ marks) none.1) in
     subst (λ n. AreFront n places marks) (ap (λ (queue : Queue). length queue.script) (still.queue ∙ same.queue))
-    (front-taken count places marks (subst (ArePlaces count) places_are has.knows.places) (subst (AreMarks count) marks_are has.knows.marks)
+    (AreAllTaken-are_front count places marks (subst (ArePlaces count) places_are has.knows.places) (subst (AreMarks count) marks_are has.knows.marks)
     (subst (λ l. AreAllTaken count l marks) places_are (subst (AreAllTaken count (places_back last)) marks_are all)))
 
 -- ---- the workers' shares
@@ -126,7 +126,7 @@ module _ (table : LogTable) (queue : Queue) (wait : Bool) where
       → AllByRecursion Rises (map (λ (share : Share). share.taken) (map share_of workers))
   shared-rise number [] done = tt
   shared-rise number (worker ∷ workers) done =
-      ((served table queue wait worker done.0.1).has.rising, shared-rise (number + 1) workers done.1)
+      ((IsDone-has_served table queue wait worker done.0.1).has.rising, shared-rise (number + 1) workers done.1)
 
   marked : (worked : Worked) (worker : Worker) → worked ≡ All → EndsByMark worked worker.rows → 1 ≤ length (marks_in worker.rows)
   marked worked worker is mark = subst (λ (w : Worked). EndsByMark w worker.rows) is mark
@@ -137,24 +137,24 @@ module _ (table : LogTable) (queue : Queue) (wait : Bool) where
   mark-taken number [] done i share at all = absurd (some-ne-none share (sym at))
   mark-taken number (worker ∷ workers) done zero share at all =
       let is : worked_of worker ≡ All = ap (λ (s : Share). s.worked) (some-injective (share_of worker) share at) ∙ all in
-      let own = marked (worked_of worker) worker is (served table queue wait worker done.0.1).mark in
+      let own = marked (worked_of worker) worker is (IsDone-has_served table queue wait worker done.0.1).mark in
       omega (arith, own, length-append (marks_in worker.rows) (all_marks workers))
   mark-taken number (worker ∷ workers) done (suc i) share at all =
       let rest = mark-taken (number + 1) workers done.1 i share at all in
       omega (arith, rest, length-append (marks_in worker.rows) (all_marks workers))
 
   -- the script was shared out among these workers
-  pub shared-out : (workers : List Worker) → Numbered (IsDoneAs table queue wait) 0 workers
+  pub AreFront-shared_out : (workers : List Worker) → Numbered (IsDoneAs table queue wait) 0 workers
       → (front : AreFront (length queue.script) (all_places workers) (all_marks workers))
       → IsSharedOut (length (map share_of workers)) (jobs_of queue) (sharing_of front.front (map share_of workers))
-  shared-out workers done front = record {
+  AreFront-shared_out workers done front = record {
     count = length-map (map share_of workers) (λ (share : Share). share.taken);
     rise = shared-rise 0 workers done;
     once = λ place. ap (times place) (shared-places workers) ∙ front.once place;
     within = front.within;
   }
 
-  pub all-shared : (workers : List Worker) → Numbered (IsDoneAs table queue wait) 0 workers
+  pub worked_all-front_whole : (workers : List Worker) → Numbered (IsDoneAs table queue wait) 0 workers
       → (front : AreFront (length queue.script) (all_places workers) (all_marks workers)) → (i : ℕ) (share : Share)
       → get_elem? (map share_of workers) i ≡ some share → share.worked ≡ All → front.front ≡ length queue.script
-  all-shared workers done front i share at all = front.all (mark-taken 0 workers done i share at all)
+  worked_all-front_whole workers done front i share at all = front.all (mark-taken 0 workers done i share at all)

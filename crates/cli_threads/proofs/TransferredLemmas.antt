@@ -29,7 +29,7 @@ use Rattle.end_lines.specs.declared.voice.Voice.{Voice}
 use Rattle.commit_pipeline.specs.declared.daemon.Daemon.{Daemon}
 use Rattle.commit_pipeline.specs.Later.{Later}
 use Rattle.commit_pipeline.specs.Turning.{IsSameDaemon}
-use Rattle.commit_pipeline.proofs.RanLemmas.{Later-same}
+use Rattle.commit_pipeline.proofs.RanLemmas.{Later-same_daemon}
 use Rattle.txn_jobs.specs.declared.cause.Worked.{Worked}
 use Rattle.job_queue.specs.declared.queue.Queue.{Queue}
 use Rattle.txn_runner.specs.Working.{jobs_of}
@@ -42,12 +42,12 @@ use Rattle.log_table.specs.HiredWorkers.{KnowsHired, hired_numbers}
 use Rattle.cli_workers.specs.Workers.{Numbered}
 use Rattle.cli_threads.specs.Workers.{AreDone, HasServed, IsDone, IsDoneAs}
 use Rattle.cli_threads.proofs.GatheredShares.{HasGathered-all}
-use Rattle.cli_threads.proofs.ServedLemmas.{served}
+use Rattle.cli_threads.proofs.ServedLemmas.{IsDone-has_served}
 
 -- a worker that is done has left
 HasLeft-done : (table : LogTable) (queue : Queue) (wait : Bool) (worker : Worker) → IsDone table queue wait worker → HasLeft table queue worker
 HasLeft-done table queue wait worker done =
-    let has = served table queue wait worker done in
+    let has = IsDone-has_served table queue wait worker done in
     record { seat = has.seat; ended = has.ended; worked = by_case worker.worked done; pass = has.pass }
   where
     by_case : (worked : Option Worked) → IsSomeAnd worked (HasServed table queue wait worker) → IsSome worked
@@ -84,7 +84,7 @@ takes_all-merged : (table : LogTable) (queue : Queue) (wait : Bool) (number : �
 takes_all-merged table queue wait number [] done view below = below ∙ ap hired_numbers (sym (add-zero number))
 takes_all-merged table queue wait number (worker ∷ workers) done view below =
     let own = view_in worker in
-    let ended = (served table queue wait worker done.0.1).ended in
+    let ended = (IsDone-has_served table queue wait worker done.0.1).ended in
     let one : (takes_in view own).standing.merged ≡ own.standing.worker ∷ view.standing.merged =
     ap (λ (role : Role). cond (is_worker role) (own.standing.worker ∷ view.standing.merged) view.standing.merged) ended in
     let named : own.standing.worker ≡ number = sym worker.seat.named ∙ done.0.0 in
@@ -131,7 +131,7 @@ MayClose-all table queue wait key workers done view taken =
 module _ {D : Type 0} {K : Type 0} (g : Ghosts D) (h : SinkGhosts K) {tail : Tail} {voice : Voice} {flusher_seat : Seat} {disk : D} {sink : K}
     (first last : Daemon D K g h) (begun : IsBegun g h tail voice flusher_seat disk sink first) (later : Later g h first last) where
   same : IsSameDaemon g first last
-  same = Later-same g h first last later
+  same = Later-same_daemon g h first last later
 
   standing : (view_of last.flusher.seat).standing ≡ (view_of flusher_seat).standing
   standing = same.flusher.workers ∙ ap (λ (s : Seat). (view_of s).standing) begun.seat_is
@@ -201,21 +201,21 @@ module _ {D : Type 0} {K : Type 0} (g : Ghosts D) (h : SinkGhosts K) {tail : Tai
       }
 
 -- Workers that are done with what a run was made of.
-pub AreDone-here : {table table' : LogTable} {queue queue' : Queue} {wait wait' : Bool} (workers : List Worker) → table' ≡ table → queue' ≡ queue
+pub AreDone-same : {table table' : LogTable} {queue queue' : Queue} {wait wait' : Bool} (workers : List Worker) → table' ≡ table → queue' ≡ queue
     → wait' ≡ wait → AreDone table' queue' wait' workers → AreDone table queue wait workers
-AreDone-here workers same_table same_queue same_wait done =
+AreDone-same workers same_table same_queue same_wait done =
     subst (λ (run : LogTable × Queue × Bool). AreDone run.0 run.1 run.2 workers) (λ i. (same_table i, same_queue i, same_wait i)) done
 
 -- the shares are those of what the works came to
-pub ends-of_shares : (workers : List Worker) → map (λ (share : Share). share.worked) (map share_of workers) ≡ map worked_of workers
-ends-of_shares [] = refl
-ends-of_shares (worker ∷ workers) = ap (λ l. worked_of worker ∷ l) (ends-of_shares workers)
+pub share_of-worked_of : (workers : List Worker) → map (λ (share : Share). share.worked) (map share_of workers) ≡ map worked_of workers
+share_of-worked_of [] = refl
+share_of-worked_of (worker ∷ workers) = ap (λ l. worked_of worker ∷ l) (share_of-worked_of workers)
 
 -- of what is in a place two facts hold; and one fact leads to another
-pub both-some : {A : Type 0} (P Q : A → Type 0) (place : Option A) → IsSomeAnd place P → IsSomeAnd place Q → (one : A) × P one × Q one
-both-some P Q None first second = absurd first
-both-some P Q (Some one) first second = (one, first, second)
+pub IsSomeAnd-both : {A : Type 0} (P Q : A → Type 0) (place : Option A) → IsSomeAnd place P → IsSomeAnd place Q → (one : A) × P one × Q one
+IsSomeAnd-both P Q None first second = absurd first
+IsSomeAnd-both P Q (Some one) first second = (one, first, second)
 
-pub some-then : {A : Type 0} (P Q : A → Type 0) (place : Option A) → IsSomeAnd place P → ((one : A) → P one → Q one) → IsSomeAnd place Q
-some-then P Q None first then = absurd first
-some-then P Q (Some one) first then = then one first
+pub IsSomeAnd-weaken : {A : Type 0} (P Q : A → Type 0) (place : Option A) → IsSomeAnd place P → ((one : A) → P one → Q one) → IsSomeAnd place Q
+IsSomeAnd-weaken P Q None first then = absurd first
+IsSomeAnd-weaken P Q (Some one) first then = then one first

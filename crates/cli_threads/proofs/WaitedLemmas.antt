@@ -4,7 +4,7 @@ use Rattle.std.proofs.lemmas.List.{take_all}
 use Rattle.std.proofs.lemmas.List.Elements.{Contains-append_left, Contains-append_right}
 use mathlib.Core.Option.{some, some-injective, some-ne-none}
 use lib.ListN.{get_elem?}
-use Rattle.lsn_space.proofs.TilingLemmas.{all-weaker as all-fewer}
+use Rattle.lsn_space.proofs.TilingLemmas.{all-weaken as all-fewer}
 use Rattle.lock_core.specs.Records.{txn_of, ends}
 use Rattle.log_table.specs.declared.table.LogTable.{LogTable}
 use Rattle.log_rule.specs.declared.view.Entry.{Entry}
@@ -20,15 +20,15 @@ use Rattle.lock_core.specs.Transfers.{transfer_of}
 use Rattle.txn_runner.specs.Running.{outcome_of}
 use Rattle.txn_runner.specs.Places.{NumberedJobs, number_at, job_at}
 use Rattle.txn_runner.specs.Working.{AddsRows, AreRowsOf, AreGivenAt, EachHasRow, IsGivenAt, TellsEnd, jobs_of}
-use Rattle.txn_runner.proofs.PlanLemmas.{end_record-own, end_record-ends}
+use Rattle.txn_runner.proofs.PlanLemmas.{end_record-txn, end_record-ends}
 use Rattle.cli_workers.specs.declared.workers.Worker.{Worker}
 use Rattle.cli_threads.specs.Gathering.{share_of, takes_all, view_in}
 use Rattle.cli_threads.specs.Shares.{Share}
 use Rattle.cli_threads.specs.Waiting.{HasWaited, HaveWaited, IsGivenFrom, AreGivenFrom, made_of}
 use Rattle.cli_workers.specs.Workers.{Numbered}
 use Rattle.cli_threads.specs.Workers.{IsDoneAs}
-use Rattle.cli_threads.proofs.MergedEntries.{contains-first, contains-second}
-use Rattle.cli_threads.proofs.ServedLemmas.{served}
+use Rattle.cli_threads.proofs.MergedEntries.{contains-merged_left, contains-merged_right}
+use Rattle.cli_threads.proofs.ServedLemmas.{IsDone-has_served}
 
 module _ (jobs : NumberedJobs) where
   -- a row of a worker that waits tells it
@@ -36,7 +36,7 @@ module _ (jobs : NumberedJobs) where
   HasWaited-row place view row tells = record {
     end = tells.end;
     contains = tells.contains;
-    number_is = ap txn_of tells.rec ∙ end_record-own row.txn (transfer_of (job_at jobs place)) (outcome_of row.answer) ∙ tells.txn;
+    number_is = ap txn_of tells.rec ∙ end_record-txn row.txn (transfer_of (job_at jobs place)) (outcome_of row.answer) ∙ tells.txn;
     is_end = ap ends tells.rec ∙ end_record-ends row.txn (transfer_of (job_at jobs place)) (outcome_of row.answer);
     gave = all-fewer (AreGivenAt row.txn row.seen view.books.given)
         (AreGivenFrom (number_at jobs place) (tells.end.start + tells.end.size) view.books.given) (job_at jobs place).legs
@@ -107,7 +107,7 @@ module _ (jobs : NumberedJobs) where
       all-fewer (λ place. HasWaited jobs place view.entries view.books.given)
       (λ place. HasWaited jobs place (takes_in view other).entries (takes_in view other).books.given) places
       (HasWaited-among view.entries (takes_in view other).entries view.books.given (takes_in view other).books.given
-      (contains-first view.entries other.entries) (Contains-append_left view.books.given other.books.given)) have
+      (contains-merged_left view.entries other.entries) (Contains-append_left view.books.given other.books.given)) have
 
   HaveWaited-taken : (places : List ℕ) (view own : View) → HaveWaited jobs places own.entries own.books.given
       → HaveWaited jobs places (takes_in view own).entries (takes_in view own).books.given
@@ -115,7 +115,7 @@ module _ (jobs : NumberedJobs) where
       all-fewer (λ place. HasWaited jobs place own.entries own.books.given)
       (λ place. HasWaited jobs place (takes_in view own).entries (takes_in view own).books.given) places
       (HasWaited-among own.entries (takes_in view own).entries own.books.given (takes_in view own).books.given
-      (contains-second view.entries own.entries) (Contains-append_right view.books.given own.books.given)) have
+      (contains-merged_right view.entries own.entries) (Contains-append_right view.books.given own.books.given)) have
 
   HaveWaited-keeps_all : (places : List ℕ) (view : View) (others : List View) → HaveWaited jobs places view.entries view.books.given
       → HaveWaited jobs places (takes_all view others).entries (takes_all view others).books.given
@@ -136,6 +136,6 @@ HaveWaited-all table queue wait number (worker ∷ workers) done view waits zero
     subst (λ (s : Share). HaveWaited jobs (made_of s.taken s.worked) all.entries all.books.given)
     (some-injective (share_of worker) share at)
     (HaveWaited-keeps_all jobs _ (takes_in view (view_in worker)) (map view_in workers)
-    (HaveWaited-taken jobs _ view (view_in worker) ((served table queue wait worker done.0.1).waited waits)))
+    (HaveWaited-taken jobs _ view (view_in worker) ((IsDone-has_served table queue wait worker done.0.1).waited waits)))
 HaveWaited-all table queue wait number (worker ∷ workers) done view waits (suc i) share at =
     HaveWaited-all table queue wait (number + 1) workers done.1 (takes_in view (view_in worker)) waits i share at

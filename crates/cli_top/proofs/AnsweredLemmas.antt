@@ -5,8 +5,8 @@ use Rattle.command_line.specs.CommandLine.{AreTaken, IsCommandLine}
 use Rattle.command_line.specs.declared.command.Command.{Command}
 use Rattle.command_line.specs.declared.command.Command.TheVariants.{New, Run, Recover, Dump, Demo, Cut, Upgrade, Ship, Follow, AsOf, Statement}
 use Rattle.command_line.specs.declared.options.RunOptions.{RunOptions}
-use Rattle.command_line.proofs.Asking.{asks-one}
-use Rattle.log_disk.proofs.Counting.{Costs-more, Costs-none}
+use Rattle.command_line.proofs.Asking.{IsCommandLine-same}
+use Rattle.log_disk.proofs.Counting.{Costs-weaken, Costs-none}
 use Rattle.log_disk.specs.Costs.{Costs}
 use Rattle.log_disk.specs.declared.disk.LogDisk.{Ghosts}
 use Rattle.log_disk.specs.declared.source.Source.{Ghosts as SourceGhosts}
@@ -17,11 +17,11 @@ use Rattle.cli_shared.specs.Outside.{OnlyReads, outside}
 use Rattle.cli_shared.specs.declared.report.Detail.{Detail}
 use Rattle.cli_shared.specs.declared.report.Detail.TheVariants.{NoMemory, Usage, Read, Write, Disk}
 use Rattle.cli_shared.specs.Answers.{StaysSilent}
-use Rattle.cli_shared.proofs.ToldLemmas.{kept-text, nothing-said}
+use Rattle.cli_shared.proofs.ToldLemmas.{Keeps-refl, IfSome-nothing_said}
 use Rattle.cli_reports.specs.Answers.{IsAnswerToDump, IsAnswerToRecover}
 use Rattle.cli_reports.specs.Command.{HasReported}
 use Rattle.cli_reports.specs.Reports.{IsAnswerOnAccount, IsAnswerAtLsn}
-use Rattle.cli_reports.proofs.ReportedLemmas.{read-whole, reported-none}
+use Rattle.cli_reports.proofs.ReportedLemmas.{counts_read-none, reported-none_written}
 use Rattle.cli_standby.specs.Following.{IsAnswerToFollow}
 use Rattle.cli_new.specs.Answers.{IsAnswerToNew}
 use Rattle.cli_new.specs.Command.{DoesNew}
@@ -34,7 +34,7 @@ use Rattle.cli_world.specs.Alone.{AnsweredAlone, DoesAlone}
 use Rattle.cli_world.specs.declared.answer.Answer.TheVariants.{Done}
 use Rattle.cli_top.specs.Answered.{Answered, Does, DoesDemo, Obeys}
 use Rattle.cli_top.specs.Asks.{AsksCut, AsksDemo, AsksFollow, AsksNew, AsksRun, AsksUpgrade}
-use Rattle.cli_top.proofs.DemoTold.{silent-told}
+use Rattle.cli_top.proofs.DemoTold.{TellsSummary-stays_silent}
 
 -- a detail that names the object of a fault
 abbrev IsFault : Detail → Type 0
@@ -46,31 +46,31 @@ IsFault detail = ⊥
 module _ {D S K : Type 0} (g : Ghosts D) (h : SourceGhosts S) (i : SinkGhosts K) where
   -- nothing costs nothing
   costs-none : (disk : D) → Costs g 7 11 disk disk
-  costs-none disk = Costs-more g 0 7 0 11 disk disk (omega arith) (omega arith) (Costs-none g disk)
+  costs-none disk = Costs-weaken g 0 7 0 11 disk disk (omega arith) (omega arith) (Costs-none g disk)
 
   costs-found : (disk : D) → Costs g 1 4 disk disk
-  costs-found disk = Costs-more g 0 1 0 4 disk disk (omega arith) (omega arith) (Costs-none g disk)
+  costs-found disk = Costs-weaken g 0 1 0 4 disk disk (omega arith) (omega arith) (Costs-none g disk)
 
   costs-looks : (disk : D) → Costs g 1 (most_calls g disk) disk disk
-  costs-looks disk = Costs-more g 0 1 0 (most_calls g disk) disk disk (omega arith) (omega arith) (Costs-none g disk)
+  costs-looks disk = Costs-weaken g 0 1 0 (most_calls g disk) disk disk (omega arith) (omega arith) (Costs-none g disk)
 
   nothing-reported : (Answers : List ℕ → Option (List ℕ) → Option (List ℕ) → Option (List ℕ) → Detail → Type 0) (IsAnswer : Detail → Type 0)
       (script : S) (out : K) → IsAnswer NoMemory
       → IfSome (h.left script) (λ bytes. Answers bytes (h.left script) (i.held_bytes out) (i.held_bytes out) NoMemory)
       → HasReported h i Answers IsAnswer script script out out NoMemory
   nothing-reported Answers IsAnswer script out range answer =
-      reported-none h i Answers IsAnswer script script out NoMemory range (read-whole _ _ NoMemory refl (λ tells. tells)) (kept-text _)
+      reported-none_written h i Answers IsAnswer script script out NoMemory range (counts_read-none _ _ NoMemory refl (λ tells. tells)) (Keeps-refl _)
       (λ tells. tells) answer
 
   -- the disk was not looked at, and nothing was written
   nothing-read : (disk : D) (left text : Option (List ℕ)) → OnlyReads g (outside disk left text) (outside disk left text)
   nothing-read disk left text =
-      record { silent = kept-text _; disk = record { images = Leaves-refl _ _ _ _; reads = refl; count = costs-looks disk } }
+      record { silent = Keeps-refl _; disk = record { images = Leaves-refl _ _ _ _; reads = refl; count = costs-looks disk } }
 
   no-new : (old : World D S K) (log : List ℕ) → DoesNew g h i log old old NoMemory
   no-new old log = record {
-    answer = nothing-said _;
-    silent = kept-text _;
+    answer = IfSome-nothing_said _;
+    silent = Keeps-refl _;
     range = tt;
     images = λ honest. Leaves-refl _ _ _ _;
     made = λ honest follows. absurd follows;
@@ -84,8 +84,8 @@ module _ {D S K : Type 0} (g : Ghosts D) (h : SourceGhosts S) (i : SinkGhosts K)
 
   no-cut : (old : World D S K) (log : List ℕ) → DoesCut g h i log old old NoMemory
   no-cut old log = record {
-    answer = nothing-said _;
-    silent = kept-text _;
+    answer = IfSome-nothing_said _;
+    silent = Keeps-refl _;
     range = tt;
     images = λ honest. Leaves-refl _ _ _ _;
     made = λ honest follows. absurd follows;
@@ -99,8 +99,8 @@ module _ {D S K : Type 0} (g : Ghosts D) (h : SourceGhosts S) (i : SinkGhosts K)
 
   no-upgrade : (old : World D S K) (log : List ℕ) → DoesUpgrade g h i log old old NoMemory
   no-upgrade old log = record {
-    answer = nothing-said _;
-    silent = kept-text _;
+    answer = IfSome-nothing_said _;
+    silent = Keeps-refl _;
     range = tt;
     images = λ honest. Leaves-refl _ _ _ _;
     made = λ honest follows. absurd follows;
@@ -116,7 +116,7 @@ module _ {D S K : Type 0} (g : Ghosts D) (h : SourceGhosts S) (i : SinkGhosts K)
   no-demo old log n seed options = record {
     demonstrated = record {
       answer = λ honest. record { images = Leaves-refl _ _ _ _; reads = refl; count = costs-looks old.disk };
-      text = kept-text _;
+      text = Keeps-refl _;
       range = tt;
       exists = λ honest. tt;
       attached = λ honest. inl refl;
@@ -131,10 +131,10 @@ module _ {D S K : Type 0} (g : Ghosts D) (h : SourceGhosts S) (i : SinkGhosts K)
   nothing-done old (Upgrade log) = no-upgrade old log
   nothing-done old (Demo log n seed options) = no-demo old log n seed options
   nothing-done old (Run log options) =
-      record { answer = λ honest. nothing-read _ _ _; silent = kept-text _; range = tt; attached = λ honest. inl refl }
+      record { answer = λ honest. nothing-read _ _ _; silent = Keeps-refl _; range = tt; attached = λ honest. inl refl }
   nothing-done old (Follow log) =
-      record { answer = λ honest. inl (nothing-read _ _ _); silent = kept-text _; range = tt; attached = λ honest. inl refl }
-  nothing-done old command = record { report = nothing-reported _ _ _ _ tt (nothing-said _); untouched = refl }
+      record { answer = λ honest. inl (nothing-read _ _ _); silent = Keeps-refl _; range = tt; attached = λ honest. inl refl }
+  nothing-done old command = record { report = nothing-reported _ _ _ _ tt (IfSome-nothing_said _); untouched = refl }
 
   no-faults : (old : World D S K) (detail : Detail) → (IsFault detail → ⊥) → TellsFaults g h i old old detail
   no-faults old detail none = record {
@@ -193,69 +193,69 @@ module _ {D S K : Type 0} (g : Ghosts D) (h : SourceGhosts S) (i : SinkGhosts K)
     done-silent (Upgrade log) asked done running = done.silent
     done-silent (Follow log) asked done running = done.silent
     done-silent (Run log options) asked done running = absurd (running (log, options, asked))
-    done-silent (Demo log n seed options) asked done running = silent-told n seed _ _ detail done.demonstrated.text
+    done-silent (Demo log n seed options) asked done running = TellsSummary-stays_silent n seed _ _ detail done.demonstrated.text
     done-silent command asked done running = done.report.silent
 
   still-kept : (old new : World D S K) → new ≡ old → Keeps (i.held_bytes old.out) (i.held_bytes new.out)
-  still-kept old new same = subst (λ (w : World D S K). Keeps (i.held_bytes old.out) (i.held_bytes w.out)) (sym same) (kept-text _)
+  still-kept old new same = subst (λ (w : World D S K). Keeps (i.held_bytes old.out) (i.held_bytes w.out)) (sym same) (Keeps-refl _)
 
   module _ (words : List (List ℕ)) (old new : World D S K) (detail : Detail) where
-    pub faults-of : Answered g h i words old new detail → TellsFaults g h i old new detail
-    faults-of (inl has) = has.obeys.faults
-    faults-of (inr (inl (usage, none, same))) =
+    pub Answered-tells_faults : Answered g h i words old new detail → TellsFaults g h i old new detail
+    Answered-tells_faults (inl has) = has.obeys.faults
+    Answered-tells_faults (inr (inl (usage, none, same))) =
         subst (λ w. TellsFaults g h i old w detail) (sym same) (no-faults old detail (λ fault. subst IsFault usage fault))
-    faults-of (inr (inr (memory, same))) =
+    Answered-tells_faults (inr (inr (memory, same))) =
         subst (λ w. TellsFaults g h i old w detail) (sym same) (no-faults old detail (λ fault. subst IsFault memory fault))
 
     -- where the words ask this command, it did what it promises
-    pub done-of : Answered g h i words old new detail → (command : Command) → IsCommandLine words command
+    pub Answered-does_command : Answered g h i words old new detail → (command : Command) → IsCommandLine words command
         → Does g h i command old new detail
-    done-of (inl has) command asked =
-        subst (λ c. Does g h i c old new detail) (asks-one words has.command command has.asked asked) has.obeys.done
-    done-of (inr (inl (usage, none, same))) command asked = absurd (none (command, asked))
-    done-of (inr (inr (memory, same))) command asked =
+    Answered-does_command (inl has) command asked =
+        subst (λ c. Does g h i c old new detail) (IsCommandLine-same words has.command command has.asked asked) has.obeys.done
+    Answered-does_command (inr (inl (usage, none, same))) command asked = absurd (none (command, asked))
+    Answered-does_command (inr (inr (memory, same))) command asked =
         subst (λ d. Does g h i command old new d) (sym memory)
         (subst (λ w. Does g h i command old w NoMemory) (sym same) (nothing-done old command))
 
-    pub usage-of : Answered g h i words old new detail → detail ≡ Usage → AreTaken words → ⊥
-    usage-of (inl has) usage taken = not-usage old new detail has.command has.obeys.done usage
-    usage-of (inr (inl (_, none, same))) usage taken = none taken
-    usage-of (inr (inr (memory, same))) usage taken = subst IsAnswerToRecover (sym memory ∙ usage) tt
+    pub Answered-usage_not_taken : Answered g h i words old new detail → detail ≡ Usage → AreTaken words → ⊥
+    Answered-usage_not_taken (inl has) usage taken = not-usage old new detail has.command has.obeys.done usage
+    Answered-usage_not_taken (inr (inl (_, none, same))) usage taken = none taken
+    Answered-usage_not_taken (inr (inr (memory, same))) usage taken = subst IsAnswerToRecover (sym memory ∙ usage) tt
 
-    pub refused-of : Answered g h i words old new detail → (AreTaken words → ⊥) → (detail ≡ Usage) ⊎ (detail ≡ NoMemory)
-    refused-of (inl has) none = absurd (none (has.command, has.asked))
-    refused-of (inr (inl (usage, _, same))) none = inl usage
-    refused-of (inr (inr (memory, same))) none = inr memory
+    pub Answered-not_taken_detail : Answered g h i words old new detail → (AreTaken words → ⊥) → (detail ≡ Usage) ⊎ (detail ≡ NoMemory)
+    Answered-not_taken_detail (inl has) none = absurd (none (has.command, has.asked))
+    Answered-not_taken_detail (inr (inl (usage, _, same))) none = inl usage
+    Answered-not_taken_detail (inr (inr (memory, same))) none = inr memory
 
     -- words that ask nothing change nothing
-    pub same-of : Answered g h i words old new detail → (AreTaken words → ⊥) → new ≡ old
-    same-of (inl has) none = absurd (none (has.command, has.asked))
-    same-of (inr (inl (usage, _, same))) none = same
-    same-of (inr (inr (memory, same))) none = same
+    pub Answered-not_taken_same : Answered g h i words old new detail → (AreTaken words → ⊥) → new ≡ old
+    Answered-not_taken_same (inl has) none = absurd (none (has.command, has.asked))
+    Answered-not_taken_same (inr (inl (usage, _, same))) none = same
+    Answered-not_taken_same (inr (inr (memory, same))) none = same
 
     same-disk : new ≡ old → new.disk ≡ old.disk
     same-disk same = ap (λ (w : World D S K). w.disk) same
 
-    pub untouched-of : Answered g h i words old new detail → (AsksNew words → ⊥) → (AsksRun words → ⊥) → (AsksDemo words → ⊥)
+    pub Answered-disk_same : Answered g h i words old new detail → (AsksNew words → ⊥) → (AsksRun words → ⊥) → (AsksDemo words → ⊥)
         → (AsksCut words → ⊥) → (AsksUpgrade words → ⊥) → (AsksFollow words → ⊥) → new.disk ≡ old.disk
-    untouched-of (inl has) = done-untouched words old new detail has.command has.asked has.obeys.done
-    untouched-of (inr (inl (usage, _, same))) = λ making running demonstrating cutting upgrading following. same-disk same
-    untouched-of (inr (inr (memory, same))) = λ making running demonstrating cutting upgrading following. same-disk same
+    Answered-disk_same (inl has) = done-untouched words old new detail has.command has.asked has.obeys.done
+    Answered-disk_same (inr (inl (usage, _, same))) = λ making running demonstrating cutting upgrading following. same-disk same
+    Answered-disk_same (inr (inr (memory, same))) = λ making running demonstrating cutting upgrading following. same-disk same
 
-    pub count-of : Answered g h i words old new detail → (AsksRun words → ⊥) → (AsksDemo words → ⊥) → (AsksUpgrade words → ⊥)
+    pub Answered-costs : Answered g h i words old new detail → (AsksRun words → ⊥) → (AsksDemo words → ⊥) → (AsksUpgrade words → ⊥)
         → (AsksFollow words → ⊥) → g.honest old.disk → Costs g 7 11 old.disk new.disk
-    count-of (inl has) = done-count words old new detail has.command has.asked has.obeys.done
-    count-of (inr (inl (usage, _, same))) = λ running demonstrating upgrading following honest.
+    Answered-costs (inl has) = done-count words old new detail has.command has.asked has.obeys.done
+    Answered-costs (inr (inl (usage, _, same))) = λ running demonstrating upgrading following honest.
         costs-same words old new detail (same-disk same)
-    count-of (inr (inr (memory, same))) = λ running demonstrating upgrading following honest.
+    Answered-costs (inr (inr (memory, same))) = λ running demonstrating upgrading following honest.
         costs-same words old new detail (same-disk same)
 
-    pub silent-of : Answered g h i words old new detail → (AsksRun words → ⊥)
+    pub Answered-stays_silent : Answered g h i words old new detail → (AsksRun words → ⊥)
         → StaysSilent (i.held_bytes old.out) (i.held_bytes new.out) detail
-    silent-of (inl has) = done-silent words old new detail has.command has.asked has.obeys.done
-    silent-of (inr (inl (usage, _, same))) = λ running.
+    Answered-stays_silent (inl has) = done-silent words old new detail has.command has.asked has.obeys.done
+    Answered-stays_silent (inr (inl (usage, _, same))) = λ running.
         subst (StaysSilent (i.held_bytes old.out) (i.held_bytes new.out)) (sym usage) (still-kept old new same)
-    silent-of (inr (inr (memory, same))) = λ running.
+    Answered-stays_silent (inr (inr (memory, same))) = λ running.
         subst (StaysSilent (i.held_bytes old.out) (i.held_bytes new.out)) (sym memory) (still-kept old new same)
 
   does-alone : (old new : World D S K) (detail : Detail) (command : Command) → DoesAlone g h i command old new detail
@@ -275,9 +275,9 @@ module _ {D S K : Type 0} (g : Ghosts D) (h : SourceGhosts S) (i : SinkGhosts K)
   answered-alone words old new detail (inr none) = inr none
 
   -- where the words were read first, and nothing was done by that
-  pub answered-then : (words : List (List ℕ)) (old read new : World D S K) (detail : Detail) (command : Command)
+  pub Obeys-answered : (words : List (List ℕ)) (old read new : World D S K) (detail : Detail) (command : Command)
       → IsCommandLine words command → read ≡ old → Obeys g h i command read new detail → Answered g h i words old new detail
-  answered-then words old read new detail command asked same obeys = inl (record {
+  Obeys-answered words old read new detail command asked same obeys = inl (record {
     command = command;
     asked = asked;
     obeys = subst (λ w. Obeys g h i command w new detail) same obeys;

@@ -1,7 +1,7 @@
 -- Where nothing stands in their way, the commands but `run`, `demo` and `follow` succeed.
 use Rattle.std.proofs.Common.{◌≡◌, ◌⊎◌, inl, inr, refl, List, ℕ, Option, Some, None, IfSome, ◌<◌, subst}
 use Rattle.txn_script.specs.Balances.{IsBalancesText}
-use Rattle.txn_script.proofs.BalanceLemmas.{balances-or_bad}
+use Rattle.txn_script.proofs.BalanceLemmas.{balances_text-no_bad_line}
 use Rattle.cli_shared.specs.declared.report.Detail.{Detail}
 use Rattle.cli_shared.specs.declared.report.Detail.TheVariants.{Fine, NoMemory, Script, Read, Write, Disk, NotALog, BadSnapshot, BadBatch, BadRec, Unlawful, Exists, NoSuchLsn, NoAccount}
 use Rattle.log_recovery.specs.declared.recovery.RecoverFault.{RecoverFault}
@@ -15,7 +15,7 @@ use Rattle.cli_view.specs.Reports.{RefusesAccount}
 use Rattle.cli_new.specs.Answers.{AnswersNew}
 use Rattle.cli_cut.specs.Answers.{AnswersCut}
 use Rattle.cli_shared.specs.Creation.{TellsWhether}
-use Rattle.cli_top.proofs.Faultless.{IsDone, IsMemory, no-fault, no-listed_fault}
+use Rattle.cli_top.proofs.Faultless.{IsDone, IsMemory, HoldsLawful-fault_is_memory, HoldsList-fault_is_memory}
 
 -- the input of `new` is in its grammar
 module _ (bytes : List ℕ) (left_new old new : Option (List ℕ)) (opened : Type 0) (closed : opened → ⊥) (balances : List ℕ)
@@ -24,7 +24,7 @@ module _ (bytes : List ℕ) (left_new old new : Option (List ℕ)) (opened : Typ
       → (detail ≡ Write → ⊥) → (detail ≡ Disk → ⊥) → IsDone detail
   new-done Fine answers tells read write disk = inl refl
   new-done NoMemory answers tells read write disk = inr refl
-  new-done (Script line) answers tells read write disk = absurd (balances-or_bad bytes balances line text answers.1)
+  new-done (Script line) answers tells read write disk = absurd (balances_text-no_bad_line bytes balances line text answers.1)
   new-done Read answers tells read write disk = absurd (read refl)
   new-done Write answers tells read write disk = absurd (write refl)
   new-done Disk answers tells read write disk = absurd (disk refl)
@@ -45,7 +45,7 @@ new-complete (Some bytes) left_new old new opened R W D detail answers tells rea
 -- the input of `recover`, or of `cut` and `upgrade`, holds a lawful list
 module _ (bytes : List ℕ) (left_new old new : Option (List ℕ)) (list : OpenedList) (held : HoldsLawful bytes list) where
   lawful : (f : RecoverFault) → IsFaultOf bytes f → IsMemory f
-  lawful f = no-fault bytes list f held
+  lawful f = HoldsLawful-fault_is_memory bytes list f held
 
   recover-done : (detail : Detail) → AnswersRecover bytes left_new old new detail → (detail ≡ Read → ⊥) → (detail ≡ Write → ⊥)
       → IsDone detail
@@ -93,10 +93,10 @@ module _ (bytes : List ℕ) (left_new old new : Option (List ℕ)) (list : Opene
   dump-done NoMemory answers read write = inr refl
   dump-done Read answers read write = absurd (read refl)
   dump-done Write answers read write = absurd (write refl)
-  dump-done NotALog answers read write = absurd (no-listed_fault bytes list fault.NotALog held answers.1)
-  dump-done BadSnapshot answers read write = absurd (no-listed_fault bytes list fault.BadSnapshot held answers.1)
-  dump-done (BadBatch offset) answers read write = absurd (no-listed_fault bytes list (fault.BadBatch offset) held answers.1)
-  dump-done (BadRec lsn) answers read write = absurd (no-listed_fault bytes list (fault.BadRec lsn) held answers.1)
+  dump-done NotALog answers read write = absurd (HoldsList-fault_is_memory bytes list fault.NotALog held answers.1)
+  dump-done BadSnapshot answers read write = absurd (HoldsList-fault_is_memory bytes list fault.BadSnapshot held answers.1)
+  dump-done (BadBatch offset) answers read write = absurd (HoldsList-fault_is_memory bytes list (fault.BadBatch offset) held answers.1)
+  dump-done (BadRec lsn) answers read write = absurd (HoldsList-fault_is_memory bytes list (fault.BadRec lsn) held answers.1)
   dump-done detail answers read write = absurd answers
 
 -- and no fault was counted
@@ -116,7 +116,7 @@ module _ (Says : OpenedList → List ℕ → Type 0) (Refuses : OpenedList → D
       absurd (heard detail (subst (λ l. Refuses l detail) (one-list bytes other list also.list held.list) refused))
 
   none : (f : RecoverFault) → IsFaultOf bytes f → IsMemory f
-  none f = no-fault bytes list f held
+  none f = HoldsLawful-fault_is_memory bytes list f held
 
   report-done : (detail : Detail) → AnswersReport Says Refuses bytes left_new old new detail → (detail ≡ Read → ⊥) → (detail ≡ Write → ⊥)
       → IsDone detail

@@ -10,13 +10,13 @@ use Rattle.log_recovery.specs.Recovery.{HoldsLawful, IsFaultOf}
 use Rattle.log_recovery.proofs.AnswerLemmas.{one-list}
 use Rattle.lock_core.specs.declared.job.Job.{Job}
 use Rattle.txn_script.specs.Script.{IsScriptText, IsFirstBadLine}
-use Rattle.txn_script.proofs.ScriptLemmas.{jobs-same, jobs-or_bad}
+use Rattle.txn_script.proofs.ScriptLemmas.{jobs-same, script_text-no_bad_line}
 use Rattle.cli_shared.specs.declared.report.Detail.{Detail}
 use Rattle.cli_shared.specs.declared.report.Detail.TheVariants.{Fine, NoMemory, Script, Read, Write, Disk, NotALog, BadSnapshot, BadBatch, BadRec, Unlawful, LogEnd, TxnEnd}
 use Rattle.cli_run.specs.RunAnswers.{AnswersRun, IsFirstOutside, IsRunDone, RunsOutOfNumbers, accounts_of, next_txn}
 use Rattle.cli_shared.specs.Outside.{Outside, outside}
-use Rattle.log_recovery.proofs.OpenedLemmas.{few-held}
-use Rattle.cli_top.proofs.Faultless.{IsMemory, no-fault}
+use Rattle.log_recovery.proofs.OpenedLemmas.{held-accounts_le_most}
+use Rattle.cli_top.proofs.Faultless.{IsMemory, HoldsLawful-fault_is_memory}
 
 module _ {D : Type 0} (g : Ghosts D) (options : RunOptions) (disk disk_new : D) (bytes : List ℕ) (left_new text text_new : Option (List ℕ))
     (opened : OpenedList) (held : HoldsLawful (g.reads disk) opened) (jobs : List Job)
@@ -38,12 +38,12 @@ module _ {D : Type 0} (g : Ghosts D) (options : RunOptions) (disk disk_new : D) 
   script-whole : (line : ℕ) → IsFirstOutside g line old new → ⊥
   script-whole line found =
       let bad = found.2 in
-      jobs-or_bad (accounts_of found.0) bytes jobs line (script-of found.0 found.1)
+      script_text-no_bad_line (accounts_of found.0) bytes jobs line (script-of found.0 found.1)
       (subst (λ t. IsFirstBadLine (accounts_of found.0) t line) bad.1.0 bad.2)
 
   numbers-left : (first count : ℕ) → RunsOutOfNumbers g first count old new → ⊥
   numbers-left first count end =
-      let few = few-held (g.reads disk) end.opened end.held in
+      let few = held-accounts_le_most (g.reads disk) end.opened end.held in
       let read = subst (λ t. IsScriptText (accounts_of end.opened) t end.jobs) end.script.1.0 end.script.2 in
       let same =
       ap length (jobs-same (accounts_of end.opened) bytes jobs end.jobs (omega (arith, few)) (script-of end.opened end.held) read) in
@@ -51,7 +51,7 @@ module _ {D : Type 0} (g : Ghosts D) (options : RunOptions) (disk disk_new : D) 
       omega (arith, same, next, numbers, end.past, end.first_is, end.count_is)
 
   lawful : (f : RecoverFault) → IsFaultOf (g.reads disk) f → IsMemory f
-  lawful f = no-fault (g.reads disk) opened f held
+  lawful f = HoldsLawful-fault_is_memory (g.reads disk) opened f held
 
   run-done : (detail : Detail) → AnswersRun g options old new detail → (detail ≡ Read → ⊥) → (detail ≡ Write → ⊥) → (detail ≡ Disk → ⊥)
       → IsRunDone detail

@@ -38,24 +38,24 @@ module _ (opening : Opening) (lsn : ℕ) where
   abbrev pub accounts_to : List Placed → ℕ
   accounts_to h = accounts_of (front_to h lsn)
 
-  pub accounts_to-few : (h : List Placed) → accounts_to h ≤ accounts_of h
-  accounts_to-few [] = le_refl (accounts_of [])
-  accounts_to-few (entry ∷ h) = by_test (nat_le entry.end lsn) (accounts_to-few h)
+  pub accounts_to-le : (h : List Placed) → accounts_to h ≤ accounts_of h
+  accounts_to-le [] = le_refl (accounts_of [])
+  accounts_to-le (entry ∷ h) = by_test (nat_le entry.end lsn) (accounts_to-le h)
     where
       by_test : (b : Bool) → accounts_to h ≤ accounts_of h → accounts_of (cond b (entry ∷ h) (front_to h lsn)) ≤ accounts_of (entry ∷ h)
       by_test true few = le_refl (accounts_of (entry ∷ h))
       by_test false few = let more = accounts-more entry.rec (base_with opening h) in omega (arith, few, more)
 
   -- an account with a balance at the LSN is one of those that there are up to it, and has that balance there
-  pub balance-known : (h : List Placed) (account balance : ℕ) → balance_up_to opening h account lsn ≡ Some balance
+  pub balance_up_to-some : (h : List Placed) (account balance : ℕ) → balance_up_to opening h account lsn ≡ Some balance
       → (account < accounts_to h) × (balance_after opening (front_to h lsn) account ≡ balance)
-  balance-known h account balance is =
+  balance_up_to-some h account balance is =
       let found = cond_some (nat_lt account (accounts_to h)) (balance_after opening (front_to h lsn) account) balance is in
       (ltb-true account (accounts_to h) found.0, found.1)
 
   -- and one with none is none of them
-  pub balance-unknown : (h : List Placed) (account : ℕ) → balance_up_to opening h account lsn ≡ None → accounts_to h ≤ account
-  balance-unknown h account is = by_test (nat_lt account (accounts_to h)) refl is
+  pub balance_up_to-none : (h : List Placed) (account : ℕ) → balance_up_to opening h account lsn ≡ None → accounts_to h ≤ account
+  balance_up_to-none h account is = by_test (nat_lt account (accounts_to h)) refl is
     where
       by_test : (b : Bool) → nat_lt account (accounts_to h) ≡ b → cond b (Some (balance_after opening (front_to h lsn) account)) None ≡ None
           → accounts_to h ≤ account
@@ -63,10 +63,10 @@ module _ (opening : Opening) (lsn : ℕ) where
       by_test false test is = ltb-false account (accounts_to h) test
 
   -- where no account has a balance any more, the rows are those that there are
-  pub count-rows : (h : List Placed) (rows : List (ℕ × ℕ)) → HasBalances opening h lsn rows → length rows ≡ accounts_to h
-  count-rows h rows has = dite (dec_lt (accounts_to h) (length rows))
-      (λ less. absurd (let known = balance-known h (accounts_to h) _ (has.each (accounts_to h) less) in omega (arith, known.0)))
-      (λ not_less. let most = balance-unknown h (length rows) has.all in omega (arith, most, not_less))
+  pub HasBalances-length : (h : List Placed) (rows : List (ℕ × ℕ)) → HasBalances opening h lsn rows → length rows ≡ accounts_to h
+  HasBalances-length h rows has = dite (dec_lt (accounts_to h) (length rows))
+      (λ less. absurd (let known = balance_up_to-some h (accounts_to h) _ (has.each (accounts_to h) less) in omega (arith, known.0)))
+      (λ not_less. let most = balance_up_to-none h (length rows) has.all in omega (arith, most, not_less))
 
 -- the accounts text of a history that ends at an LSN
 abbrev text_at : Opening → ℕ → List Placed → List ℕ
@@ -77,13 +77,13 @@ rows-text : (opening : Opening) (h : List Placed) (lsn : ℕ) (rows : List (ℕ 
 rows-text opening h lsn rows has =
     let balances = balance_after opening (front_to h lsn) in
     ap (λ lines. lsn_line lsn ++ lines) (account_lines-same (balance_in rows) balances (length rows)
-    (λ account inside. sym (balance-known opening lsn h account _ (has.each account inside)).1))
-    ∙ ap (λ (n : ℕ). lsn_line lsn ++ account_lines balances n) (count-rows opening lsn h rows has)
+    (λ account inside. sym (balance_up_to-some opening lsn h account _ (has.each account inside)).1))
+    ∙ ap (λ (n : ℕ). lsn_line lsn ++ account_lines balances n) (HasBalances-length opening lsn h rows has)
 
 -- at a boundary of a list they are the accounts of the list up to there
-pub accounts-text : (list : OpenedList) (lsn : ℕ) (rows : List (ℕ × ℕ)) → IsListBoundary list lsn
+pub HasBalances-accounts_text : (list : OpenedList) (lsn : ℕ) (rows : List (ℕ × ℕ)) → IsListBoundary list lsn
     → HasBalances (opening_before list) (placed list) lsn rows → rows_text lsn rows ≡ accounts_text (list_to list lsn)
-accounts-text list lsn rows boundary has =
+HasBalances-accounts_text list lsn rows boundary has =
     let begin : ℕ = list.opening.lsn in
     let at : lsn - begin ≡ boundary.0 = omega (arith, boundary.1) in
     let ended = ap (λ n. end_of (prefix_to list.records n)) at ∙ end_of-prefix_to-boundary list.records boundary.0 boundary.2 in
@@ -92,9 +92,9 @@ accounts-text list lsn rows boundary has =
     rows-text (opening_before list) (placed list) lsn rows has ∙ ap₂ (text_at (opening_before list)) end front
 
 -- a row more, of the next account
-pub balances-more : (opening : Opening) (h : List Placed) (lsn account balance : ℕ) (rows : List (ℕ × ℕ)) → account ≡ length rows
+pub AreBalances-push : (opening : Opening) (h : List Placed) (lsn account balance : ℕ) (rows : List (ℕ × ℕ)) → account ≡ length rows
     → balance_up_to opening h account lsn ≡ Some balance → AreBalances opening h lsn rows → AreBalances opening h lsn (rows ++ (balance, 0) ∷ [])
-balances-more opening h lsn account balance rows next is each = λ one inside.
+AreBalances-push opening h lsn account balance rows next is each = λ one inside.
     let row : ℕ × ℕ = (balance, 0) in
     dite (dec_lt one (length rows))
     (λ old. each one old ∙ ap (λ (r : ℕ × ℕ). Some r.0) (sym (get_or-append rows (row ∷ []) (0, 0) one old)))
@@ -106,7 +106,7 @@ balances-more opening h lsn account balance rows next is each = λ one inside.
     ∙ ap (λ (n : ℕ). Some (slice_index_or (rows ++ row ∷ []) n (0, 0)).0) (sym here))
 
 -- an account with a balance at the LSN is below the number of all accounts
-pub account-below : (opening : Opening) (h : List Placed) (lsn account balance : ℕ) → balance_up_to opening h account lsn ≡ Some balance
+pub balance_up_to-account_below : (opening : Opening) (h : List Placed) (lsn account balance : ℕ) → balance_up_to opening h account lsn ≡ Some balance
     → account < (base_with opening h).accounts
-account-below opening h lsn account balance is =
-    let known = balance-known opening lsn h account balance is in omega (arith, known.0, accounts_to-few opening lsn h)
+balance_up_to-account_below opening h lsn account balance is =
+    let known = balance_up_to-some opening lsn h account balance is in omega (arith, known.0, accounts_to-le opening lsn h)

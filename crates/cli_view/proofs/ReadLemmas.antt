@@ -27,10 +27,10 @@ use Rattle.ledger_view.specs.ViewedAccounts.{HasViewed}
 use Rattle.cli_shared.specs.LogInput.{ReadsTaken}
 use Rattle.cli_shared.specs.declared.report.Detail.TheVariants.{Fine, Write, NoSuchLsn, NoAccount}
 use Rattle.cli_reports.specs.Reports.{AnswersReport, OfList, RefusesLsn}
-use Rattle.cli_reports.proofs.ReportLemmas.{of-list}
+use Rattle.cli_reports.proofs.ReportLemmas.{ReadsAll-of_list}
 use Rattle.cli_view.specs.Balances.{HasBalances}
 use Rattle.cli_view.specs.Reports.{RefusesAccount, SaysAccounts, SaysStatement, statement_lines}
-use Rattle.cli_view.proofs.BalanceLemmas.{accounts-text}
+use Rattle.cli_view.proofs.BalanceLemmas.{HasBalances-accounts_text}
 
 one-list : (units : List ℕ) (xs ys : List Rec) → AreUnitsOf units xs → AreUnitsOf units ys → xs ≡ ys
 one-list units xs ys first second =
@@ -53,27 +53,27 @@ module _ (left left_new : Option (List ℕ)) (view : View) (listed : Listed) (re
   abbrev pub list_read : OpenedList
   list_read = list_of listed read.2.records
 
-  pub viewed : HasViewed (opening_before list_read) view (placed list_read)
-  viewed = read.2.taken
+  pub read-has_viewed : HasViewed (opening_before list_read) view (placed list_read)
+  read-has_viewed = read.2.taken
 
-  pub units-read : IsRecords listed.units
-  units-read = (read.2.records, read.2.has.list)
+  pub read-is_records : IsRecords listed.units
+  read-is_records = (read.2.records, read.2.has.list)
 
-  pub fits-read : listed.opening.lsn + length listed.units ≤ LAST
-  fits-read = omega (arith, read.2.held.list.holds.reads.total, ap length read.2.has.list.units_are)
+  pub read-within_last : listed.opening.lsn + length listed.units ≤ LAST
+  read-within_last = omega (arith, read.2.held.list.holds.reads.total, ap length read.2.has.list.units_are)
 
-  pub boundary-read : (lsn : ℕ) (rest : List ℕ)
+  pub GoesOnAt-list_boundary : (lsn : ℕ) (rest : List ℕ)
       → ((records : List Rec) → AreUnitsOf listed.units records → GoesOnAt listed.opening.lsn records lsn rest) → IsListBoundary list_read lsn
-  boundary-read lsn rest goes_on =
+  GoesOnAt-list_boundary lsn rest goes_on =
       let found = goes_on read.2.records read.2.has.list in
       (end_of found.front, found.place, front_is_boundary read.2.records (end_of found.front) (found.front, found.later, found.whole, refl))
 
   -- where an entry of its history ends there is a boundary, whatever list the units are read as
-  pub known-boundary : (known : ℕ) (records : List Rec) → AreUnitsOf listed.units records
+  pub EndsAt-list_boundary : (known : ℕ) (records : List Rec) → AreUnitsOf listed.units records
       → (known ≡ listed.opening.lsn) ⊎ EndsAt (placed list_read) known
       → IsListBoundary (record { opening = listed.opening; records = records }) known
-  known-boundary known records list (inl begins) = (0, omega (arith, begins), begins-at-boundary records)
-  known-boundary known records list (inr ends) =
+  EndsAt-list_boundary known records list (inl begins) = (0, omega (arith, begins), begins-at-boundary records)
+  EndsAt-list_boundary known records list (inr ends) =
       let found = ends-within listed.opening.lsn [] read.2.records known ends in
       elim found [
         | inl never ↦ absurd never
@@ -86,43 +86,43 @@ module _ (left left_new : Option (List ℕ)) (view : View) (listed : Listed) (re
       ]
 
   -- the last Commit ends at a boundary
-  pub commit-ends : (begin lsn known : ℕ) → begin ≡ listed.opening.lsn
+  pub commit-start_or_ends_at : (begin lsn known : ℕ) → begin ≡ listed.opening.lsn
       → (known ≡ begin) ⊎ ((known ≤ lsn) × ((opening : Opening) (h : List Placed) → HasViewed opening view h → EndsAt h known))
       → (known ≡ listed.opening.lsn) ⊎ EndsAt (placed list_read) known
-  commit-ends begin lsn known is (inl begins) = inl (begins ∙ is)
-  commit-ends begin lsn known is (inr ends) = inr (ends.1 _ _ viewed)
+  commit-start_or_ends_at begin lsn known is (inl begins) = inl (begins ∙ is)
+  commit-start_or_ends_at begin lsn known is (inr ends) = inr (ends.1 _ _ read-has_viewed)
 
-  -- what is said of the list that was read is said of that of the input
-  pub said : (Said : OpenedList → Type 0) → Said list_read → IfSome left (λ all. OfList all left_new Said)
-  said Said is = of-list left left_new read.0 list_read Said read.1 read.2.held is
+  -- what is list_read-of_list of the list that was read is list_read-of_list of that of the input
+  pub list_read-of_list : (Said : OpenedList → Type 0) → Said list_read → IfSome left (λ all. OfList all left_new Said)
+  list_read-of_list Said is = ReadsAll-of_list left left_new read.0 list_read Said read.1 read.2.held is
 
-  -- nothing is said at an LSN that is no boundary
+  -- nothing is list_read-of_list at an LSN that is no boundary
   pub asof-refused : (lsn : ℕ) (old new : Option (List ℕ)) → (IsListBoundary list_read lsn → ⊥)
       → IfSome left (λ all. AnswersReport (SaysAccounts lsn) (RefusesLsn lsn) all left_new old new (NoSuchLsn lsn))
-  asof-refused lsn old new none = said (λ list. RefusesLsn lsn list (NoSuchLsn lsn)) (refl, none)
+  asof-refused lsn old new none = list_read-of_list (λ list. RefusesLsn lsn list (NoSuchLsn lsn)) (refl, none)
 
   module _ (lsn : ℕ) (rows : List (ℕ × ℕ)) (boundary : IsListBoundary list_read lsn)
       (has : (opening : Opening) (h : List Placed) → HasViewed opening view h → HasBalances opening h lsn rows) where
     says-accounts : SaysAccounts lsn list_read (rows_text lsn rows)
-    says-accounts = (boundary, accounts-text list_read lsn rows boundary (has _ _ viewed))
+    says-accounts = (boundary, HasBalances-accounts_text list_read lsn rows boundary (has _ _ read-has_viewed))
 
     pub asof-fine : (old new : Option (List ℕ)) → Appends old new (rows_text lsn rows)
         → IfSome left (λ all. AnswersReport (SaysAccounts lsn) (RefusesLsn lsn) all left_new old new Fine)
     asof-fine old new written =
-        said (λ list. (text : List ℕ) × SaysAccounts lsn list text × Appends old new text) (rows_text lsn rows, says-accounts, written)
+        list_read-of_list (λ list. (text : List ℕ) × SaysAccounts lsn list text × Appends old new text) (rows_text lsn rows, says-accounts, written)
 
-    pub asof-cut : (old new : Option (List ℕ)) → AppendsPart old new (rows_text lsn rows)
+    pub asof-write : (old new : Option (List ℕ)) → AppendsPart old new (rows_text lsn rows)
         → IfSome left (λ all. AnswersReport (SaysAccounts lsn) (RefusesLsn lsn) all left_new old new Write)
-    asof-cut old new written =
-        said (λ list. (text : List ℕ) × SaysAccounts lsn list text × AppendsPart old new text) (rows_text lsn rows, says-accounts, written)
+    asof-write old new written =
+        list_read-of_list (λ list. (text : List ℕ) × SaysAccounts lsn list text × AppendsPart old new text) (rows_text lsn rows, says-accounts, written)
 
   module _ (account : ℕ) where
-    -- nothing is said of an account that isn't there
+    -- nothing is list_read-of_list of an account that isn't there
     pub statement-refused : (old new : Option (List ℕ))
         → ((opening : Opening) (h : List Placed) → HasViewed opening view h → (base_with opening h).accounts ≤ account)
         → IfSome left (λ all. AnswersReport (SaysStatement account) (RefusesAccount account) all left_new old new (NoAccount account))
     statement-refused old new none =
-        said (λ list. RefusesAccount account list (NoAccount account)) (refl, λ inside. omega (arith, inside, none _ _ viewed))
+        list_read-of_list (λ list. RefusesAccount account list (NoAccount account)) (refl, λ inside. omega (arith, inside, none _ _ read-has_viewed))
 
     module _ (balance : ℕ) (entries : List Entry)
         (first : (opening : Opening) (h : List Placed) → HasViewed opening view h
@@ -134,18 +134,18 @@ module _ (left left_new : Option (List ℕ)) (view : View) (listed : Listed) (re
 
       says-statement : SaysStatement account list_read text_written
       says-statement = (
-        (first _ _ viewed).0,
-        ap (λ (n : ℕ). statement_lines n entries listed.tail.next) (first _ _ viewed).1
-            ∙ ap (λ es. statement_lines ((base_in list_read).balance account) es listed.tail.next) (each _ _ viewed).1
+        (first _ _ read-has_viewed).0,
+        ap (λ (n : ℕ). statement_lines n entries listed.tail.next) (first _ _ read-has_viewed).1
+            ∙ ap (λ es. statement_lines ((base_in list_read).balance account) es listed.tail.next) (each _ _ read-has_viewed).1
             ∙ ap (λ (n : ℕ). statement_lines ((base_in list_read).balance account) (entries_of (opening_before list_read) (placed list_read) account) n) read.2.has.end,
       )
 
       pub statement-fine : (old new : Option (List ℕ)) → Appends old new text_written
           → IfSome left (λ all. AnswersReport (SaysStatement account) (RefusesAccount account) all left_new old new Fine)
       statement-fine old new written =
-          said (λ list. (text : List ℕ) × SaysStatement account list text × Appends old new text) (text_written, says-statement, written)
+          list_read-of_list (λ list. (text : List ℕ) × SaysStatement account list text × Appends old new text) (text_written, says-statement, written)
 
-      pub statement-cut : (old new : Option (List ℕ)) → AppendsPart old new text_written
+      pub statement-write : (old new : Option (List ℕ)) → AppendsPart old new text_written
           → IfSome left (λ all. AnswersReport (SaysStatement account) (RefusesAccount account) all left_new old new Write)
-      statement-cut old new written =
-          said (λ list. (text : List ℕ) × SaysStatement account list text × AppendsPart old new text) (text_written, says-statement, written)
+      statement-write old new written =
+          list_read-of_list (λ list. (text : List ℕ) × SaysStatement account list text × AppendsPart old new text) (text_written, says-statement, written)

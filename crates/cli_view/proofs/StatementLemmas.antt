@@ -4,7 +4,7 @@ use Rattle.std.specs.List.{flat_map}
 use Rattle.std.proofs.lemmas.List.{take_more, take_all, take-append-drop}
 use Rattle.std.proofs.lemmas.List.Concat.{flat_map-append}
 use Rattle.log_disk.specs.Streams.{AppendsPart, AppendsBut}
-use Rattle.log_disk.proofs.Blocks.{AppendsBut-more, AppendsBut-part, AppendsPart-first}
+use Rattle.log_disk.proofs.Blocks.{AppendsBut-trans, AppendsBut-trans_part_of_piece, AppendsPart-append}
 use Rattle.log_recovery.specs.Text.{lsn_line}
 use Rattle.ledger_view.specs.declared.entries.Entry.{Entry}
 use Rattle.cli_view.specs.Reports.{entry_line, open_line, statement_lines}
@@ -14,11 +14,11 @@ abbrev pub lines_before : ℕ → List Entry → ℕ → List ℕ
 lines_before balance entries i = open_line balance ++ flat_map entry_line (take i entries)
 
 -- of the first line a part is written, and nothing waited before it
-pub first-cut : (balance : ℕ) (entries : List Entry) (end : ℕ) (old new : Option (List ℕ)) (waiting piece : List ℕ) → waiting ≡ []
+pub open_line-appends_part : (balance : ℕ) (entries : List Entry) (end : ℕ) (old new : Option (List ℕ)) (waiting piece : List ℕ) → waiting ≡ []
     → piece ≡ open_line balance → AppendsPart old new (waiting ++ piece) → AppendsPart old new (statement_lines balance entries end)
-first-cut balance entries end old new waiting piece none is cut =
+open_line-appends_part balance entries end old new waiting piece none is cut =
     let line = subst (λ first. AppendsPart old new (first ++ open_line balance)) none (subst (λ line. AppendsPart old new (waiting ++ line)) is cut) in
-    AppendsPart-first old new _ _ _ line (append_assoc (open_line balance) (flat_map entry_line entries) (lsn_line end))
+    AppendsPart-append old new _ _ _ line (append_assoc (open_line balance) (flat_map entry_line entries) (lsn_line end))
 
 module _ (balance : ℕ) (entries : List Entry) (end : ℕ) (old middle new : Option (List ℕ)) (waiting : List ℕ) where
   module _ (i : ℕ) (entry : Entry) (inside : i < length entries) (is : entry ≡ get_or entries i entry)
@@ -31,10 +31,10 @@ module _ (balance : ℕ) (entries : List Entry) (end : ℕ) (old middle new : Op
         ∙ sym (append_assoc (open_line balance) (flat_map entry_line (take i entries)) (entry_line entry))
 
     -- one more line is put
-    pub line-more : (waiting' : List ℕ) → AppendsBut middle new (waiting ++ entry_line entry) waiting'
+    pub entry_line-appends_but : (waiting' : List ℕ) → AppendsBut middle new (waiting ++ entry_line entry) waiting'
         → AppendsBut old new (lines_before balance entries (i + 1)) waiting'
-    line-more waiting' line =
-        subst (λ bytes. AppendsBut old new bytes waiting') (sym line-added) (AppendsBut-more old middle new _ waiting before (entry_line entry) waiting' line)
+    entry_line-appends_but waiting' line =
+        subst (λ bytes. AppendsBut old new bytes waiting') (sym line-added) (AppendsBut-trans old middle new _ waiting before (entry_line entry) waiting' line)
 
     lines-split : statement_lines balance entries end
         ≡ lines_before balance entries (i + 1) ++ (flat_map entry_line (drop (i + 1) entries) ++ lsn_line end)
@@ -47,9 +47,9 @@ module _ (balance : ℕ) (entries : List Entry) (end : ℕ) (old middle new : Op
         ∙ append_assoc (open_line balance ++ first) later (lsn_line end)
 
     -- of the lines with one more a part is written
-    pub line-cut : AppendsPart middle new (waiting ++ entry_line entry) → AppendsPart old new (statement_lines balance entries end)
-    line-cut cut =
-        AppendsPart-first old new _ _ _ (AppendsBut-part old middle new _ waiting before (entry_line entry) cut)
+    pub entry_line-appends_part : AppendsPart middle new (waiting ++ entry_line entry) → AppendsPart old new (statement_lines balance entries end)
+    entry_line-appends_part cut =
+        AppendsPart-append old new _ _ _ (AppendsBut-trans_part_of_piece old middle new _ waiting before (entry_line entry) cut)
         (lines-split ∙ ap (λ lines. lines ++ (flat_map entry_line (drop (i + 1) entries) ++ lsn_line end)) line-added)
 
   module _ (i : ℕ) (past : length entries ≤ i) (before : AppendsBut old middle (lines_before balance entries i) waiting) where
@@ -57,10 +57,10 @@ module _ (balance : ℕ) (entries : List Entry) (end : ℕ) (old middle new : Op
     whole = ap (λ es. open_line balance ++ flat_map entry_line es ++ lsn_line end) (sym (take_all i entries past))
 
     -- the end is put
-    pub end-put : (waiting' : List ℕ) → AppendsBut middle new (waiting ++ lsn_line end) waiting'
+    pub lsn_line-appends_but : (waiting' : List ℕ) → AppendsBut middle new (waiting ++ lsn_line end) waiting'
         → AppendsBut old new (statement_lines balance entries end) waiting'
-    end-put waiting' line =
-        subst (λ bytes. AppendsBut old new bytes waiting') (sym whole) (AppendsBut-more old middle new _ waiting before (lsn_line end) waiting' line)
+    lsn_line-appends_but waiting' line =
+        subst (λ bytes. AppendsBut old new bytes waiting') (sym whole) (AppendsBut-trans old middle new _ waiting before (lsn_line end) waiting' line)
 
-    pub end-cut : AppendsPart middle new (waiting ++ lsn_line end) → AppendsPart old new (statement_lines balance entries end)
-    end-cut cut = subst (AppendsPart old new) (sym whole) (AppendsBut-part old middle new _ waiting before (lsn_line end) cut)
+    pub lsn_line-appends_part : AppendsPart middle new (waiting ++ lsn_line end) → AppendsPart old new (statement_lines balance entries end)
+    lsn_line-appends_part cut = subst (AppendsPart old new) (sym whole) (AppendsBut-trans_part_of_piece old middle new _ waiting before (lsn_line end) cut)

@@ -37,9 +37,9 @@ asks-demo subcommand.Follow rows log n seed options asked = let other = asked in
 asks-demo subcommand.AsOf rows log n seed options asked = let other = asked.2 in cc
 asks-demo subcommand.Statement rows log n seed options asked = let other = asked.2 in cc
 
-pub run-options : (words : List (List ℕ)) (log : List ℕ) (options : RunOptions) → IsCommandLine words (Run log options) → AreInRange options
-run-options words log options asked = asks-run asked.subcommand asked.rows log options asked.asked
+pub run_options-in_range : (words : List (List ℕ)) (log : List ℕ) (options : RunOptions) → IsCommandLine words (Run log options) → AreInRange options
+run_options-in_range words log options asked = asks-run asked.subcommand asked.rows log options asked.asked
 
-pub demo-options : (words : List (List ℕ)) (log : List ℕ) (n seed : ℕ) (options : RunOptions) → IsCommandLine words (Demo log n seed options)
+pub demo_options-in_range : (words : List (List ℕ)) (log : List ℕ) (n seed : ℕ) (options : RunOptions) → IsCommandLine words (Demo log n seed options)
     → AreInRange options
-demo-options words log n seed options asked = asks-demo asked.subcommand asked.rows log n seed options asked.asked
+demo_options-in_range words log n seed options asked = asks-demo asked.subcommand asked.rows log n seed options asked.asked

@@ -12,7 +12,7 @@ use Rattle.command_line.specs.declared.command.Subcommand.{Subcommand}
 use Rattle.command_line.specs.declared.command.Subcommand.TheVariants.{New, Run, Recover, Dump, Demo, Cut, Upgrade, Ship, Follow, AsOf, Statement}
 use Rattle.command_line.specs.declared.options.RunOptions.{RunOptions}
 use Rattle.command_line.proofs.Facts.{named_some, named-one}
-use Rattle.command_line.proofs.OptionLemmas.{one-given, one-options}
+use Rattle.command_line.proofs.OptionLemmas.{IsGiven-same, AreOptions-same}
 
 same-pair : {A B : Type 0} (p q : A × B) → Some p ≡ Some q → (p.0 ≡ q.0) × (p.1 ≡ q.1)
 same-pair p q same = let equal : p ≡ q = cc in (ap (λ r. r.0) equal, ap (λ r. r.1) equal)
@@ -45,20 +45,20 @@ name_of-injective this other same =
 one-number : (rows : List Row) (argument : List ℕ) (most : ℕ) (with_number : ℕ → Command) (one other : Command) → most < 2 ^ 32
     → AsksNumber rows argument most with_number one → AsksNumber rows argument most with_number other → one ≡ other
 one-number rows argument most with_number one other small is also =
-    is.2 ∙ ap with_number (one-given rows argument most is.0 also.0 small is.1 also.1) ∙ sym also.2
+    is.2 ∙ ap with_number (IsGiven-same rows argument most is.0 also.0 small is.1 also.1) ∙ sym also.2
 
 one-demo : (rows : List Row) (transfers seed n more-seed : ℕ) (options more : RunOptions) → IsDemo rows transfers seed options
     → IsDemo rows n more-seed more → command.Demo (log_in rows) transfers seed options ≡ command.Demo (log_in rows) n more-seed more
 one-demo rows transfers seed n more-seed options more are also =
-    let same-n : transfers ≡ n = one-given rows _ _ transfers n (omega arith) are.transfers_given also.transfers_given in
-    let same-seed : seed ≡ more-seed = one-given rows _ _ seed more-seed (omega arith) are.seed_given also.seed_given in
-    let same-options : options ≡ more = one-options rows options more are.options_are also.options_are in
+    let same-n : transfers ≡ n = IsGiven-same rows _ _ transfers n (omega arith) are.transfers_given also.transfers_given in
+    let same-seed : seed ≡ more-seed = IsGiven-same rows _ _ seed more-seed (omega arith) are.seed_given also.seed_given in
+    let same-options : options ≡ more = AreOptions-same rows options more are.options_are also.options_are in
     λ i. command.Demo (log_in rows) (same-n i) (same-seed i) (same-options i)
 
 one-asked : (this : Subcommand) (rows : List Row) (one other : Command) → Asks this rows one → Asks this rows other → one ≡ other
 one-asked New rows one other is also = is ∙ sym also
 one-asked Run rows one other is also =
-    is.2 ∙ ap (command.Run (log_in rows)) (one-options rows is.0 also.0 is.1 also.1) ∙ sym also.2
+    is.2 ∙ ap (command.Run (log_in rows)) (AreOptions-same rows is.0 also.0 is.1 also.1) ∙ sym also.2
 one-asked Recover rows one other is also = is ∙ sym also
 one-asked Dump rows one other is also = is ∙ sym also
 one-asked Demo rows one other is also = is.4 ∙ one-demo rows is.0 is.1 also.0 also.1 is.2 also.2 is.3 also.3 ∙ sym also.4
@@ -102,13 +102,13 @@ module _ (words : List (List ℕ)) where
       subst (λ r. Asks this r command) (sym same.1)
       (subst (λ s. Asks s more command) (sym (name_of-injective this other same.0)) asked)
 
-  pub asks-one : (one other : Command) → IsCommandLine words one → IsCommandLine words other → one ≡ other
-  asks-one one other is also = one-asked is.subcommand is.rows one other is.asked
+  pub IsCommandLine-same : (one other : Command) → IsCommandLine words one → IsCommandLine words other → one ≡ other
+  IsCommandLine-same one other is also = one-asked is.subcommand is.rows one other is.asked
       (same-asked is.subcommand also.subcommand is.rows also.rows other is.named also.named also.asked)
 
   -- words that are known ask something, but for subcommands that are given numbers
-  pub asks-some : AreKnown words → AreTaken words ⊎ NamesNumbers words
-  asks-some known =
+  pub AreKnown-taken_or_numbers : AreKnown words → AreTaken words ⊎ NamesNumbers words
+  AreKnown-taken_or_numbers known =
       let found = some-pair (subcommand_of aether_command words) (named_some words known) in
       let this = named-one words found.0.0 found.0.1 found.1 in
       let named : NamesSubcommand words (name_of this.0) found.0.1 = subst (λ name. NamesSubcommand words name found.0.1) this.1 found.1 in
@@ -128,14 +128,14 @@ module _ (words : List (List ℕ)) where
         none taken.0 (same-asked this taken.1.subcommand rows taken.1.rows taken.0 named taken.1.named taken.1.asked)
 
     -- what is answered for the subcommand that words name is what they ask, or that they ask nothing
-    pub answers-words : AreKnown words → (result : Result Command RefusedWords) → Answers this rows result
+    pub Answers-command_or_refusal : AreKnown words → (result : Result Command RefusedWords) → Answers this rows result
         → MatchResult result (IsCommandLine words) (IsRefusalOf words)
-    answers-words known (Ok command) is = record { known = known; subcommand = this; rows = rows; named = named; asked = is }
-    answers-words known (Err fault) (inl memory) = subst (IsRefusalOf words) (sym memory) tt
-    answers-words known (Err fault) (inr usage) = subst (IsRefusalOf words) (sym usage.0) (none-asked usage.1)
+    Answers-command_or_refusal known (Ok command) is = record { known = known; subcommand = this; rows = rows; named = named; asked = is }
+    Answers-command_or_refusal known (Err fault) (inl memory) = subst (IsRefusalOf words) (sym memory) tt
+    Answers-command_or_refusal known (Err fault) (inr usage) = subst (IsRefusalOf words) (sym usage.0) (none-asked usage.1)
 
-    pub refuses-numbers : (result : Result Command RefusedWords) → Answers this rows result
+    pub Answers-memory_or_numbers : (result : Result Command RefusedWords) → Answers this rows result
         → IfErr result (λ fault. (fault ≡ NoMemory) ⊎ NamesBadNumbers words)
-    refuses-numbers (Ok command) is = tt
-    refuses-numbers (Err fault) (inl memory) = inl memory
-    refuses-numbers (Err fault) (inr usage) = inr (this, rows, has-numbers this rows usage.1, named, usage.1)
+    Answers-memory_or_numbers (Ok command) is = tt
+    Answers-memory_or_numbers (Err fault) (inl memory) = inl memory
+    Answers-memory_or_numbers (Err fault) (inr usage) = inr (this, rows, has-numbers this rows usage.1, named, usage.1)

@@ -22,13 +22,13 @@ power-of_digits (suc digits) n short one =
       | inr odd ↦ (0, (let none = zero_from_ones (n / 2) (omega arith) in omega arith))
     ]
 
-pub power-one : (n : ℕ) → count_ones n ≡ 1 → (k : ℕ) × (n ≡ 2 ^ k)
-power-one n = power-of_digits n n (omega arith)
+pub count_ones-power_of_two : (n : ℕ) → count_ones n ≡ 1 → (k : ℕ) × (n ≡ 2 ^ k)
+count_ones-power_of_two n = power-of_digits n n (omega arith)
 
-pub one-power : (k : ℕ) → count_ones (2 ^ k) ≡ 1
-one-power zero = let step = ones_step 1 in omega (arith, ones_le_self 1)
-one-power (suc k) =
+pub power_of_two-count_ones : (k : ℕ) → count_ones (2 ^ k) ≡ 1
+power_of_two-count_ones zero = let step = ones_step 1 in omega (arith, ones_le_self 1)
+power_of_two-count_ones (suc k) =
     let twice = pow-suc 2 k in
     let half : 2 ^ suc k / 2 ≡ 2 ^ k = omega arith in
-    let before = one-power k in
+    let before = power_of_two-count_ones k in
     omega (arith, ones_step (2 ^ suc k), ap count_ones half, before)

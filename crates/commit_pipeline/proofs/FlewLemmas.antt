@@ -1,7 +1,7 @@
 -- What a flush, or a step of the seat alone, does to a flusher, in the words of what turns leave.
 use Rattle.std.proofs.Common.{◌≡◌, ◌≤◌, ◌+◌, ◌*◌, ◌∙◌, sym, ap, refl, subst, inl, inr, ℕ, List, [], ◌++◌, length, append-nil, arith}
 use Rattle.log_disk.proofs.Counting.{Costs-none}
-use Rattle.log_disk.proofs.Lengths.{GrowsAtMostTo-more, GrowsAtMostTo-same}
+use Rattle.log_disk.proofs.Lengths.{GrowsAtMostTo-weaken, GrowsAtMostTo-same}
 use Rattle.log_disk.specs.Costs.{Costs}
 use Rattle.log_disk.specs.Disk.{Leaves}
 use Rattle.log_disk.specs.Lengths.{GrowsAtMostTo}
@@ -53,19 +53,19 @@ Wrote-none g f = record {
 }
 
 -- a step of the seat alone writes nothing
-pub Wrote-seat : {D : Type 0} (g : Ghosts D) (more cut : List Rec) (most : ℕ) (old mid new : Flusher D g) → ChangesSeat mid new
+pub Wrote-changes_seat : {D : Type 0} (g : Ghosts D) (more cut : List Rec) (most : ℕ) (old mid new : Flusher D g) → ChangesSeat mid new
     → Wrote g more cut most old mid.tail mid.disk.now → Wrote g more cut most old new.tail new.disk.now
-Wrote-seat g more cut most old mid new alone wrote =
+Wrote-changes_seat g more cut most old mid new alone wrote =
     subst (λ (f : Flusher _ _). Wrote g more cut most old f.tail f.disk.now) (sym alone.1) wrote
 
-pub Flew-step : {D : Type 0} (g : Ghosts D) (old new : Flusher D g) → ChangesSeat old new
+pub Flew-changes_seat : {D : Type 0} (g : Ghosts D) (old new : Flusher D g) → ChangesSeat old new
     → (view_of new.seat).constants ≡ (view_of old.seat).constants
     → sent_of new ≡ sent_of old → (view_of new.seat).sending.read ≡ [] → Flew g [] [] 0 old new
-Flew-step g old new alone constants sent read = record {
+Flew-changes_seat g old new alone constants sent read = record {
   constants = constants;
   sent = sent ∙ sym (append-nil (sent_of old));
   read = read;
-  wrote = Wrote-seat g [] [] 0 old old new alone (Wrote-none g old);
+  wrote = Wrote-changes_seat g [] [] 0 old old new alone (Wrote-none g old);
 }
 
 -- the list before is a front of the records, and so is it with all of them
@@ -98,7 +98,7 @@ module _ {D : Type 0} (g : Ghosts D) (old new : Flusher D g) (from to : ℕ) (re
         (sends.stands honest log stood);
     count = sends.writes.count;
     tail = omega (arith, ap (λ (tail : Tail). tail.at) sends.tail, sends.some, sends.whole, ap length sends.spelled.units_are);
-    grows = λ honest. GrowsAtMostTo-more g (old.tail.at + 6 + 8 * length sends.units) _ old.disk.now new.disk.now
+    grows = λ honest. GrowsAtMostTo-weaken g (old.tail.at + 6 + 8 * length sends.units) _ old.disk.now new.disk.now
         (omega (arith, sends.some, sends.whole, ap length sends.spelled.units_are)) (sends.writes.grows honest);
   }
 
@@ -123,7 +123,7 @@ module _ {D : Type 0} (g : Ghosts D) (old new : Flusher D g) (ready : MayFlush g
     stands = λ none. absurd (omega (arith, loses.some, ap length loses.spelled.units_are, ap (λ rs. length (units_of rs)) none));
     count = loses.writes.count;
     tail = omega (arith, ap (λ (tail : Tail). tail.at) loses.tail);
-    grows = λ honest. GrowsAtMostTo-more g (old.tail.at + 6 + 8 * length loses.units) _ old.disk.now new.disk.now
+    grows = λ honest. GrowsAtMostTo-weaken g (old.tail.at + 6 + 8 * length loses.units) _ old.disk.now new.disk.now
         (omega (arith, loses.few)) (loses.writes.grows honest);
   }
 
@@ -146,5 +146,5 @@ Flew-stop g more cut most word old mid new flew stops =
       constants = ap (λ (v : View). v.constants) is ∙ flew.constants;
       sent = ap (λ (v : View). v.sending.sent) is ∙ flew.sent;
       read = ap (λ (v : View). v.sending.read) is ∙ flew.read;
-      wrote = Wrote-seat g more cut most old mid new stops.rest flew.wrote;
+      wrote = Wrote-changes_seat g more cut most old mid new stops.rest flew.wrote;
     }

@@ -40,10 +40,10 @@ either-prop log unit units bytes (inr a) (inr b) = ap inr (HoldsLog-prop bytes (
 either-prop log unit units bytes (inl a) (inr b) = absurd (log-longer log unit units (one_reading-log bytes _ _ a b))
 either-prop log unit units bytes (inr a) (inl b) = absurd (log-longer log unit units (one_reading-log bytes _ _ b a))
 
-pub either-certain : (log : Log) (units bytes : List ℕ) → ∥ HoldsLogOrMore log units bytes ∥₁ → HoldsLogOrMore log units bytes
-either-certain log [] bytes either =
+pub HoldsLogOrMore-certain : (log : Log) (units bytes : List ℕ) → ∥ HoldsLogOrMore log units bytes ∥₁ → HoldsLogOrMore log units bytes
+HoldsLogOrMore-certain log [] bytes either =
     inl (∥∥₁_elim either (HoldsLog-prop bytes log) (λ held. ⊎_elim (λ is. is) (λ is. subst (HoldsLog bytes) (with_units-nil log) is) held))
-either-certain log (unit ∷ units) bytes either = ∥∥₁_elim either (either-prop log unit units bytes) (λ held. held)
+HoldsLogOrMore-certain log (unit ∷ units) bytes either = ∥∥₁_elim either (either-prop log unit units bytes) (λ held. held)
 
 -- what was written, where that is known
 record Written (xs ys all : List ℕ) : Type 0 where
@@ -107,9 +107,9 @@ module _ {D : Type 0} {K : Type 0} (g : Ghosts D) (h : SinkGhosts K) (old new : 
         (in_flight-read new.fault (view_of new.flusher.seat) ran.cut ran.in_flight) (keeps.now c image)))
 
     -- each image holds the log that stood and the records sent, or with them those in flight
-    pub Ran-now : (c : List ℕ) → g.images new.flusher.disk.now c
+    pub Ran-images_hold : (c : List ℕ) → g.images new.flusher.disk.now c
         → HoldsLogOrMore (with_units opened (units_of ran.more)) (units_of ran.cut) c
-    Ran-now c image = either-certain (with_units opened (units_of ran.more)) (units_of ran.cut) c
+    Ran-images_hold c image = HoldsLogOrMore-certain (with_units opened (units_of ran.more)) (units_of ran.cut) c
         (∥∥₁_elim (new.flusher.keeps (ran.same.flusher.honest.0 honest)) squash₁ (λ keeps. ∣ held-now c image keeps ∣₁))
 
   same-records : (begun now : View) → (since : SentSince begun now) → begun.sending.sent ≡ [] → now.sending.sent ≡ units_of ran.more
@@ -140,14 +140,14 @@ module _ {D : Type 0} {K : Type 0} (g : Ghosts D) (h : SinkGhosts K) (old new : 
       (subst (AppendsPrefix (h.held_bytes new.first.value) (h.held_bytes new.sink.now)) (text-same has.since) has.told)
 
   -- a prefix of the lines of what was sent was written
-  pub Ran-told : AppendsPrefix (h.held_bytes old.sink.now) (h.held_bytes new.sink.now) (text_of old.voice (durable old) ran.more)
-  Ran-told = prefix-certain (h.held_bytes old.sink.now) (h.held_bytes new.sink.now) (text_of old.voice (durable old) ran.more)
+  pub Ran-appends_prefix : AppendsPrefix (h.held_bytes old.sink.now) (h.held_bytes new.sink.now) (text_of old.voice (durable old) ran.more)
+  Ran-appends_prefix = prefix-certain (h.held_bytes old.sink.now) (h.held_bytes new.sink.now) (text_of old.voice (durable old) ran.more)
       (∥∥₁_elim new.told squash₁ (λ has. ∣ told-prefix has ∣₁))
 
   -- and all of them where nothing befell the daemon
-  pub Ran-told_all : new.fault ≡ None
+  pub Ran-appends_all : new.fault ≡ None
       → Appends (h.held_bytes old.sink.now) (h.held_bytes new.sink.now) (text_of old.voice (durable old) ran.more)
-  Ran-told_all fine =
+  Ran-appends_all fine =
       let has = (ran.may_turn fine).all_told in
       subst (λ first. Appends (h.held_bytes first) (h.held_bytes new.sink.now) (text_of old.voice (durable old) ran.more)) sink-first
       (subst (Appends (h.held_bytes new.first.value) (h.held_bytes new.sink.now)) (text-same has.since) has.told)

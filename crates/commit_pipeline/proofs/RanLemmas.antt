@@ -7,8 +7,8 @@ use Rattle.log_disk.specs.Disk.{Leaves}
 use Rattle.log_disk.specs.Lengths.{GrowsAtMostTo}
 use Rattle.log_disk.specs.declared.disk.LogDisk.{Ghosts}
 use Rattle.log_disk.specs.declared.sink.Sink.{Ghosts as SinkGhosts}
-use Rattle.log_disk.proofs.Counting.{Costs-more, Costs-then, CountsWhere-after}
-use Rattle.log_disk.proofs.Lengths.{GrowsAtMostTo-more, GrowsAtMostTo-trans}
+use Rattle.log_disk.proofs.Counting.{Costs-weaken, Costs-trans, CountsWhere-same_before}
+use Rattle.log_disk.proofs.Lengths.{GrowsAtMostTo-weaken, GrowsAtMostTo-trans}
 use Rattle.log_disk.proofs.Moments.{Leaves-trans, Leaves-weaken}
 use Rattle.log_record.specs.declared.rec.Rec.{Rec}
 use Rattle.log_record.specs.LogList.{units_of, end_of}
@@ -62,9 +62,9 @@ HoldsFront-behind before done more bytes some = record {
 }
 
 -- what was written then is a front of the lines of all the records, and not all
-pub TellsFront-part : (voice : Voice) (at : ℕ) (records : List Rec) (text : List ℕ) (before after : Tally)
+pub TellsFront-proper_front : (voice : Voice) (at : ℕ) (records : List Rec) (text : List ℕ) (before after : Tally)
     → TellsFront voice at records text before after → (rest : List ℕ) × (0 < length rest) × (text_of voice at records ≡ text ++ rest)
-TellsFront-part voice at records text before after front =
+TellsFront-proper_front voice at records text before after front =
     let later : List ℕ = text_of voice (at + length (units_of front.told)) front.untold in (
       front.unwritten ++ later,
       omega (arith, front.some, length-append front.unwritten later),
@@ -72,16 +72,16 @@ TellsFront-part voice at records text before after front =
           ∙ append_assoc text front.unwritten later,
     )
 
-pub TellsFront-text : (voice : Voice) (at : ℕ) (records : List Rec) (text : List ℕ) (before after : Tally)
+pub TellsFront-front : (voice : Voice) (at : ℕ) (records : List Rec) (text : List ℕ) (before after : Tally)
     → TellsFront voice at records text before after → (rest : List ℕ) × (text_of voice at records ≡ text ++ rest)
-TellsFront-text voice at records text before after front =
-    let part = TellsFront-part voice at records text before after front in (part.0, part.2)
+TellsFront-front voice at records text before after front =
+    let part = TellsFront-proper_front voice at records text before after front in (part.0, part.2)
 
 -- a daemon that only counts has no line to fail at
-pub TellsFront-speaks : (voice : Voice) (at : ℕ) (records : List Rec) (text : List ℕ) (before after : Tally)
+pub TellsFront-voice_lines : (voice : Voice) (at : ℕ) (records : List Rec) (text : List ℕ) (before after : Tally)
     → TellsFront voice at records text before after → voice ≡ Lines
-TellsFront-speaks Lines at records text before after front = refl
-TellsFront-speaks Count at records text before after front =
+TellsFront-voice_lines Lines at records text before after front = refl
+TellsFront-voice_lines Count at records text before after front =
     absurd (omega (arith, front.some, ap length front.lines, length-append text front.unwritten))
 
 pub none≢some : (fault : DaemonFault) → None ≢ Some fault
@@ -147,8 +147,8 @@ module _ {D : Type 0} {K : Type 0} (g : Ghosts D) (h : SinkGhosts K) (a b c : Da
   reason : HasReason g h a c
   reason = record {
     stop = stop c.fault second.reason.stop;
-    disk = CountsWhere-after _ _ _ _ (first.reason.disk.fine (kept DiskFault)) second.reason.disk;
-    sink = CountsWhere-after _ _ _ _ (first.reason.sink.fine (kept WriteFault)) second.reason.sink;
+    disk = CountsWhere-same_before _ _ _ _ (first.reason.disk.fine (kept DiskFault)) second.reason.disk;
+    sink = CountsWhere-same_before _ _ _ _ (first.reason.sink.fine (kept WriteFault)) second.reason.sink;
   }
 
   spellable-both : AllByRecursion IsSpellable ((first.more ++ second.more) ++ second.cut)
@@ -173,8 +173,8 @@ module _ {D : Type 0} {K : Type 0} (g : Ghosts D) (h : SinkGhosts K) (a b c : Da
     count-both =
         let extra_none = extra-fine b.fault fine in
         let long = length-append first.more second.more in
-        Costs-more g _ _ _ _ a.flusher.disk.now c.flusher.disk.now (omega (arith, extra_none, long)) (omega (arith, extra_none, long))
-        (Costs-then g (4 * length first.more + extra b.fault) (4 * length second.more + extra c.fault)
+        Costs-weaken g _ _ _ _ a.flusher.disk.now c.flusher.disk.now (omega (arith, extra_none, long)) (omega (arith, extra_none, long))
+        (Costs-trans g (4 * length first.more + extra b.fault) (4 * length second.more + extra c.fault)
         (4 * length first.more + extra b.fault) (4 * length second.more + extra c.fault)
         a.flusher.disk.now b.flusher.disk.now c.flusher.disk.now (first.count honest) (second.count still))
 
@@ -183,9 +183,9 @@ module _ {D : Type 0} {K : Type 0} (g : Ghosts D) (h : SinkGhosts K) (a b c : Da
     grows-both =
         let same_ring : ring_of b ≡ ring_of a = ap (λ (k : Constants). k.ring) first.constants in
         GrowsAtMostTo-trans g _ a.flusher.disk.now b.flusher.disk.now c.flusher.disk.now
-        (GrowsAtMostTo-more g (most_end (place_of a) (end_of first.more) (ring_of a)) _ a.flusher.disk.now b.flusher.disk.now
+        (GrowsAtMostTo-weaken g (most_end (place_of a) (end_of first.more) (ring_of a)) _ a.flusher.disk.now b.flusher.disk.now
         (omega (arith, ends)) (first.grows honest))
-        (GrowsAtMostTo-more g (most_end (place_of b) (end_of second.more) (ring_of b)) _ b.flusher.disk.now c.flusher.disk.now
+        (GrowsAtMostTo-weaken g (most_end (place_of b) (end_of second.more) (ring_of b)) _ b.flusher.disk.now c.flusher.disk.now
         (omega (arith, ends, first.tail, same_ring)) (second.grows still))
 
     module _ (log : Log) (stood : LogStands a.flusher.tail log (g.images a.flusher.disk.now)) where
@@ -243,9 +243,9 @@ Later-standing g h a b (inl same) = ap (λ d. (view_of d.flusher.seat).standing)
 Later-standing g h a b (inr ran) = ran.same.flusher.workers
 
 -- it is the same daemon
-pub Later-same : {D : Type 0} {K : Type 0} (g : Ghosts D) (h : SinkGhosts K) (a b : Daemon D K g h) → Later g h a b → IsSameDaemon g a b
-Later-same g h a b (inl same) = subst (IsSameDaemon g a) (sym same) (IsSameDaemon-refl g a)
-Later-same g h a b (inr ran) = ran.same
+pub Later-same_daemon : {D : Type 0} {K : Type 0} (g : Ghosts D) (h : SinkGhosts K) (a b : Daemon D K g h) → Later g h a b → IsSameDaemon g a b
+Later-same_daemon g h a b (inl same) = subst (IsSameDaemon g a) (sym same) (IsSameDaemon-refl g a)
+Later-same_daemon g h a b (inr ran) = ran.same
 
 -- what befell it since nothing had, has its reason
 pub Later-reason : {D : Type 0} {K : Type 0} (g : Ghosts D) (h : SinkGhosts K) (a b : Daemon D K g h) → Later g h a b → a.fault ≡ None

@@ -1,6 +1,6 @@
 -- One turn, and one question whether the log is drained, as what turns leave.
 use Rattle.std.proofs.Common.{◌≡◌, ◌≢◌, ◌∙◌, sym, ap, refl, subst, ℕ, ◌+◌, ◌*◌, ◌≤◌, ◌<◌, List, [], ◌∷◌, ◌++◌, length, append-nil, arith, Some, None}
-use Rattle.log_disk.proofs.Counting.{Costs-more}
+use Rattle.log_disk.proofs.Counting.{Costs-weaken}
 use Rattle.log_disk.specs.declared.disk.LogDisk.{Ghosts}
 use Rattle.log_disk.specs.declared.sink.Sink.{Ghosts as SinkGhosts}
 use Rattle.std.specs.List.{AllByRecursion}
@@ -15,7 +15,7 @@ use Rattle.flusher.specs.declared.flusher.Flusher.{Flusher}
 use Rattle.flusher.specs.Flushing.{Asks, ChangesSeat, IsSameSeat, sent_of}
 use Rattle.log_record.specs.LogList.{AreUnitsOf}
 use Rattle.flusher.proofs.Flushes.{IsSameSeat-becomes}
-use Rattle.daemon_turn.proofs.SameLemmas.{IsSame-seat}
+use Rattle.daemon_turn.proofs.SameLemmas.{IsSame-changes_seat}
 use Rattle.commit_pipeline.specs.declared.daemon.Daemon.{Daemon}
 use Rattle.daemon_turn.specs.declared.one_turn.Turn.{Turn}
 use Rattle.daemon_turn.specs.declared.one_turn.Turn.TheVariants.{Idle, Sent}
@@ -26,8 +26,8 @@ use Rattle.commit_pipeline.specs.Later.{InFlight, HasReason, StopTells, extra, R
 use Rattle.end_lines.specs.declared.voice.Voice.{Voice}
 use Rattle.end_lines.specs.Telling.{counted}
 use Rattle.commit_pipeline.specs.Turning.{ChangesFlusher, MayTurn, IsSameDaemon, Idles, SendsLines, LosesUnits, LosesLines, Turns, Fails, durable}
-use Rattle.commit_pipeline.proofs.FlewLemmas.{Flew, Flew-step, Flew-sends, Flew-loses, Flew-stop}
-use Rattle.commit_pipeline.proofs.RanLemmas.{none≢some, TellsFront-part, TellsFront-speaks}
+use Rattle.commit_pipeline.proofs.FlewLemmas.{Flew, Flew-changes_seat, Flew-sends, Flew-loses, Flew-stop}
+use Rattle.commit_pipeline.proofs.RanLemmas.{none≢some, TellsFront-proper_front, TellsFront-voice_lines}
 use Rattle.commit_pipeline.proofs.ToldSoFar.{HasToldPart-more}
 use Rattle.batch_lines.proofs.ToldLemmas.{counted-none}
 
@@ -56,7 +56,7 @@ module _ {D : Type 0} {K : Type 0} (g : Ghosts D) (h : SinkGhosts K) (old new : 
     counts = counts;
     part = part;
     reason = reason;
-    count = λ honest. Costs-more g most _ most _ old.flusher.disk.now new.flusher.disk.now count count (flew.wrote.count honest);
+    count = λ honest. Costs-weaken g most _ most _ old.flusher.disk.now new.flusher.disk.now count count (flew.wrote.count honest);
     tail = flew.wrote.tail;
     grows = flew.wrote.grows;
   }
@@ -131,7 +131,7 @@ module _ {D : Type 0} {K : Type 0} (g : Ghosts D) (h : SinkGhosts K) (old new : 
   told-unwritten ready lost same =
       let stopped = ap (λ m. m.0) lost.stops.seat.me in
       let flushed = ap (λ m. m.0) lost.flush.seat.me in
-      let (rest, some, lines) = TellsFront-part old.voice (durable old) lost.flush.records lost.text old.tally new.tally lost.tells in
+      let (rest, some, lines) = TellsFront-proper_front old.voice (durable old) lost.flush.records lost.text old.tally new.tally lost.tells in
       subst (λ (p : K × Voice × Seat). HasToldPart h p.0 new.sink.now p.1 (view_of p.2) (view_of new.flusher.seat))
       (λ i. (sym same.first i, sym same.voice i, sym same.begun i))
       (HasToldPart-more h old.first.value old.voice (view_of old.begun.value) old.sink.now (view_of old.flusher.seat)
@@ -146,7 +146,7 @@ module _ {D : Type 0} {K : Type 0} (g : Ghosts D) (h : SinkGhosts K) (old new : 
   unwritten-reason lost = record {
     stop = subst (StopTells old new) (sym lost.fault) (
       ap (λ m. m.0.sending.stop) lost.stops.seat.me,
-      TellsFront-speaks old.voice (durable old) lost.flush.records lost.text old.tally new.tally lost.tells,
+      TellsFront-voice_lines old.voice (durable old) lost.flush.records lost.text old.tally new.tally lost.tells,
     );
     disk = record { counted = λ failed. absurd cc; fine = λ sent. lost.disk_fine };
     sink = record { counted = λ failed. lost.rose; fine = λ written. absurd (written lost.fault) };
@@ -169,7 +169,7 @@ module _ {D : Type 0} {K : Type 0} (g : Ghosts D) (h : SinkGhosts K) (old new : 
     IsSameDaemon-step : IsSameSeat old.flusher.seat new.flusher.seat
         → (view_of new.flusher.seat).standing ≡ (view_of old.flusher.seat).standing → IsSameDaemon g old new
     IsSameDaemon-step seat workers = record {
-      flusher = IsSame-seat g old.flusher new.flusher seat_alone seat workers;
+      flusher = IsSame-changes_seat g old.flusher new.flusher seat_alone seat workers;
       sink = ap (λ (d : Daemon D K g h). d.sink.ghost_name) rest.1;
       voice = ap (λ (d : Daemon D K g h). d.voice) rest.1;
       first = ap (λ (d : Daemon D K g h). d.first.value) rest.1;
@@ -186,7 +186,7 @@ module _ {D : Type 0} {K : Type 0} (g : Ghosts D) (h : SinkGhosts K) (old new : 
     Ran-steps view becomes ready may constants entries books standing sent read stop =
         let is = ap (λ m. m.0) becomes.me in
         Ran-quiet ready
-        (Flew-step g old.flusher new.flusher seat_alone (ap (λ (v : View). v.constants) is ∙ constants)
+        (Flew-changes_seat g old.flusher new.flusher seat_alone (ap (λ (v : View). v.constants) is ∙ constants)
         (ap (λ (v : View). v.sending.sent) is ∙ sent)
         (ap (λ (v : View). v.sending.read) is ∙ read ∙ ready.flusher.unread))
         (IsSameDaemon-step (IsSameSeat-becomes _ _ view becomes constants entries books) (ap (λ (v : View). v.standing) is ∙ standing))

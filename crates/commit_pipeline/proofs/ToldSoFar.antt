@@ -53,9 +53,9 @@ module _ (begun now later : View) (since : SentSince begun now) (constants : lat
     length-append begun.sending.sent (units_of since.more),
   )
 
-  pub text-more : (voice : Voice) (records : List Rec) → text_of voice (sent_to begun) (since.more ++ records)
+  pub text_of-since_append : (voice : Voice) (records : List Rec) → text_of voice (sent_to begun) (since.more ++ records)
       ≡ text_of voice (sent_to begun) since.more ++ text_of voice (sent_to now) records
-  text-more voice records = text_of-append voice (sent_to begun) since.more records
+  text_of-since_append voice records = text_of-append voice (sent_to begun) since.more records
       ∙ ap (λ n. text_of voice (sent_to begun) since.more ++ text_of voice n records) (sym place)
 
 module _ {K : Type 0} (h : SinkGhosts K) (first : K) (voice : Voice) (begun : View) where
@@ -68,8 +68,8 @@ module _ {K : Type 0} (h : SinkGhosts K) (first : K) (voice : Voice) (begun : Vi
   }
 
   -- all is a prefix
-  pub HasTold-all : (sink : K) (now : View) → HasToldAll h first sink voice begun now → HasTold h first sink voice begun now
-  HasTold-all sink now all =
+  pub HasToldAll-has_told : (sink : K) (now : View) → HasToldAll h first sink voice begun now → HasTold h first sink voice begun now
+  HasToldAll-has_told sink now all =
       let text = text_of voice (sent_to begun) all.since.more in
       record { since = all.since; told = (text, [], sym (append-nil text), all.told) }
 
@@ -92,7 +92,7 @@ module _ {K : Type 0} (h : SinkGhosts K) (first : K) (voice : Voice) (begun : Vi
       HasToldAll-more lines = record {
         since = SentSince-more begun now later all.since constants units records spelled sent;
         told = subst (Appends (h.held_bytes first) (h.held_bytes sink'))
-            (ap (λ us. before ++ us) lines ∙ sym (text-more begun now later all.since constants voice records))
+            (ap (λ us. before ++ us) lines ∙ sym (text_of-since_append begun now later all.since constants voice records))
             (Appends-trans _ _ _ before text all.told appended);
       }
 
@@ -103,7 +103,7 @@ module _ {K : Type 0} (h : SinkGhosts K) (first : K) (voice : Voice) (begun : Vi
         told = (
           before ++ text,
           rest,
-          text-more begun now later all.since constants voice records ∙ ap (λ us. before ++ us) lines ∙ sym (append_assoc before text rest),
+          text_of-since_append begun now later all.since constants voice records ∙ ap (λ us. before ++ us) lines ∙ sym (append_assoc before text rest),
           Appends-trans _ _ _ before text all.told appended,
         );
       }

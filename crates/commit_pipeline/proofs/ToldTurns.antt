@@ -16,8 +16,8 @@ use Rattle.daemon_turn.specs.declared.one_turn.Turn.{Turn}
 use Rattle.daemon_turn.specs.declared.one_turn.Turn.TheVariants.{Idle, Sent}
 use Rattle.daemon_turn.specs.OneTurn.{FindsAll, SendsAndTells, CannotSend, CannotTell, Made, Failed}
 use Rattle.commit_pipeline.specs.Told.{HasTold, HasToldAll}
-use Rattle.commit_pipeline.proofs.RanLemmas.{TellsFront-text}
-use Rattle.commit_pipeline.proofs.ToldSoFar.{HasTold-all, HasToldAll-step, HasTold-step, HasToldAll-more, HasTold-more}
+use Rattle.commit_pipeline.proofs.RanLemmas.{TellsFront-front}
+use Rattle.commit_pipeline.proofs.ToldSoFar.{HasToldAll-has_told, HasToldAll-step, HasTold-step, HasToldAll-more, HasTold-more}
 
 module _ {D : Type 0} {K : Type 0} (g : Ghosts D) (h : SinkGhosts K) (voice : Voice) (old new : Flusher D g) (sink sink' first : K)
     (tally tally' : Tally) (begun : View) (all : HasToldAll h first sink voice begun (view_of old.seat))
@@ -56,7 +56,7 @@ module _ {D : Type 0} {K : Type 0} (g : Ghosts D) (h : SinkGhosts K) (voice : Vo
   told-lost lost =
       let read = ap (λ m. m.0) lost.flush.seat.me in
       let stopped = ap (λ m. m.0) lost.stops.seat.me in
-      HasTold-all h first voice begun sink' (view_of new.seat)
+      HasToldAll-has_told h first voice begun sink' (view_of new.seat)
       (subst (λ s. HasToldAll h first s voice begun (view_of new.seat)) (sym lost.sink_is)
       (HasToldAll-step h first voice begun sink now (view_of new.seat)
       (ap (λ (v : View). v.constants) stopped ∙ ap (λ (v : View). v.constants) read)
@@ -66,7 +66,7 @@ module _ {D : Type 0} {K : Type 0} (g : Ghosts D) (h : SinkGhosts K) (voice : Vo
   told-cut : CannotTell g h voice old new sink sink' tally tally' → HasTold h first sink' voice begun (view_of new.seat)
   told-cut cut =
       let stopped = ap (λ m. m.0) cut.stops.seat.me in
-      let (rest, lines) = TellsFront-text voice _ cut.flush.records cut.text tally tally' cut.tells in
+      let (rest, lines) = TellsFront-front voice _ cut.flush.records cut.text tally tally' cut.tells in
       HasTold-step h first voice begun sink' (view_of cut.sent.seat) (view_of new.seat) (ap (λ (v : View). v.constants) stopped)
       (HasTold-more h first voice begun sink now (view_of cut.sent.seat)
       (ap (λ (v : View). v.constants) (ap (λ m. m.0) cut.flush.seat.me)) all
@@ -81,7 +81,7 @@ module _ {D : Type 0} {K : Type 0} (g : Ghosts D) (h : SinkGhosts K) (voice : Vo
   -- whatever it answers, what was told is a prefix of the lines of what was sent
   pub HasTold-turn : (result : Result Turn DaemonFault) → IfOk result (Made g h voice old new sink sink' tally tally')
       → IfErr result (Failed g h voice old new sink sink' tally tally') → HasTold h first sink' voice begun (view_of new.seat)
-  HasTold-turn (Ok turn) made failed = HasTold-all h first voice begun sink' (view_of new.seat) (HasToldAll-made turn made)
+  HasTold-turn (Ok turn) made failed = HasToldAll-has_told h first voice begun sink' (view_of new.seat) (HasToldAll-made turn made)
   HasTold-turn (Err fault) made failed = told-failed fault failed
 
 -- a question whether the log is drained sends nothing

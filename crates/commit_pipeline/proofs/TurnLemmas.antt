@@ -17,9 +17,9 @@ use Rattle.commit_pipeline.specs.declared.daemon.Daemon.{Daemon}
 use Rattle.commit_pipeline.specs.Told.{HasTold, HasToldAll}
 use Rattle.commit_pipeline.specs.Turning.{ChangesFlusher, LosesLines, LosesUnits, MayTurn, IsSameDaemon, Turns, Fails}
 
-pub MayGoOn-turn : {D : Type 0} {K : Type 0} {h : SinkGhosts K} (g : Ghosts D) (d : Daemon D K g h) → MayTurn g d
+pub MayTurn-may_go_on : {D : Type 0} {K : Type 0} {h : SinkGhosts K} (g : Ghosts D) (d : Daemon D K g h) → MayTurn g d
     → MayGoOn g d.flusher d.tally
-MayGoOn-turn g d ready = record { flusher = ready.flusher; running = ready.running; counted = ready.counted }
+MayTurn-may_go_on g d ready = record { flusher = ready.flusher; running = ready.running; counted = ready.counted }
 
 module _ {D : Type 0} {K : Type 0} (g : Ghosts D) (h : SinkGhosts K) (old : Daemon D K g h) (f : Flusher D g) (sink : K) (tally : Tally)
     (told : ∥ HasTold h old.first.value sink old.voice (view_of old.begun.value) (view_of f.seat) ∥₁) where

@@ -5,7 +5,7 @@ use Rattle.log_table.specs.declared.table.Seat.{Seat}
 use Rattle.log_rule.specs.Books.{placing}
 use Rattle.log_table.specs.Seats.{Becomes, view_of}
 use Rattle.log_rule.specs.SlotViews.{saw_slot}
-use Rattle.log_rule.proofs.Contention.{contended-looked}
+use Rattle.log_rule.proofs.Contention.{contended_seeing-uncontended}
 use Rattle.ring_buffer.specs.Calls.{IsSameWorker}
 use Rattle.ring_buffer.specs.declared.refused.Refused.{Refused}
 use Rattle.ring_buffer.proofs.TwoCalls.{IsSameWorker-trans}
@@ -30,7 +30,7 @@ HasOnlyLooked-again first seat new slot word before looks = record {
   entries = ap (λ me. me.0.entries) looks.me ∙ before.entries;
   books = ap (λ me. me.0.books) looks.me ∙ before.books;
   stop = ap (λ me. me.0.seen.stop) looks.me ∙ before.stop;
-  alone = λ alone. ap (λ me. me.0.contended) looks.me ∙ contended-looked slot word (view_of seat) (before.alone alone);
+  alone = λ alone. ap (λ me. me.0.contended) looks.me ∙ contended_seeing-uncontended slot word (view_of seat) (before.alone alone);
 }
 
 HasSeenNoLess-since : (piece : Piece) (first seat new : Seat) → IsSameWorker first seat → HasSeenNoLess piece seat new → HasSeenNoLess piece first new

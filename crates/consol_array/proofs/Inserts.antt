@@ -36,9 +36,9 @@ IsOf-since table first second of same = record {
 }
 
 -- the rounds came to a group
-pub JoinsNext-way : (table : LogTable) (first joins : Seat) (n : ℕ) (way : Way) (joined : Joined) → way ≡ InGroup joined
+pub HasComeTo-JoinsNext : (table : LogTable) (first joins : Seat) (n : ℕ) (way : Way) (joined : Joined) → way ≡ InGroup joined
     → HasComeTo table first joins n way → JoinsNext table first joins n joined
-JoinsNext-way table first joins n way joined is = subst (λ (way : Way). HasComeTo table first joins n way) is
+HasComeTo-JoinsNext table first joins n way joined is = subst (λ (way : Way). HasComeTo table first joins n way) is
 
 -- the seat joined a group, and led it if it was the first
 module _ (table : LogTable) (first joins leads : Seat) (n : ℕ) (units : List ℕ) (joined : Joined) (has : JoinsNext table first joins n joined) (stays : HasOnlySeen joins leads)
@@ -49,8 +49,8 @@ module _ (table : LogTable) (first joins leads : Seat) (n : ℕ) (units : List �
 
     -- it heard where its group's range begins
     module _ (hears : Seat) (member : Member) (heard : HasHeardBase joined has.piece leads hears member) where
-      pub same-heard : IsSameWorker first hears
-      same-heard = heard.same first same-led (omega (arith, has.same.grows, has.tail_seen)) (omega (arith, has.same.durable, has.durable_seen))
+      pub IsSameWorker-heard : IsSameWorker first hears
+      IsSameWorker-heard = heard.same first same-led (omega (arith, has.same.grows, has.tail_seen)) (omega (arith, has.same.durable, has.durable_seen))
 
       call-heard : IsAtStep member.slot has.piece (Fills heard.base []) (view_of hears)
       call-heard = subst (λ slot. IsAtStep slot has.piece (Fills heard.base []) (view_of hears)) (sym heard.slot_is) heard.call
@@ -61,8 +61,8 @@ module _ (table : LogTable) (first joins leads : Seat) (n : ℕ) (units : List �
         call-filled = subst (λ slot. IsAtStep slot has.piece (Fills heard.base units) (view_of fills)) (sym is.slot_is)
             (ap (λ me. me.0.call) copies.me ∙ ap (filled_with units) call-heard)
 
-        pub same-filled : (view_of hears).seen.steps ≤ steps → IsSameWorker first fills
-        same-filled later = IsSameWorker-trans first hears fills same-heard (IsSameWorker-becomes hears fills (with_units units steps (view_of hears)) copies record {
+        pub IsSameWorker-filled : (view_of hears).seen.steps ≤ steps → IsSameWorker first fills
+        IsSameWorker-filled later = IsSameWorker-trans first hears fills IsSameWorker-heard (IsSameWorker-becomes hears fills (with_units units steps (view_of hears)) copies record {
           constants = refl;
           standing = refl;
           tail = le_refl (view_of hears).seen.tail;
@@ -91,7 +91,7 @@ module _ (table : LogTable) (first joins leads : Seat) (n : ℕ) (units : List �
               → HasEntries first last ((view_of first).entries ++ entry_of at (next_of (view_of first).books) ∷ [])
               (placing (at + length units) (next_of (view_of first).books) (view_of first).books)
           HasEntries-freed at at-is later alone = record {
-            same = IsSameWorker-trans first fills last (same-filled later) frees.same;
+            same = IsSameWorker-trans first fills last (IsSameWorker-filled later) frees.same;
             idle = frees.idle;
             contended = frees.contended ∙ (ap (λ me. me.0.contended) copies.me ∙ (heard.alone (stays.contended ∙ has.alone) ∙ sym alone));
             entries_are = frees.entries_are
@@ -104,13 +104,13 @@ module _ (table : LogTable) (first joins leads : Seat) (n : ℕ) (units : List �
     module _ (of : IsOf table first) (hears : Seat) (refused : Refused) (leaver : Leaver)
         (heard : HasHeardRefusal table.ring joined has.piece leads hears refused leaver)
       where
-        pub same-refused : IsSameWorker first hears
-        same-refused = heard.same first same-led (omega (arith, has.same.grows, has.tail_seen)) (omega (arith, has.same.durable, has.durable_seen))
+        pub IsSameWorker-refused : IsSameWorker first hears
+        IsSameWorker-refused = heard.same first same-led (omega (arith, has.same.grows, has.tail_seen)) (omega (arith, has.same.durable, has.durable_seen))
 
         -- and left
         module _ (last : Seat) (leaves : HasEntries hears last (view_of hears).entries (view_of hears).books) where
           same-left : IsSameWorker first last
-          same-left = IsSameWorker-trans first hears last same-refused leaves.same
+          same-left = IsSameWorker-trans first hears last IsSameWorker-refused leaves.same
 
           pub HasEntries-left : (view_of first).contended ≡ false → HasEntries first last (view_of first).entries (view_of first).books
           HasEntries-left alone = record {

@@ -12,7 +12,7 @@ use Rattle.log_rule.specs.SlotViews.{own_slot_of, saw_slot, joined_slot, call_se
 use Rattle.log_rule.proofs.Contention.{clears-unless_gathering, clears-without_room}
 use Rattle.ring_buffer.specs.Calls.{MayPlace}
 use Rattle.consol_array.specs.Joining.{IsStateJoined, LacksSlotRoom}
-use Rattle.consol_array.proofs.Keeping.{Becomes-then}
+use Rattle.consol_array.proofs.Keeping.{Becomes-trans}
 
 -- the first state is that which it saw
 module _ (table : LogTable) (old mid : Seat) (n slot : ℕ) (from : SlotWord) (of : IsOf table old) (looks : Becomes old mid (saw_slot slot (word_of from) (view_of old)))
@@ -30,15 +30,15 @@ module _ (table : LogTable) (old mid : Seat) (n slot : ℕ) (from : SlotWord) (o
       room = subst (λ (p : ℕ × ℕ). from.total + p.0 ≤ p.1 / 4) (λ i. (next.size i, sym of.ring i)) joins.room.room;
     }
 
-    pub Becomes-joined : (new : Seat) (offset : ℕ) → offset ≡ from.total → Becomes mid new (joined_slot slot from.total (word_of from) (view_of mid))
+    pub Becomes-looked_and_joined : (new : Seat) (offset : ℕ) → offset ≡ from.total → Becomes mid new (joined_slot slot from.total (word_of from) (view_of mid))
         → Becomes old new (joined_slot slot offset (word_of from) (saw_slot slot (word_of from) (view_of old)))
-    Becomes-joined new offset is joins =
-        Becomes-then old mid new (saw_slot slot (word_of from) (view_of old)) (λ view. joined_slot slot offset (word_of from) view) looks
+    Becomes-looked_and_joined new offset is joins =
+        Becomes-trans old mid new (saw_slot slot (word_of from) (view_of old)) (λ view. joined_slot slot offset (word_of from) view) looks
         (subst (λ total. Becomes mid new (joined_slot slot total (word_of from) (view_of mid))) (sym is) joins)
 
     -- by that state the group took no more
-    pub alone-turned_away : slot ≡ own_slot_of (view_of old) → MayPlace n (view_of old).books → LacksSlotRoom table.ring n from → (view_of mid).contended ≡ false
-    alone-turned_away own next lacks = ap (λ me. me.0.contended) looks.me ∙ (ap (λ k. contended_seeing k (word_of from) (view_of old)) own
+    pub LacksSlotRoom-uncontended : slot ≡ own_slot_of (view_of old) → MayPlace n (view_of old).books → LacksSlotRoom table.ring n from → (view_of mid).contended ≡ false
+    LacksSlotRoom-uncontended own next lacks = ap (λ me. me.0.contended) looks.me ∙ (ap (λ k. contended_seeing k (word_of from) (view_of old)) own
         ∙ ⊎_elim (λ (other : from.phase ≢ Gathering). clears-unless_gathering (word_of from) (view_of old)
         (λ is. other (sym (phase_back from.phase from.total from.remaining from.total_fits from.remaining_fits) ∙ is)))
         (λ (over : table.ring / 4 < from.total + n). clears-without_room (word_of from) (view_of old)

@@ -8,9 +8,9 @@ use Rattle.ring_buffer.specs.Calls.{IsSameWorker}
 use Rattle.ring_buffer.proofs.OneStep.{IsSameWorker-becomes}
 
 -- one step after another
-pub Becomes-then : (first second third : Seat) (view : View) (f : View → View) → Becomes first second view → Becomes second third (f (view_of second))
+pub Becomes-trans : (first second third : Seat) (view : View) (f : View → View) → Becomes first second view → Becomes second third (f (view_of second))
     → Becomes first third (f view)
-Becomes-then first second third view f before after = record {
+Becomes-trans first second third view f before after = record {
   table_is = after.table_is ∙ before.table_is;
   number = after.number ∙ before.number;
   me = after.me ∙ ap (λ me. (f me.0, me.1)) before.me;

@@ -15,14 +15,14 @@ use Rattle.ring_buffer.proofs.TwoCalls.{IsSameWorker-trans}
 use Rattle.consol_array.specs.declared.call.Joined.{Joined}
 use Rattle.consol_array.specs.Inserting.{JoinsNext}
 use Rattle.consol_array.specs.Joining.{HasJoined}
-use Rattle.consol_array.proofs.Keeping.{Becomes-then}
+use Rattle.consol_array.proofs.Keeping.{Becomes-trans}
 
 -- the seat looked, lost its exchange, and joined a group
 module _ (table : LogTable) (first mid lost new : Seat) (n tail durable found : ℕ) (joined : Joined) (looks : Becomes first mid (looked tail durable (view_of first)))
     (loses : Becomes mid lost (lost_alone found (view_of mid)))
   where
     loses-is : Becomes first lost (lost_alone found (looked tail durable (view_of first)))
-    loses-is = Becomes-then first mid lost (looked tail durable (view_of first)) (lost_alone found) looks loses
+    loses-is = Becomes-trans first mid lost (looked tail durable (view_of first)) (lost_alone found) looks loses
 
     same-lost : (view_of first).seen.tail ≤ tail → tail < found → (view_of first).seen.durable ≤ durable → IsSameWorker first lost
     same-lost grows greater seen = IsSameWorker-becomes first lost (lost_alone found (looked tail durable (view_of first))) loses-is record {

@@ -41,13 +41,13 @@ module _ (state : SlotWord) where
       ∙ (λ i. Hears ((refusal-is n is ∙ refused) i) (total-is i))
 
   -- by a state that tells its group a member sees that it is told
-  pub step-told : TellsGroup state → step_seeing (word_of state) Waits ≡ step_told state
-  step-told = ⊎_elim
+  pub step_seeing-told : TellsGroup state → step_seeing (word_of state) Waits ≡ step_told state
+  step_seeing-told = ⊎_elim
       (λ (is : state.phase ≡ Published). told-at 2 (omega arith) (ap (λ phase. packed phase state.total state.remaining) is) (sym (ap is_refused is)))
       (λ (is : state.phase ≡ Refused). told-at 3 (omega arith) (ap (λ phase. packed phase state.total state.remaining) is) (sym (ap is_refused is)))
 
 module _ (old new : Seat) (slot : ℕ) (state : SlotWord) (looks : Becomes old new (saw_slot slot (word_of state) (view_of old))) where
   -- a member that waits, once it has looked
-  pub call-told : (piece : Piece) → TellsGroup state → IsAtStep slot piece Waits (view_of old) → IsAtStep slot piece (step_told state) (view_of new)
-  call-told piece told waits = ap (λ me. me.0.call) looks.me ∙ (ap (call_seeing slot (word_of state)) waits
-      ∙ (ap (λ b. calls.Joined slot piece (cond {A = MemberStep} b (step_seeing (word_of state) Waits) Waits)) (eq-eqb slot slot refl) ∙ ap (calls.Joined slot piece) (step-told state told)))
+  pub IsAtStep-told : (piece : Piece) → TellsGroup state → IsAtStep slot piece Waits (view_of old) → IsAtStep slot piece (step_told state) (view_of new)
+  IsAtStep-told piece told waits = ap (λ me. me.0.call) looks.me ∙ (ap (call_seeing slot (word_of state)) waits
+      ∙ (ap (λ b. calls.Joined slot piece (cond {A = MemberStep} b (step_seeing (word_of state) Waits) Waits)) (eq-eqb slot slot refl) ∙ ap (calls.Joined slot piece) (step_seeing-told state told)))

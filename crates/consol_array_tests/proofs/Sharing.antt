@@ -61,8 +61,8 @@ HasShare-since table joined units before step old new has same call = record {
 }
 
 -- both are the same worker's as the first
-pub IsOf-beside : (table : LogTable) (first old new : Seat) → IsOf table old → IsSameWorker first old → IsSameWorker first new → IsOf table new
-IsOf-beside table first old new of was is = record {
+pub IsOf-both_same_worker : (table : LogTable) (first old new : Seat) → IsOf table old → IsSameWorker first old → IsSameWorker first new → IsOf table new
+IsOf-both_same_worker table first old new of was is = record {
   table_is = is.table_is ∙ (sym was.table_is ∙ of.table_is);
   no_slots = is.slots ∙ (sym was.slots ∙ of.no_slots);
   ring = ap (λ (constants : Constants). constants.ring) (is.constants ∙ sym was.constants) ∙ of.ring;
@@ -70,10 +70,10 @@ IsOf-beside table first old new of was is = record {
 }
 
 -- who took no job of m or above took none of n or above
-pub all-below : (m n : ℕ) → m ≤ n → (jobs : List TakenJob) → AllByRecursion (λ (taken : TakenJob). taken.number < m) jobs
+pub all_below-weaken : (m n : ℕ) → m ≤ n → (jobs : List TakenJob) → AllByRecursion (λ (taken : TakenJob). taken.number < m) jobs
     → AllByRecursion (λ (taken : TakenJob). taken.number < n) jobs
-all-below m n later [] all = tt
-all-below m n later (taken ∷ jobs) all = (omega (arith, later, all.0), all-below m n later jobs all.1)
+all_below-weaken m n later [] all = tt
+all_below-weaken m n later (taken ∷ jobs) all = (omega (arith, later, all.0), all_below-weaken m n later jobs all.1)
 
 -- the worker stands as before, and took and holds what it did
 pub GoesOn-kept : (number : ℕ) (old new : View) → new.standing ≡ old.standing → new.contended ≡ false → new.books.held ≡ old.books.held
@@ -95,7 +95,7 @@ GoesOn-taken table number job seat after word worker takes next later =
       none_held = ap (λ (v : View). v.books.held) taken ∙ worker.free.none_held;
       above = subst (λ (jobs : List TakenJob). AllByRecursion (λ (taken : TakenJob). taken.number < next) jobs)
           (sym (ap (λ (v : View). v.books.jobs) taken))
-          (later, all-below number next (omega (arith, later)) (view_of seat).books.jobs worker.free.above);
+          (later, all_below-weaken number next (omega (arith, later)) (view_of seat).books.jobs worker.free.above);
     }
 
 -- with nothing under way it may do so now

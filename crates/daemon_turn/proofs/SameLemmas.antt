@@ -31,9 +31,9 @@ module _ {D : Type 0} (g : Ghosts D) where
     first = second.first ∙ first.first;
   }
 
-  pub IsSame-seat : (old new : Flusher D g) → ChangesSeat old new → IsSameSeat old.seat new.seat
+  pub IsSame-changes_seat : (old new : Flusher D g) → ChangesSeat old new → IsSameSeat old.seat new.seat
       → (view_of new.seat).standing ≡ (view_of old.seat).standing → IsSame g old new
-  IsSame-seat old new alone seat workers = record {
+  IsSame-changes_seat old new alone seat workers = record {
     table = ap (λ (f : Flusher D g). f.table) alone.1;
     seat = seat;
     workers = workers;
@@ -45,4 +45,4 @@ module _ {D : Type 0} (g : Ghosts D) where
   }
 
   pub IsSame-refl : (f : Flusher D g) → IsSame g f f
-  IsSame-refl f = IsSame-seat f f (f.keeps, refl) (IsSameSeat-refl f.seat) refl
+  IsSame-refl f = IsSame-changes_seat f f (f.keeps, refl) (IsSameSeat-refl f.seat) refl

@@ -19,11 +19,11 @@ use mathlib.Core.Logic.{∥∥₁_map}
 use Rattle.flusher.specs.declared.flusher.Flusher.{Flusher}
 use Rattle.flusher.specs.KeptLog.{KeepsLog, StandsInAll, read_by, sent_by}
 use Rattle.flusher.proofs.Flushes.{IsSameSeat-becomes}
-use Rattle.flusher.proofs.Keeps.{KeepsLog-same, StandsFrom-last}
+use Rattle.flusher.proofs.Keeps.{KeepsLog-same, StandsFrom-last_units}
 use Rattle.flusher.specs.SentUnits.{flushed}
 use Rattle.flusher.specs.Flushing.{MayFlush, IsSame, FindsNothing, Sends, Loses, sent_of}
 use Rattle.daemon_turn.specs.OneTurn.{MayGoOn, Stops, FindsAll, SendsAndTells, CannotSend, CannotTell}
-use Rattle.daemon_turn.proofs.SameLemmas.{IsSame-seat, IsSame-trans}
+use Rattle.daemon_turn.proofs.SameLemmas.{IsSame-changes_seat, IsSame-trans}
 
 module _ {D : Type 0} (g : Ghosts D) (old sent : Flusher D g) (from to : ℕ) (sends : Sends g old sent from to) where
   -- the flush began at durable
@@ -31,9 +31,9 @@ module _ {D : Type 0} (g : Ghosts D) (old sent : Flusher D g) (from to : ℕ) (s
   from_durable = subst (λ n. Sends g old sent n to) sends.durable sends
 
   -- what is told of the batch is told of the records sent
-  pub told-of : (P : ℕ → List Rec → Type 0) → ((records : List Rec) → AreUnitsOf sent.batch.units records → P from records)
+  pub batch-sent_records : (P : ℕ → List Rec → Type 0) → ((records : List Rec) → AreUnitsOf sent.batch.units records → P from records)
       → P (sent_to (view_of old.seat)) from_durable.records
-  told-of P told = subst (λ n. P n from_durable.records) sends.durable (told from_durable.records
+  batch-sent_records P told = subst (λ n. P n from_durable.records) sends.durable (told from_durable.records
       (subst (λ us. AreUnitsOf us from_durable.records) (sym (ap (λ b. b.units) from_durable.batch)) from_durable.spelled))
 
 module _ {D : Type 0} {K : Type 0} (g : Ghosts D) (h : SinkGhosts K) (voice : Voice) (old : Flusher D g) (sink : K) (tally : Tally) where
@@ -71,7 +71,7 @@ module _ {D : Type 0} {K : Type 0} (g : Ghosts D) (h : SinkGhosts K) (voice : Vo
       flush = from_durable g old sent from to sends;
       text = text;
       appended = appended;
-      tells = told-of g old sent from to sends (λ n records. TellsAll voice n records text lines tally tally') tells;
+      tells = batch-sent_records g old sent from to sends (λ n records. TellsAll voice n records text lines tally tally') tells;
       disk_fine = disk_fine;
       sink_fine = sink_fine;
     }
@@ -87,7 +87,7 @@ module _ {D : Type 0} {K : Type 0} (g : Ghosts D) (h : SinkGhosts K) (voice : Vo
       stops = stops;
       text = text;
       appended = appended;
-      tells = told-of g old sent from to sends (λ n records. TellsFront voice n records text tally tally') tells;
+      tells = batch-sent_records g old sent from to sends (λ n records. TellsFront voice n records text tally tally') tells;
       rose = rose;
       disk_fine = ap (λ f. g.faults f.disk.now) stops.rest.1 ∙ disk_fine;
     }
@@ -104,11 +104,11 @@ MayGoOn-found g old new tally at finds ready may =
     }
 
 -- records were sent, and no more end records counted than they have units
-pub counted-sent : {D : Type 0} (g : Ghosts D) (old new : Flusher D g) (tally tally' : Tally) (from to : ℕ) → Sends g old new from to
+pub Sends-counted_le_sent : {D : Type 0} (g : Ghosts D) (old new : Flusher D g) (tally tally' : Tally) (from to : ℕ) → Sends g old new from to
     → tally.done + tally.refused ≤ length (sent_of old)
     → tally'.done + tally'.refused ≤ (tally.done + tally.refused) + length new.batch.units
     → tally'.done + tally'.refused ≤ length (sent_of new)
-counted-sent g old new tally tally' from to sends counted few =
+Sends-counted_le_sent g old new tally tally' from to sends counted few =
     let is = ap (λ m. m.0) sends.seat.me in
     let sending = (view_of old.seat).sending in
     omega (
@@ -139,27 +139,27 @@ MayGoOn-sent g old new tally tally' from to sends ready may few =
     record {
       flusher = may;
       running = ap (λ (v : View). v.sending.stop) is ∙ ready.running;
-      counted = counted-sent g old new tally tally' from to sends ready.counted few;
+      counted = Sends-counted_le_sent g old new tally tally' from to sends ready.counted few;
     }
 
 -- steps of the seat alone that send and read nothing leave what the disk keeps as it was
-pub keeps-step : {D : Type 0} {g : Ghosts D} (f : Flusher D g) (seat : Seat) → sent_by seat ≡ sent_by f.seat
+pub KeepsLog-same_sent_read : {D : Type 0} {g : Ghosts D} (f : Flusher D g) (seat : Seat) → sent_by seat ≡ sent_by f.seat
     → read_by seat ≡ read_by f.seat → g.honest f.disk.now → ∥ KeepsLog g f.first.value f.disk.now f.tail (sent_by seat) (read_by seat) ∥₁
-keeps-step {g = g} f seat sent read honest =
+KeepsLog-same_sent_read {g = g} f seat sent read honest =
     ∥∥₁_map (f.keeps honest) (λ keeps. KeepsLog-same g f.first.value f.disk.now f.tail _ _ keeps _ _ sent read)
 
-pub keeps-stop : {D : Type 0} {g : Ghosts D} (f : Flusher D g) (seat : Seat) (word : ℕ)
+pub KeepsLog-has_stopped : {D : Type 0} {g : Ghosts D} (f : Flusher D g) (seat : Seat) (word : ℕ)
     → Becomes f.seat seat (has_stopped word (view_of f.seat)) → g.honest f.disk.now
     → ∥ KeepsLog g f.first.value f.disk.now f.tail (sent_by seat) (read_by seat) ∥₁
-keeps-stop f seat word becomes =
+KeepsLog-has_stopped f seat word becomes =
     let is = ap (λ m. m.0) becomes.me in
-    keeps-step f seat (ap (λ (v : View). v.sending.sent) is) (ap (λ (v : View). v.sending.read) is)
+    KeepsLog-same_sent_read f seat (ap (λ (v : View). v.sending.sent) is) (ap (λ (v : View). v.sending.read) is)
 
 -- the stop word was stored: it is the same flusher
 pub IsSame-stop : {D : Type 0} (g : Ghosts D) (old mid new : Flusher D g) (word : ℕ) → IsSame g old mid → Stops word mid new
     → IsSame g old new
 IsSame-stop g old mid new word same stops = IsSame-trans g old mid new same
-    (IsSame-seat g mid new stops.rest (IsSameSeat-becomes _ _ _ stops.seat refl refl refl) (ap (λ m. m.0.standing) stops.seat.me))
+    (IsSame-changes_seat g mid new stops.rest (IsSameSeat-becomes _ _ _ stops.seat refl refl refl) (ap (λ m. m.0.standing) stops.seat.me))
 
 -- what a flush sent stands in each image
 module _ {D : Type 0} (g : Ghosts D) (old new : Flusher D g) (from to : ℕ) (was : MayFlush g old) (may : MayFlush g new)
@@ -183,6 +183,6 @@ module _ {D : Type 0} (g : Ghosts D) (old new : Flusher D g) (from to : ℕ) (wa
 
   pub StandsInAll-sent : StandsInAll g new.disk.now from new.batch.units
   StandsInAll-sent honest c image =
-      ∥∥₁_map (new.keeps honest) (λ keeps. StandsFrom-last g new.first.value new.disk.now new.tail (sent_of new)
+      ∥∥₁_map (new.keeps honest) (λ keeps. StandsFrom-last_units g new.first.value new.disk.now new.tail (sent_of new)
       (view_of new.seat).sending.read keeps (ap (λ (v : View). v.sending.read) view-sent) (sent_of old) new.batch.units sent-behind from
       sent-end c image)

@@ -46,10 +46,10 @@ lines_in-append Lines xs ys = omega (arith, done_in-append xs ys, refused_in-app
 lines_in-append Count xs ys = refl
 
 -- of one record
-pub text_of-one : (voice : Voice) (at : ℕ) (rec : Rec) → text_of voice at (rec ∷ []) ≡ line_said voice (at + size_of rec) rec
-text_of-one Lines at rec = append-nil (end_line (at + size_of rec) rec)
-text_of-one Count at rec = refl
+pub text_of-one_record : (voice : Voice) (at : ℕ) (rec : Rec) → text_of voice at (rec ∷ []) ≡ line_said voice (at + size_of rec) rec
+text_of-one_record Lines at rec = append-nil (end_line (at + size_of rec) rec)
+text_of-one_record Count at rec = refl
 
-pub lines_in-one : (voice : Voice) (rec : Rec) → lines_in voice (rec ∷ []) ≡ count_said voice rec
-lines_in-one Lines rec = omega arith
-lines_in-one Count rec = refl
+pub lines_in-one_record : (voice : Voice) (rec : Rec) → lines_in voice (rec ∷ []) ≡ count_said voice rec
+lines_in-one_record Lines rec = omega arith
+lines_in-one_record Count rec = refl

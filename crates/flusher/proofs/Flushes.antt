@@ -23,8 +23,8 @@ use Rattle.flusher.specs.KeptLog.{KeepsLog, sent_by, read_by}
 use Rattle.flusher.specs.Flushing.{MayFlush, IsSame, IsSameSeat, WritesWhole, sent_of, lsns_of}
 
 -- one step after another
-pub Becomes-then : (a b c : Seat) (view : View) (f : View → View) → Becomes a b view → Becomes b c (f (view_of b)) → Becomes a c (f view)
-Becomes-then a b c view f first second = record {
+pub Becomes-trans : (a b c : Seat) (view : View) (f : View → View) → Becomes a b view → Becomes b c (f (view_of b)) → Becomes a c (f view)
+Becomes-trans a b c view f first second = record {
   table_is = second.table_is ∙ first.table_is;
   number = second.number ∙ first.number;
   me = second.me ∙ ap (λ m. (f m.0, m.1)) first.me;
@@ -46,10 +46,10 @@ IsSameSeat-becomes old new view becomes constants entries books = record {
 module _ {D : Type 0} (g : Ghosts D) (old new : Flusher D g) (view : View) (becomes : Becomes old.seat new.seat view)
     (constants : view.constants ≡ (view_of old.seat).constants) (entries : view.entries ≡ (view_of old.seat).entries)
     (books : view.books ≡ (view_of old.seat).books) (standing : view.standing ≡ (view_of old.seat).standing) where
-  pub IsSame-steps : new.table ≡ old.table → new.disk.ghost_name ≡ old.disk.ghost_name → new.first.value ≡ old.first.value
+  pub IsSame-same_parts : new.table ≡ old.table → new.disk.ghost_name ≡ old.disk.ghost_name → new.first.value ≡ old.first.value
       → g.honest old.disk.now ↔ g.honest new.disk.now → g.attached new.disk.now ≡ g.attached old.disk.now
       → g.moment old.disk.now ≤ g.moment new.disk.now → IsSame g old new
-  IsSame-steps table disk first honest attached later = record {
+  IsSame-same_parts table disk first honest attached later = record {
     table = table;
     seat = IsSameSeat-becomes old.seat new.seat view becomes constants entries books;
     workers = ap (λ m. m.0.standing) becomes.me ∙ standing;
@@ -61,14 +61,14 @@ module _ {D : Type 0} (g : Ghosts D) (old new : Flusher D g) (view : View) (beco
   }
 
 -- what an append says of the batch, said of the units that it was gathered from
-pub WritesWhole-append : {D : Type 0} (g : Ghosts D) (old new : Flusher D g) (batch units : List ℕ) → batch ≡ units
+pub WritesWhole-same_batch : {D : Type 0} (g : Ghosts D) (old new : Flusher D g) (batch units : List ℕ) → batch ≡ units
     → WritesWhole g batch old new → WritesWhole g units old new
-WritesWhole-append g old new batch units same writes = subst (λ us. WritesWhole g us old new) same writes
+WritesWhole-same_batch g old new batch units same writes = subst (λ us. WritesWhole g us old new) same writes
 
-pub LogStands-append : {D : Type 0} (g : Ghosts D) (old : Flusher D g) (tail : Tail) (disk : D) (batch units : List ℕ) → batch ≡ units
+pub LogStands-same_batch : {D : Type 0} (g : Ghosts D) (old : Flusher D g) (tail : Tail) (disk : D) (batch units : List ℕ) → batch ≡ units
     → ((log : Log) → LogStands old.tail log (g.images old.disk.now) → LogStands tail (with_units log batch) (g.images disk))
     → (log : Log) → LogStands old.tail log (g.images old.disk.now) → LogStands tail (with_units log units) (g.images disk)
-LogStands-append g old tail disk batch units same appended log stand =
+LogStands-same_batch g old tail disk batch units same appended log stand =
     subst (λ us. LogStands tail (with_units log us) (g.images disk)) same (appended log stand)
 
 -- entries whose units are the spellings of their records spell those
@@ -86,9 +86,9 @@ pub record Reads (units : List ℕ) : Type 0 where
   pub spelled : AreUnitsOf units records
 
 -- all units up to exposed were read
-pub all-gathered : (view now : View) (from to : ℕ) (units : List ℕ) → now ≡ gathered to units view → view.sending.read ≡ []
+pub gathered-read_to_exposed : (view now : View) (from to : ℕ) (units : List ℕ) → now ≡ gathered to units view → view.sending.read ≡ []
     → from ≡ sent_to view → to ≡ from + length units → read_to now ≡ now.sending.exposed
-all-gathered view now from to units is unread start whole =
+gathered-read_to_exposed view now from to units is unread start whole =
     let read : view.sending.read ++ units ≡ units = ap (λ us. us ++ units) unread in
     let all : read_to (gathered to units view) ≡ to = omega (arith, start, whole, ap length read) in
     subst (λ (v : View). read_to v ≡ v.sending.exposed) (sym is) all
@@ -99,7 +99,7 @@ pub Reads-gathered : (view now : View) (from to : ℕ) (units : List ℕ) → no
 Reads-gathered view now from to units is unread start whole entries =
     let read : view.sending.read ++ units ≡ units = ap (λ us. us ++ units) unread in
     let all : read_to (gathered to units view) ≡ to =
-    subst (λ (v : View). read_to v ≡ v.sending.exposed) is (all-gathered view now from to units is unread start whole) in
+    subst (λ (v : View). read_to v ≡ v.sending.exposed) is (gathered-read_to_exposed view now from to units is unread start whole) in
     let found : AreEntries (sent_to view) to (view.sending.read ++ units) = subst ReadsWholeEntries is entries all in
     record {
       records = records_of found.entries;
@@ -180,6 +180,6 @@ tail-appended old new batch units same at next i = record {
     sum : (n m : ℕ) → n + 5 + 8 * m ≡ n + (5 + 8 * m)
     sum n m = omega arith
 
-pub tail-place : (old new : Tail) (batch : List ℕ) → new.at ≡ old.at + 5 + 8 * length batch → new.next ≡ old.next + length batch
+pub tail-place_bounded : (old new : Tail) (batch : List ℕ) → new.at ≡ old.at + 5 + 8 * length batch → new.next ≡ old.next + length batch
     → 0 < length batch → old.at ≤ 2 ^ 63 + 16 * old.next → new.at ≤ 2 ^ 63 + 16 * new.next
-tail-place old new batch at next some place = omega (arith, at, next, some, place)
+tail-place_bounded old new batch at next some place = omega (arith, at, next, some, place)

@@ -4,7 +4,7 @@ use Rattle.std.specs.List.{AllByRecursion}
 use Rattle.std.proofs.lemmas.List.Concat.{flat_map-append}
 use Rattle.log_disk.specs.Disk.{Leaves}
 use Rattle.log_disk.specs.declared.disk.LogDisk.{Ghosts}
-use Rattle.log_disk.proofs.Moments.{Leaves-now}
+use Rattle.log_disk.proofs.Moments.{Leaves-images_now}
 use Rattle.log_record.specs.declared.rec.Rec.{Rec}
 use Rattle.log_record.specs.LogList.{AreUnitsOf, units_of}
 use Rattle.log_record.specs.Spelling.{spelling, IsSpellable}
@@ -58,8 +58,8 @@ module _ {D : Type 0} (g : Ghosts D) where
     held-first c image = subst (HoldsLog c) (sym none_sent) (stands c image).held
 
     -- a flusher is made, which has sent nothing
-    pub KeepsLog-first : KeepsLog g disk disk tail sent read
-    KeepsLog-first = record {
+    pub KeepsLog-none_sent : KeepsLog g disk disk tail sent read
+    KeepsLog-none_sent = record {
       opened = opened;
       began = λ c image. (stands c image).held;
       shown = shown;
@@ -114,7 +114,7 @@ module _ {D : Type 0} (g : Ghosts D) where
           later = omega (arith, keeps.later, writes.later);
           moments = λ c since.
               ⊎_elim (λ was. inl (front-before c was)) (λ held. some-written c held) (writes.each (g.moment first) c keeps.later since);
-          now = λ c image. Leaves-now g.moment g.images_since g.images counts_now (HoldsLogOrMore sent_log batch) disk disk' only_now
+          now = λ c image. Leaves-images_now g.moment g.images_since g.images counts_now (HoldsLogOrMore sent_log batch) disk disk' only_now
               (λ b here. inl (stood b here).held) writes c image;
           goes_on = λ none. absurd (omega (arith, some, ap length none));
         }
@@ -208,8 +208,8 @@ module _ {D : Type 0} (g : Ghosts D) (first disk : D) (tail : Tail) (sent read :
     ap length (append-nil units),
   )
 
-  pub StandsFrom-last : (c : List ℕ) → g.images disk c → StandsFrom from units c
-  StandsFrom-last c image =
+  pub StandsFrom-last_units : (c : List ℕ) → g.images disk c → StandsFrom from units c
+  StandsFrom-last_units c image =
       let stands = keeps.goes_on unread c image in
       record {
         log = with_units keeps.opened sent;

@@ -16,7 +16,7 @@ use Rattle.flusher.specs.declared.flusher.Flusher.{Flusher}
 use Rattle.flusher.specs.Flushing.{MayFlush}
 use Rattle.flusher.specs.Gathering.{Gathers}
 use Rattle.flusher.specs.SentUnits.{read_units, gathered, flushed, asked}
-use Rattle.flusher.proofs.Flushes.{Becomes-then, Reads-gathered, all-gathered}
+use Rattle.flusher.proofs.Flushes.{Becomes-trans, Reads-gathered, gathered-read_to_exposed}
 
 -- these units were read, which spell records: those from durable up to exposed; the seat and the batch are as they are then
 pub record HasRead {D : Type 0} {g : Ghosts D} (f : Flusher D g) (to : ℕ) (seat : Seat) (batch units : List ℕ) : Type 0 where
@@ -38,7 +38,7 @@ module _ {D : Type 0} (g : Ghosts D) (f : Flusher D g) (ready : MayFlush g f) {t
   beyond = omega (arith, (exposed ready.flusher).read, ready.next, eqb-false _ _ (sym compared ∙ other))
 
   read-seat : Becomes f.seat seat (gathered to gathers.units (view_of f.seat))
-  read-seat = Becomes-then _ _ _ _ (read_units gathers.units) loaded gathers.seat
+  read-seat = Becomes-trans _ _ _ _ (read_units gathers.units) loaded gathers.seat
 
   pub HasRead-gathered : HasRead f to seat after.units gathers.units
   HasRead-gathered =
@@ -51,7 +51,7 @@ module _ {D : Type 0} (g : Ghosts D) (f : Flusher D g) (ready : MayFlush g f) {t
         in_batch = ap (λ batch. batch.units) gathers.batch;
         becomes = read-seat;
         role = ap (λ m. m.0.standing.role) read-seat.me ∙ ready.flusher;
-        all = all-gathered (view_of f.seat) _ _ _ _ is ready.unread ready.next gathers.whole;
+        all = gathered-read_to_exposed (view_of f.seat) _ _ _ _ is ready.unread ready.next gathers.whole;
         records = reads.records;
         spelled = reads.spelled;
       }
@@ -60,10 +60,10 @@ module _ {D : Type 0} (g : Ghosts D) (f : Flusher D g) (ready : MayFlush g f) {t
 pub Becomes-sent : {D : Type 0} {g : Ghosts D} (f : Flusher D g) (to : ℕ) (seat sent : Seat) (batch units : List ℕ)
     → HasRead f to seat batch units → Becomes seat sent (has_sent to (view_of seat))
     → Becomes f.seat sent (flushed to units (view_of f.seat))
-Becomes-sent f to seat sent batch units read stored = Becomes-then _ _ _ _ (has_sent to) read.becomes stored
+Becomes-sent f to seat sent batch units read stored = Becomes-trans _ _ _ _ (has_sent to) read.becomes stored
 
 -- crew held 0, and then exposed was loaded
 pub Becomes-asked : (old mid new : Seat) (active exposed : ℕ) → active ≡ 0 → Becomes old mid (saw_crew active (view_of old))
     → Becomes mid new (saw_exposed exposed (view_of mid)) → Becomes old new (asked exposed (view_of old))
 Becomes-asked old mid new active exposed none first second =
-    Becomes-then _ _ _ _ (saw_exposed exposed) (subst (λ n. Becomes old mid (saw_crew n (view_of old))) none first) second
+    Becomes-trans _ _ _ _ (saw_exposed exposed) (subst (λ n. Becomes old mid (saw_crew n (view_of old))) none first) second

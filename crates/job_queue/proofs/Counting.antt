@@ -33,22 +33,22 @@ counted-first x next items e = (ap head e, ap tail e)
     tail [] = []
     tail (y ∷ ys) = ys
 
-pub once-more : (x n : ℕ) → once_below x (suc n) ≡ once_below x n + same x n
-once-more zero zero = refl
-once-more (suc x) zero = refl
-once-more zero (suc n) = refl
-once-more (suc x) (suc n) = once-more x n
+pub once_below-suc : (x n : ℕ) → once_below x (suc n) ≡ once_below x n + same x n
+once_below-suc zero zero = refl
+once_below-suc (suc x) zero = refl
+once_below-suc zero (suc n) = refl
+once_below-suc (suc x) (suc n) = once_below-suc x n
 
-pub once-most : (x n : ℕ) → once_below x n ≤ 1
-once-most x zero = omega arith
-once-most zero (suc n) = omega arith
-once-most (suc x) (suc n) = once-most x n
+pub once_below-le_one : (x n : ℕ) → once_below x n ≤ 1
+once_below-le_one x zero = omega arith
+once_below-le_one zero (suc n) = omega arith
+once_below-le_one (suc x) (suc n) = once_below-le_one x n
 
 -- a number that is there is below
-pub once-some : (x n : ℕ) → 1 ≤ once_below x n → x < n
-once-some x zero some' = absurd (omega (arith, some'))
-once-some zero (suc n) some' = omega arith
-once-some (suc x) (suc n) some' = omega (arith, once-some x n some')
+pub once_below-positive_less : (x n : ℕ) → 1 ≤ once_below x n → x < n
+once_below-positive_less x zero some' = absurd (omega (arith, some'))
+once_below-positive_less zero (suc n) some' = omega arith
+once_below-positive_less (suc x) (suc n) some' = omega (arith, once_below-positive_less x n some')
 
 pub same-refl : (x : ℕ) → same x x ≡ 1
 same-refl zero = refl
@@ -62,14 +62,14 @@ pub times-push : (x : ℕ) (xs : List ℕ) (y : ℕ) → times x (xs ++ y ∷ []
 times-push x xs y = omega (arith, times-append x xs (y ∷ []))
 
 module _ {A : Type 0} where
-  pub there-is : (list : List A) (i : ℕ) (x : A) → get_elem? list i ≡ some x → i < length list
-  there-is [] i x at = absurd (some-ne-none x (sym at))
-  there-is (y ∷ ys) zero x at = omega arith
-  there-is (y ∷ ys) (suc i) x at = omega (arith, there-is ys i x at)
+  pub get_elem-within : (list : List A) (i : ℕ) (x : A) → get_elem? list i ≡ some x → i < length list
+  get_elem-within [] i x at = absurd (some-ne-none x (sym at))
+  get_elem-within (y ∷ ys) zero x at = omega arith
+  get_elem-within (y ∷ ys) (suc i) x at = omega (arith, get_elem-within ys i x at)
 
-  pub everywhere-one : (P : A → Type 0) (only : A) → P only → Everywhere P (only ∷ [])
-  everywhere-one P only mine zero x at = subst P (some-injective only x at) mine
-  everywhere-one P only mine (suc i) x at = absurd (some-ne-none x (sym at))
+  pub everywhere-single : (P : A → Type 0) (only : A) → P only → Everywhere P (only ∷ [])
+  everywhere-single P only mine zero x at = subst P (some-injective only x at) mine
+  everywhere-single P only mine (suc i) x at = absurd (some-ne-none x (sym at))
 
   pub everywhere-set : (P Q : A → Type 0) (list : List A) (me : ℕ) (new : A) → Everywhere P list → Q new → ((x : A) → P x → Q x)
       → Everywhere Q (set list me new)
@@ -90,21 +90,21 @@ module _ {A : Type 0} where
   summed-snoc amount [] new = omega arith
   summed-snoc amount (x ∷ xs) new = omega (arith, summed-snoc amount xs new)
 
-  pub summed-one : (amount : A → ℕ) (list : List A) (i : ℕ) (x : A) → get_elem? list i ≡ some x → amount x ≤ summed amount list
-  summed-one amount [] i x there = absurd (some-ne-none x (sym there))
-  summed-one amount (y ∷ ys) zero x there = let is : amount y ≡ amount x = ap amount (some-injective y x there) in omega arith
-  summed-one amount (y ∷ ys) (suc i) x there = omega (arith, summed-one amount ys i x there)
+  pub summed-at_le : (amount : A → ℕ) (list : List A) (i : ℕ) (x : A) → get_elem? list i ≡ some x → amount x ≤ summed amount list
+  summed-at_le amount [] i x there = absurd (some-ne-none x (sym there))
+  summed-at_le amount (y ∷ ys) zero x there = let is : amount y ≡ amount x = ap amount (some-injective y x there) in omega arith
+  summed-at_le amount (y ∷ ys) (suc i) x there = omega (arith, summed-at_le amount ys i x there)
 
-  pub summed-two : (amount : A → ℕ) (list : List A) (i j : ℕ) (x y : A) → get_elem? list i ≡ some x → get_elem? list j ≡ some y → j ≢ i
+  pub summed-two_le : (amount : A → ℕ) (list : List A) (i j : ℕ) (x y : A) → get_elem? list i ≡ some x → get_elem? list j ≡ some y → j ≢ i
       → amount x + amount y ≤ summed amount list
-  summed-two amount [] i j x y here there differ = absurd (some-ne-none x (sym here))
-  summed-two amount (z ∷ zs) zero zero x y here there differ = absurd (differ refl)
-  summed-two amount (z ∷ zs) zero (suc j) x y here there differ =
-      let mine : amount z ≡ amount x = ap amount (some-injective z x here) in omega (arith, summed-one amount zs j y there)
-  summed-two amount (z ∷ zs) (suc i) zero x y here there differ =
-      let mine : amount z ≡ amount y = ap amount (some-injective z y there) in omega (arith, summed-one amount zs i x here)
-  summed-two amount (z ∷ zs) (suc i) (suc j) x y here there differ =
-      omega (arith, summed-two amount zs i j x y here there (λ e. differ (ap suc e)))
+  summed-two_le amount [] i j x y here there differ = absurd (some-ne-none x (sym here))
+  summed-two_le amount (z ∷ zs) zero zero x y here there differ = absurd (differ refl)
+  summed-two_le amount (z ∷ zs) zero (suc j) x y here there differ =
+      let mine : amount z ≡ amount x = ap amount (some-injective z x here) in omega (arith, summed-at_le amount zs j y there)
+  summed-two_le amount (z ∷ zs) (suc i) zero x y here there differ =
+      let mine : amount z ≡ amount y = ap amount (some-injective z y there) in omega (arith, summed-at_le amount zs i x here)
+  summed-two_le amount (z ∷ zs) (suc i) (suc j) x y here there differ =
+      omega (arith, summed-two_le amount zs i j x y here there (λ e. differ (ap suc e)))
 
   -- where the others weigh nothing, and so amount to nothing, the sum is the one's
   summed-none : (weight amount : A → ℕ) (list : List A) → ((i : ℕ) (x : A) → get_elem? list i ≡ some x → weight x ≡ 0 → amount x ≡ 0)
@@ -113,15 +113,15 @@ module _ {A : Type 0} where
   summed-none weight amount (x ∷ xs) f none = let mine = f 0 x refl (omega (arith, none)) in
       let rest = summed-none weight amount xs (λ i y. f (suc i) y) (omega (arith, none)) in omega (arith, mine, rest)
 
-  pub summed-alone : (weight amount : A → ℕ) (list : List A) (i : ℕ) (x : A) → get_elem? list i ≡ some x → weight x ≡ 1
+  pub summed-only_weighted : (weight amount : A → ℕ) (list : List A) (i : ℕ) (x : A) → get_elem? list i ≡ some x → weight x ≡ 1
       → summed weight list ≡ 1 → ((j : ℕ) (y : A) → get_elem? list j ≡ some y → weight y ≡ 0 → amount y ≡ 0) → summed amount list ≡ amount x
-  summed-alone weight amount [] i x there one all f = absurd (some-ne-none x (sym there))
-  summed-alone weight amount (y ∷ ys) zero x there one all f =
+  summed-only_weighted weight amount [] i x there one all f = absurd (some-ne-none x (sym there))
+  summed-only_weighted weight amount (y ∷ ys) zero x there one all f =
       let is : weight y ≡ weight x = ap weight (some-injective y x there) in
       let also : amount y ≡ amount x = ap amount (some-injective y x there) in
       let rest = summed-none weight amount ys (λ j z. f (suc j) z) (omega (arith, one, all)) in omega (arith, rest)
-  summed-alone weight amount (y ∷ ys) (suc i) x there one all f =
-      let less = summed-one weight ys i x there in
+  summed-only_weighted weight amount (y ∷ ys) (suc i) x there one all f =
+      let less = summed-at_le weight ys i x there in
       let mine = f 0 y refl (omega (arith, one, all, less)) in
-      let rest = summed-alone weight amount ys i x there one (omega (arith, one, all, less)) (λ j z. f (suc j) z) in
+      let rest = summed-only_weighted weight amount ys i x there one (omega (arith, one, all, less)) (λ j z. f (suc j) z) in
       omega (arith, mine, rest)

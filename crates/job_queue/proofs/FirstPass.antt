@@ -6,11 +6,11 @@ use Rattle.job_queue.specs.declared.takings.Takings.{Takings}
 use Rattle.job_queue.specs.Takings.{CountsMarks}
 use Rattle.job_queue.specs.Rule.{lives, IsShared}
 
-pub weighs : (v : Takings) → v.live ≡ true → lives v ≡ 1
-weighs v on = ap (λ b. cond {A = ℕ} b 1 0) on
+pub lives-one : (v : Takings) → v.live ≡ true → lives v ≡ 1
+lives-one v on = ap (λ b. cond {A = ℕ} b 1 0) on
 
-pub weighs-not : (v : Takings) → lives v ≡ 0 → v.live ≡ false
-weighs-not v = by_flag v.live
+pub lives-zero : (v : Takings) → lives v ≡ 0 → v.live ≡ false
+lives-zero v = by_flag v.live
   where
     by_flag : (b : Bool) → cond {A = ℕ} b 1 0 ≡ 0 → b ≡ false
     by_flag false none = refl
@@ -28,8 +28,8 @@ module _ (items : List ℕ) (views : List Takings) (me : ℕ) (v : Takings) (s :
   pub first_pass-same : me ≡ 0 → s.first_pass ≡ v
   first_pass-same here = some-injective s.first_pass v (sym s.first ∙ (ap (get_elem? views) (sym here) ∙ at))
 
-  pub is-first_pass : me ≡ 0 → IsBoss s.first_pass v
-  is-first_pass here = let first_pass = first_pass-same here in record {
+  pub IsBoss-first_pass : me ≡ 0 → IsBoss s.first_pass v
+  IsBoss-first_pass here = let first_pass = first_pass-same here in record {
     live = sym (ap (λ (u : Takings). u.live) first_pass) ∙ s.first_pass_lives;
     count = ap (λ (u : Takings). u.count) first_pass;
     marks = ap (λ (u : Takings). u.marks) first_pass;

@@ -8,18 +8,18 @@ use Rattle.crossbeam_queue.proofs.Lists.{at_set, set_here, set_else, at_longer}
 use Rattle.job_queue.specs.declared.takings.Takings.{Takings}
 use Rattle.job_queue.specs.Takings.{fresh, handed_out, worker_of, took_back, times_in, CountsMarks}
 use Rattle.job_queue.specs.Rule.{summed, HasCount, lives, marks_left_of, IsInOrder, IsEmptyIfSpent, IsShared}
-use Rattle.job_queue.proofs.Counting.{times-append, there-is, everywhere-set, everywhere-snoc, summed-set, summed-snoc, summed-two}
-use Rattle.job_queue.proofs.FirstPass.{weighs, is-first_pass}
+use Rattle.job_queue.proofs.Counting.{times-append, get_elem-within, everywhere-set, everywhere-snoc, summed-set, summed-snoc, summed-two_le}
+use Rattle.job_queue.proofs.FirstPass.{lives-one, IsBoss-first_pass}
 
-pub forks : (me : ℕ) (v : Takings) → me ≡ 0 → 1 ≤ v.marks_left → Forks IsShared me v (handed_out v) (worker_of v)
-forks me v here some' items views s at =
+pub IsShared-forks : (me : ℕ) (v : Takings) → me ≡ 0 → 1 ≤ v.marks_left → Forks IsShared me v (handed_out v) (worker_of v)
+IsShared-forks me v here some' items views s at =
     let w : Takings = handed_out v in let new : Takings = worker_of v in
-    let first_pass = is-first_pass items views me v s at here in let vs : List Takings = set views me w in
+    let first_pass = IsBoss-first_pass items views me v s at here in let vs : List Takings = set views me w in
     let count = first_pass.count in let marks = first_pass.marks in
     let sum = summed-set marks_left_of views me v w at in let sum' = summed-snoc marks_left_of vs new in let all = s.put in record {
       next = s.next;
       first_pass = w;
-      first = at_longer vs (new ∷ []) 0 w (subst (λ i. get_elem? vs i ≡ some w) here (set_here views me w (there-is views me v at)));
+      first = at_longer vs (new ∷ []) 0 w (subst (λ i. get_elem? vs i ≡ some w) here (set_here views me w (get_elem-within views me v at)));
       first_pass_lives = first_pass.live;
       put = omega arith;
       items_are = s.items_are;
@@ -62,16 +62,16 @@ budget-back v u some' one counts = omega (
   length-append u.own_marks u.marks_back,
 )
 
-pub merges : (me : ℕ) (v : Takings) (other : ℕ) (u : Takings) → me ≡ 0 → u.live ≡ true
+pub IsShared-merges : (me : ℕ) (v : Takings) (other : ℕ) (u : Takings) → me ≡ 0 → u.live ≡ true
     → u.marks_left + (length u.own_marks + length u.marks_back) ≡ 1 → Merges IsShared me v other u (took_back v u) nobody
-merges me v other u here on one items views s at two at' =
+IsShared-merges me v other u here on one items views s at two at' =
     let w : Takings = took_back v u in let vs : List Takings = set views me w in
-    let first_pass = is-first_pass items views me v s at here in
+    let first_pass = IsBoss-first_pass items views me v s at here in
     let was : get_elem? views other ≡ some u =
     ⊎_elim (λ (t : (other ≡ me) × (w ≡ u)). absurd (two t.0)) (λ (t : (other ≢ me) × (get_elem? views other ≡ some u)). t.1)
     (at_set views me other w u at') in
-    let both : lives v + lives u ≤ summed lives views = summed-two lives views me other v u at was two in
-    let weight = weighs u on in let mine = weighs v first_pass.live in
+    let both : lives v + lives u ≤ summed lives views = summed-two_le lives views me other v u at was two in
+    let weight = lives-one u on in let mine = lives-one v first_pass.live in
     let sum = summed-set lives views me v w at in let sum' = summed-set lives vs other u nobody at' in
     let out = first_pass.out in let count = first_pass.count in let marks = first_pass.marks in let lives_all = s.out in
     let tick = summed-set marks_left_of views me v w at in let tick' = summed-set marks_left_of vs other u nobody at' in
@@ -79,7 +79,7 @@ merges me v other u here on one items views s at two at' =
       next = s.next;
       first_pass = w;
       first = set_else vs other 0 nobody (λ e. two (sym e ∙ sym here))
-          ∙ subst (λ i. get_elem? vs i ≡ some w) here (set_here views me w (there-is views me v at));
+          ∙ subst (λ i. get_elem? vs i ≡ some w) here (set_here views me w (get_elem-within views me v at));
       first_pass_lives = first_pass.live;
       put = omega arith;
       items_are = s.items_are;

@@ -1,4 +1,4 @@
--- A pass takes what is next: that keeps the rule of the queue. `me` is the pass's number and `v` what it knows before.
+-- A pass IsShared-pops_next what is next: that keeps the rule of the queue. `me` is the pass's number and `v` what it knows before.
 use Rattle.std.proofs.Common.{◌≡◌, ◌≢◌, ◌⊎◌, ◌<◌, ◌≤◌, ◌+◌, ℕ, suc, cond, true, true≢false, List, [], ◌∷◌, length, set, sym, refl, ap, ◌∙◌, subst, ⊎_elim, inl, inr, arith, length-append}
 use Rattle.std.specs.List.{AllByRecursion}
 use mathlib.Core.Logic.{dite}
@@ -7,16 +7,16 @@ use mathlib.Core.Option.{some}
 use lib.ListN.{get_elem?}
 use Rattle.crossbeam_queue.specs.Fifo.{Pops, Learns}
 use Rattle.crossbeam_queue.proofs.Lists.{set_here, set_else}
-use Rattle.lsn_space.proofs.TilingLemmas.{all-weaker}
+use Rattle.lsn_space.proofs.TilingLemmas.{all-weaken}
 use Rattle.lock_core.proofs.ListLemmas.{all-append}
 use Rattle.txn_jobs.proofs.Rising.{Rises-push}
 use Rattle.job_queue.specs.declared.takings.Takings.{Takings}
 use Rattle.job_queue.specs.Takings.{took_place, took_mark, TakesNext, same, times_in, CountsMarks}
 use Rattle.job_queue.specs.Rule.{HasCount, lives, marks_left_of, IsInOrder, IsEmptyIfSpent, IsShared}
-use Rattle.job_queue.proofs.Counting.{counted-first, once-more, times-push, there-is, everywhere-set, summed-set, summed-one}
+use Rattle.job_queue.proofs.Counting.{counted-first, once_below-suc, times-push, get_elem-within, everywhere-set, summed-set, summed-at_le}
 use Rattle.job_queue.proofs.FirstPass.{first_pass-same}
 
--- what changes of a pass that takes the number `next`
+-- what changes of a pass that IsShared-pops_next the number `next`
 record Took (next : ℕ) (v w : Takings) : Type 0 where
   pub live : w.live ≡ v.live
   pub count : w.count ≡ v.count
@@ -28,7 +28,7 @@ record Took (next : ℕ) (v w : Takings) : Type 0 where
   pub order : IsInOrder next v → IsInOrder (suc next) w
 
 still-below : (next : ℕ) (places : List ℕ) → AllByRecursion (λ y. y < next) places → AllByRecursion (λ y. y < suc next) places
-still-below next places all = all-weaker (λ y. y < next) (λ y. y < suc next) places (λ y less. omega (arith, less)) all
+still-below next places all = all-weaken (λ y. y < next) (λ y. y < suc next) places (λ y less. omega (arith, less)) all
 
 IsInOrder-place : (next : ℕ) (v : Takings) → IsInOrder next v → IsInOrder (suc next) (took_place next v)
 IsInOrder-place next v order = (
@@ -75,7 +75,7 @@ module _ (items : List ℕ) (views : List Takings) (me : ℕ) (v w : Takings) (n
   first_pass-here : me ≡ 0 → KeepsFirstPass (set views me w) s.first_pass
   first_pass-here here = let first_pass = sym (first_pass-same items views me v s at here) in record {
     now = w;
-    first = subst (λ i. get_elem? (set views me w) i ≡ some w) here (set_here views me w (there-is views me v at));
+    first = subst (λ i. get_elem? (set views me w) i ≡ some w) here (set_here views me w (get_elem-within views me v at));
     live = took.live ∙ ap (λ (u : Takings). u.live) first_pass;
     count = took.count ∙ ap (λ (u : Takings). u.count) first_pass;
     marks = took.marks ∙ ap (λ (u : Takings). u.marks) first_pass;
@@ -97,7 +97,7 @@ module _ (items : List ℕ) (views : List Takings) (me : ℕ) (v w : Takings) (n
   first_pass-stays : KeepsFirstPass (set views me w) s.first_pass
   first_pass-stays = dite (ℕ_discrete me 0) first_pass-here first_pass-away
 
--- the rule is kept where a pass takes the least number that is left
+-- the rule is kept where a pass IsShared-pops_next the least number that is left
 keeps : (me : ℕ) (v w : Takings) (x : ℕ) (items : List ℕ) (views : List Takings) → v.live ≡ true → (s : IsShared (x ∷ items) views)
     → get_elem? views me ≡ some v → x ≡ s.next → Took s.next v w → IsShared items (set views me w)
 keeps me v w x items views on s at number took =
@@ -109,7 +109,7 @@ keeps me v w x items views on s at number took =
       first_pass_lives = first_pass.live ∙ s.first_pass_lives;
       put = omega arith;
       items_are = (counted-first x s.next items s.items_are).1;
-      once = λ y. omega (arith, s.once y, once-more y s.next, took.times y, summed-set (times_in y) views me v w at);
+      once = λ y. omega (arith, s.once y, once_below-suc y s.next, took.times y, summed-set (times_in y) views me v w at);
       out = omega (arith, s.out, summed-set lives views me v w at, first_pass.out, ap (λ b. cond {A = ℕ} b 1 0) took.live);
       budget = first_pass.budget;
       counts = everywhere-set (HasCount s.first_pass.count) (HasCount first_pass.now.count) views me w s.counts
@@ -148,12 +148,12 @@ module _ (me : ℕ) (v : Takings) (on : v.live ≡ true) (x : ℕ) (items : List
     inr (omega (arith, number, more), ap (λ n. took_mark n v) (sym number)),
   )
 
-pub takes : (me : ℕ) (v : Takings) → v.live ≡ true → 1 ≤ v.marks_left → Pops IsShared me v (TakesNext v)
-takes me v on some' x items views s at = dite (dec_lt s.next v.count) (gets-place me v on x items views s at)
+pub IsShared-pops_next : (me : ℕ) (v : Takings) → v.live ≡ true → 1 ≤ v.marks_left → Pops IsShared me v (TakesNext v)
+IsShared-pops_next me v on some' x items views s at = dite (dec_lt s.next v.count) (gets-place me v on x items views s at)
     (λ more. gets-mark me v on x items views s at some' (omega (arith, more)))
 
 -- while a mark may be taken, the queue holds something
-pub holds-some : (me : ℕ) (v : Takings) → Learns IsShared me v (λ items. 1 ≤ v.marks_left → 1 ≤ length items)
-holds-some me v items views s at some' =
-    let one = summed-one marks_left_of views me v at in let all = s.put in dite (dec_le s.next s.first_pass.count)
+pub Learns-holds_some : (me : ℕ) (v : Takings) → Learns IsShared me v (λ items. 1 ≤ v.marks_left → 1 ≤ length items)
+Learns-holds_some me v items views s at some' =
+    let one = summed-at_le marks_left_of views me v at in let all = s.put in dite (dec_le s.next s.first_pass.count)
     (λ le. let was = s.early le in omega arith) (λ more. let was = s.late (omega arith) in omega arith)

@@ -7,11 +7,11 @@ use Rattle.crossbeam_queue.proofs.Lists.{at_set, set_here}
 use Rattle.job_queue.specs.declared.takings.Takings.{Takings}
 use Rattle.job_queue.specs.Takings.{fresh, put_place, put_mark, times_in}
 use Rattle.job_queue.specs.Rule.{summed, HasCount, lives, marks_left_of, IsInOrder, IsEmptyIfSpent, IsShared}
-use Rattle.job_queue.proofs.Counting.{counted-push, there-is, everywhere-one, everywhere-set, summed-set, summed-two}
-use Rattle.job_queue.proofs.FirstPass.{weighs, is-first_pass}
+use Rattle.job_queue.proofs.Counting.{counted-push, get_elem-within, everywhere-single, everywhere-set, summed-set, summed-two_le}
+use Rattle.job_queue.proofs.FirstPass.{lives-one, IsBoss-first_pass}
 
-pub begins : IsShared [] (fresh true 0 0 0 0 ∷ [])
-begins = record {
+pub IsShared-fresh : IsShared [] (fresh true 0 0 0 0 ∷ [])
+IsShared-fresh = record {
   next = 0;
   first_pass = fresh true 0 0 0 0;
   first = refl;
@@ -21,30 +21,30 @@ begins = record {
   once = λ x. refl;
   out = refl;
   budget = refl;
-  counts = everywhere-one (HasCount 0) (fresh true 0 0 0 0) (λ on. refl);
+  counts = everywhere-single (HasCount 0) (fresh true 0 0 0 0) (λ on. refl);
   early = λ le. refl;
   late = λ le. refl;
-  spent = everywhere-one IsEmptyIfSpent (fresh true 0 0 0 0) (λ off. absurd (true≢false off));
-  in_order = everywhere-one (IsInOrder 0) (fresh true 0 0 0 0) (tt, tt);
+  spent = everywhere-single IsEmptyIfSpent (fresh true 0 0 0 0) (λ off. absurd (true≢false off));
+  in_order = everywhere-single (IsInOrder 0) (fresh true 0 0 0 0) (tt, tt);
 }
 
 -- no other pass lives while places are put
 other-none : (views : List Takings) (me : ℕ) (v u : Takings) (j : ℕ) → get_elem? views me ≡ some v → get_elem? views j ≡ some u → j ≢ me
     → v.live ≡ true → u.live ≡ true → summed lives views ≡ 1 → ⊥
 other-none views me v u j at there other on lives' alone =
-    absurd (omega (arith, summed-two lives views me j v u at there other, weighs v on, weighs u lives', alone))
+    absurd (omega (arith, summed-two_le lives views me j v u at there other, lives-one v on, lives-one u lives', alone))
 
-pub puts-place : (n me : ℕ) (v : Takings) (x : ℕ) → me ≡ 0 → x ≡ v.count → v.marks ≡ 0 → v.out ≡ 0
+pub IsShared-pushes_place : (n me : ℕ) (v : Takings) (x : ℕ) → me ≡ 0 → x ≡ v.count → v.marks ≡ 0 → v.out ≡ 0
     → Pushes IsShared n me v x (λ w. w ≡ put_place v)
-puts-place n me v x here next unmarked none items views _ s at =
-    let w : Takings = put_place v in let first_pass = is-first_pass items views me v s at here in
+IsShared-pushes_place n me v x here next unmarked none items views _ s at =
+    let w : Takings = put_place v in let first_pass = IsBoss-first_pass items views me v s at here in
     let count = first_pass.count in let marks = first_pass.marks in let out = first_pass.out in
     let sum = summed-set marks_left_of views me v w at in let all = s.put in (
       w,
       record {
         next = s.next;
         first_pass = w;
-        first = subst (λ i. get_elem? (set views me w) i ≡ some w) here (set_here views me w (there-is views me v at));
+        first = subst (λ i. get_elem? (set views me w) i ≡ some w) here (set_here views me w (get_elem-within views me v at));
         first_pass_lives = first_pass.live;
         put = omega (arith, length-append items (x ∷ []));
         items_are = counted-push s.next items x s.items_are (omega arith);
@@ -62,15 +62,15 @@ puts-place n me v x here next unmarked none items views _ s at =
       refl,
     )
 
-pub puts-mark : (n me : ℕ) (v : Takings) (x : ℕ) → me ≡ 0 → x ≡ v.count + v.marks → Pushes IsShared n me v x (λ w. w ≡ put_mark v)
-puts-mark n me v x here next items views _ s at =
-    let w : Takings = put_mark v in let first_pass = is-first_pass items views me v s at here in
+pub IsShared-pushes_mark : (n me : ℕ) (v : Takings) (x : ℕ) → me ≡ 0 → x ≡ v.count + v.marks → Pushes IsShared n me v x (λ w. w ≡ put_mark v)
+IsShared-pushes_mark n me v x here next items views _ s at =
+    let w : Takings = put_mark v in let first_pass = IsBoss-first_pass items views me v s at here in
     let count = first_pass.count in let marks = first_pass.marks in let sum = summed-set marks_left_of views me v w at in let all = s.put in (
       w,
       record {
         next = s.next;
         first_pass = w;
-        first = subst (λ i. get_elem? (set views me w) i ≡ some w) here (set_here views me w (there-is views me v at));
+        first = subst (λ i. get_elem? (set views me w) i ≡ some w) here (set_here views me w (get_elem-within views me v at));
         first_pass_lives = first_pass.live;
         put = omega (arith, length-append items (x ∷ []));
         items_are = counted-push s.next items x s.items_are (omega arith);
@@ -88,5 +88,5 @@ puts-mark n me v x here next items views _ s at =
     )
 
 -- the queue holds no more than was put
-pub knows-put : (me : ℕ) (v : Takings) → me ≡ 0 → Learns IsShared me v (λ items. length items ≤ v.count + v.marks)
-knows-put me v here items views s at = let first_pass = is-first_pass items views me v s at here in omega (arith, s.put, first_pass.count, first_pass.marks)
+pub Learns-length_le : (me : ℕ) (v : Takings) → me ≡ 0 → Learns IsShared me v (λ items. length items ≤ v.count + v.marks)
+Learns-length_le me v here items views s at = let first_pass = IsBoss-first_pass items views me v s at here in omega (arith, s.put, first_pass.count, first_pass.marks)

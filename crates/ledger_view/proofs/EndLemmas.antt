@@ -32,9 +32,9 @@ entries-end opening (newest ∷ h) account =
     by_case true before = all-with (newest ∷ h) (entries_of opening h account) (entry_of opening newest h account) before (inl refl)
     by_case false before = before
 
-pub end-viewed : (opening : Opening) (view : View) (h : List Placed) (account end : ℕ) → HasViewed opening view h → account < length view.accounts
+pub is_end_in-ends_at : (opening : Opening) (view : View) (h : List Placed) (account end : ℕ) → HasViewed opening view h → account < length view.accounts
     → IsEndIn (account_at view.accounts account).entries end → EndsAt h end
-end-viewed opening view h account end viewed inside is =
+is_end_in-ends_at opening view h account end viewed inside is =
     let kept = viewed.each account inside in
     let all = subst (AllByRecursion (λ (entry : Entry). EndsAt h entry.end)) (sym kept.entries) (entries-end opening h account) in
     subst (EndsAt h) (sym is.4)

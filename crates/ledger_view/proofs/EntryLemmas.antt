@@ -24,10 +24,10 @@ balance_to-below : (first : ℕ) (entry : Entry) (entries : List Entry) (lsn : �
 balance_to-below first entry entries lsn below = ap (λ b. cond b (balance_to entry.balance entries lsn) first) (le-leb entry.end lsn below)
 
 -- one entry more changes nothing before its end
-pub balance_to-append : (first : ℕ) (entries : List Entry) (entry : Entry) (lsn : ℕ) → lsn < entry.end
+pub balance_to-append_behind : (first : ℕ) (entries : List Entry) (entry : Entry) (lsn : ℕ) → lsn < entry.end
     → balance_to first (entries ++ entry ∷ []) lsn ≡ balance_to first entries lsn
-balance_to-append first [] entry lsn past = balance_to-past first entry [] lsn past
-balance_to-append first (x ∷ entries) entry lsn past = ap (λ n. cond (nat_le x.end lsn) n first) (balance_to-append x.balance entries entry lsn past)
+balance_to-append_behind first [] entry lsn past = balance_to-past first entry [] lsn past
+balance_to-append_behind first (x ∷ entries) entry lsn past = ap (λ n. cond (nat_le x.end lsn) n first) (balance_to-append_behind x.balance entries entry lsn past)
 
 -- where all end at or below the LSN
 pub balance_to-all : (first : ℕ) (entries : List Entry) (lsn : ℕ) → AllByRecursion (λ (entry : Entry). entry.end ≤ lsn) entries
@@ -35,10 +35,10 @@ pub balance_to-all : (first : ℕ) (entries : List Entry) (lsn : ℕ) → AllByR
 balance_to-all first [] lsn all = refl
 balance_to-all first (entry ∷ entries) lsn all = balance_to-below first entry entries lsn all.0 ∙ balance_to-all entry.balance entries lsn all.1
 
-pub all-higher : (entries : List Entry) (low high : ℕ) → low ≤ high → AllByRecursion (λ (entry : Entry). entry.end ≤ low) entries
+pub all_ends_le-weaken : (entries : List Entry) (low high : ℕ) → low ≤ high → AllByRecursion (λ (entry : Entry). entry.end ≤ low) entries
     → AllByRecursion (λ (entry : Entry). entry.end ≤ high) entries
-all-higher [] low high more all = tt
-all-higher (entry ∷ entries) low high more all = (le_trans all.0 more, all-higher entries low high more all.1)
+all_ends_le-weaken [] low high more all = tt
+all_ends_le-weaken (entry ∷ entries) low high more all = (le_trans all.0 more, all_ends_le-weaken entries low high more all.1)
 
 pub add_up-append : (least first : ℕ) (entries : List Entry) (entry : Entry) → least ≤ entry.end
     → AllByRecursion (λ (x : Entry). x.end ≤ entry.end) entries → IsBalance (last_balance first entries)
@@ -63,42 +63,42 @@ add_up-rises least first (entry ∷ entries) sums (suc i) (suc j) d before insid
     add_up-rises entry.end entry.balance entries sums.3 i j d (omega arith) (omega arith)
 
 -- the first entry that ends behind an LSN adds its net to the balance up to there
-pub next-adds : (least first : ℕ) (entries : List Entry) (i lsn : ℕ) (d : Entry) → AddUp least first entries → i < length entries
+pub first_entry_behind-adds_net : (least first : ℕ) (entries : List Entry) (i lsn : ℕ) (d : Entry) → AddUp least first entries → i < length entries
     → ((k : ℕ) → k < i → (get_or entries k d).end ≤ lsn) → lsn < (get_or entries i d).end
     → IsBalance (balance_to first entries lsn)
     × (pos (get_or entries i d).balance ≡ pos (balance_to first entries lsn) +ℤ (get_or entries i d).net)
-next-adds least first [] i lsn d sums inside below past = absurd (omega arith)
-next-adds least first (entry ∷ entries) zero lsn d sums inside below past =
+first_entry_behind-adds_net least first [] i lsn d sums inside below past = absurd (omega arith)
+first_entry_behind-adds_net least first (entry ∷ entries) zero lsn d sums inside below past =
     subst (λ n. IsBalance n × (pos entry.balance ≡ pos n +ℤ entry.net)) (sym (balance_to-past first entry entries lsn past)) (sums.1, sums.2)
-next-adds least first (entry ∷ entries) (suc i) lsn d sums inside below past =
+first_entry_behind-adds_net least first (entry ∷ entries) (suc i) lsn d sums inside below past =
     subst (λ n. IsBalance n × (pos (get_or entries i d).balance ≡ pos n +ℤ (get_or entries i d).net))
     (sym (balance_to-below first entry entries lsn (below 0 (omega arith))))
-    (next-adds entry.end entry.balance entries i lsn d sums.3 (omega arith) (λ k before. below (suc k) (omega arith)) past)
+    (first_entry_behind-adds_net entry.end entry.balance entries i lsn d sums.3 (omega arith) (λ k before. below (suc k) (omega arith)) past)
 
 -- where none ends behind it, the balance is the last
-pub none-behind : (first : ℕ) (entries : List Entry) (lsn : ℕ) (d : Entry) → ((k : ℕ) → k < length entries → (get_or entries k d).end ≤ lsn)
+pub balance_to-none_behind : (first : ℕ) (entries : List Entry) (lsn : ℕ) (d : Entry) → ((k : ℕ) → k < length entries → (get_or entries k d).end ≤ lsn)
     → balance_to first entries lsn ≡ last_balance first entries
-none-behind first [] lsn d below = refl
-none-behind first (entry ∷ entries) lsn d below =
+balance_to-none_behind first [] lsn d below = refl
+balance_to-none_behind first (entry ∷ entries) lsn d below =
     balance_to-below first entry entries lsn (below 0 (omega arith))
-    ∙ none-behind entry.balance entries lsn d (λ k before. below (suc k) (omega arith))
+    ∙ balance_to-none_behind entry.balance entries lsn d (λ k before. below (suc k) (omega arith))
 
-pub first-adds : (first : ℕ) (entries : List Entry) (d : Entry) → AddUp 0 first entries → 0 < length entries
+pub first_entry-adds_net : (first : ℕ) (entries : List Entry) (d : Entry) → AddUp 0 first entries → 0 < length entries
     → pos (get_or entries 0 d).balance ≡ pos first +ℤ (get_or entries 0 d).net
-first-adds first [] d sums some = absurd (omega arith)
-first-adds first (entry ∷ entries) d sums some = sums.2
+first_entry-adds_net first [] d sums some = absurd (omega arith)
+first_entry-adds_net first (entry ∷ entries) d sums some = sums.2
 
 pub last_balance-none : (first : ℕ) (entries : List Entry) → length entries ≡ 0 → last_balance first entries ≡ first
 last_balance-none first [] none = refl
 last_balance-none first (x ∷ entries) none = absurd (omega arith)
 
 -- where they lead to a balance in its range, each balance on the way is in it
-pub first-range : (least first : ℕ) (entries : List Entry) → AddUp least first entries → IsBalance (last_balance first entries) → IsBalance first
-first-range least first [] sums last = last
-first-range least first (entry ∷ entries) sums last = sums.1
+pub add_up-first_in_range : (least first : ℕ) (entries : List Entry) → AddUp least first entries → IsBalance (last_balance first entries) → IsBalance first
+add_up-first_in_range least first [] sums last = last
+add_up-first_in_range least first (entry ∷ entries) sums last = sums.1
 
 pub add_up-range : (least first : ℕ) (entries : List Entry) → AddUp least first entries → IsBalance (last_balance first entries)
     → AllByRecursion (λ (entry : Entry). IsBalance entry.balance) entries
 add_up-range least first [] sums last = tt
 add_up-range least first (entry ∷ entries) sums last =
-    (first-range entry.end entry.balance entries sums.3 last, add_up-range entry.end entry.balance entries sums.3 last)
+    (add_up-first_in_range entry.end entry.balance entries sums.3 last, add_up-range entry.end entry.balance entries sums.3 last)

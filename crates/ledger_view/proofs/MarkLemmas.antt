@@ -18,9 +18,9 @@ pub record IsBlock (rows block : List Row) (from : ℕ) : Type 0 where
   pub within : from + length block ≤ length rows
   pub at : (j : ℕ) (none : Row) → j < length block → get_or block j none ≡ get_or rows (from + j) none
 
-pub is-block : (rows rest block : List Row) (from size : ℕ) → from ≤ length rows → size ≤ length rest → rest ≡ drop from rows → block ≡ take size rest
+pub take_drop-is_block : (rows rest block : List Row) (from size : ℕ) → from ≤ length rows → size ≤ length rest → rest ≡ drop from rows → block ≡ take size rest
     → IsBlock rows block from
-is-block rows rest block from size begun fits rest_is block_is =
+take_drop-is_block rows rest block from size begun fits rest_is block_is =
     let left = ap length rest_is ∙ length-drop from rows in
     let long = ap length block_is ∙ length-take size rest in record {
       within = omega (arith, left, long);
@@ -38,8 +38,8 @@ block-rises rows block from is rises i j none before inside =
 
 module _ (marks : List ℕ) (rows : List Row) (are : AreMarks marks rows) where
   -- one more row where a mark is due, and where none is
-  pub marks-more : (row : Row) → length rows % 16 ≡ 0 → AreMarks (marks ++ row.end ∷ []) (rows ++ row ∷ [])
-  marks-more row due =
+  pub are_marks-push_due : (row : Row) → length rows % 16 ≡ 0 → AreMarks (marks ++ row.end ∷ []) (rows ++ row ∷ [])
+  are_marks-push_due row due =
       let enough = are.enough in let few = are.few in
       let longer = length-append marks (row.end ∷ []) in let long = length-append rows (row ∷ []) in
       let full : length rows ≡ 16 * length marks = omega (arith, due, enough, few) in record {
@@ -54,8 +54,8 @@ module _ (marks : List ℕ) (rows : List Row) (are : AreMarks marks rows) where
             ∙ ap (λ (e : Row). e.end) (sym (get_or_at rows row [] none (16 * k) (omega (arith, last, full)))));
       }
 
-  pub marks-same : (row : Row) → (length rows % 16 ≡ 0 → ⊥) → AreMarks marks (rows ++ row ∷ [])
-  marks-same row undue =
+  pub are_marks-push_not_due : (row : Row) → (length rows % 16 ≡ 0 → ⊥) → AreMarks marks (rows ++ row ∷ [])
+  are_marks-push_not_due row undue =
       let enough = are.enough in let few = are.few in let long = length-append rows (row ∷ []) in record {
         enough = omega (arith, long, enough, few, undue);
         few = omega (arith, long, few);
@@ -73,9 +73,9 @@ module _ (marks : List ℕ) (rows : List Row) (are : AreMarks marks rows) where
         omega (arith, first, second, up)
 
     -- where the first mark lies behind the LSN, all rows do
-    pub all-behind : (lsn : ℕ) → ((i otherwise : ℕ) → 0 ≤ i → i < length marks → lsn < get_or marks i otherwise)
+    pub marks_behind-rows_behind : (lsn : ℕ) → ((i otherwise : ℕ) → 0 ≤ i → i < length marks → lsn < get_or marks i otherwise)
         → (i : ℕ) (none : Row) → i < length rows → lsn < (get_or rows i none).end
-    all-behind lsn behind i none inside =
+    marks_behind-rows_behind lsn behind i none inside =
         let enough = are.enough in
         let some : 0 < length marks = omega (arith, enough, inside) in
         let first = are.each 0 0 none some in let past = behind 0 0 (omega arith) some in
@@ -84,10 +84,10 @@ module _ (marks : List ℕ) (rows : List Row) (are : AreMarks marks rows) where
 
     module _ (lsn found : ℕ) (some : 0 < found) (known : found ≤ length marks) (block : List Row) (from count : ℕ) (start : from ≡ 16 * (found - 1))
         (is : IsBlock rows block from) (bound : count ≤ length block) where
-      pub all-below : ((i otherwise : ℕ) → i < found → get_or marks i otherwise ≤ lsn)
+      pub found_place-rows_before_below : ((i otherwise : ℕ) → i < found → get_or marks i otherwise ≤ lsn)
           → ((j : ℕ) (none : Row) → j < count → (get_or block j none).end ≤ lsn)
           → (i : ℕ) (none : Row) → i < from + count → (get_or rows i none).end ≤ lsn
-      all-below marked below i none inside =
+      found_place-rows_before_below marked below i none inside =
           let few = are.few in
           dite (dec_lt i from)
           (λ before.
@@ -104,11 +104,11 @@ module _ (marks : List ℕ) (rows : List Row) (are : AreMarks marks rows) where
           from-again : (i : ℕ) → (i < from → ⊥) → from + (i - from) ≡ i
           from-again i not_before = omega (arith, not_before)
 
-      pub rest-behind : length block ≡ min (length rows - from) 16
+      pub found_place-rows_from_behind : length block ≡ min (length rows - from) 16
           → ((i otherwise : ℕ) → found ≤ i → i < length marks → lsn < get_or marks i otherwise)
           → ((j : ℕ) (none : Row) → count ≤ j → j < length block → lsn < (get_or block j none).end)
           → (i : ℕ) (none : Row) → from + count ≤ i → i < length rows → lsn < (get_or rows i none).end
-      rest-behind size marked behind i none past inside =
+      found_place-rows_from_behind size marked behind i none past inside =
           let enough = are.enough in let few = are.few in
           dite (dec_lt (i - from) (length block))
           (λ within.

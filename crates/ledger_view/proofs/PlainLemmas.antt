@@ -12,8 +12,8 @@ use Rattle.lock_core.specs.Records.{txn_of, commits, changes_of}
 use Rattle.lock_core.specs.Transactions.{of_transaction, recs_of, updates_of, has_commit, touches, is_committed}
 use Rattle.lock_core.specs.Sums.{Opening}
 use Rattle.lock_core.specs.Lawful.{IsLawful, base_with}
-use Rattle.lock_core.proofs.OneMore.{updates_of-same, updates_of-other}
-use Rattle.lock_core.proofs.Meeting.{met-lawful}
+use Rattle.lock_core.proofs.OneMore.{updates_of-first_own, updates_of-first_other}
+use Rattle.lock_core.proofs.Meeting.{lawful-met}
 use Rattle.lock_core.proofs.Pairing.{updates_of-fits}
 use Rattle.ledger_view.specs.declared.entries.Entry.{Entry}
 use Rattle.ledger_view.specs.declared.view.View.{View}
@@ -28,9 +28,9 @@ use Rattle.ledger_view.proofs.ViewLemmas.{last-in-range}
 -- the Updates of a transaction with one entry more
 updates-more : (txn : ℕ) (entry : Placed) (h : List Placed) → updates_of txn (entry ∷ h) ≡ own_changes txn entry.rec ++ updates_of txn h
 updates-more txn entry h = dite (ℕ_discrete (txn_of entry.rec) txn)
-    (λ same. updates_of-same txn entry h same
+    (λ same. updates_of-first_own txn entry h same
     ∙ sym (ap (λ b. cond b (changes_of entry.rec) [] ++ updates_of txn h) (eq-eqb (txn_of entry.rec) txn same)))
-    (λ other. updates_of-other txn entry h other
+    (λ other. updates_of-first_other txn entry h other
     ∙ sym (ap (λ b. cond b (changes_of entry.rec) [] ++ updates_of txn h) (ne_eqb (txn_of entry.rec) txn other)))
 
 touches-append : (account : ℕ) (xs ys : List Change) → touches account (xs ++ ys) ≡ (touches account xs || touches account ys)
@@ -96,7 +96,7 @@ entries-unknown opening (entry ∷ h) account lawful past =
     by_case true on rest =
         let touched = (both-true (commits entry.rec) (touches account (updates_of (txn_of entry.rec) h)) on).1 in
         let inside = touches-known account (base_with opening h).accounts (updates_of (txn_of entry.rec) h)
-        (updates_of-fits (base_with opening h) h (txn_of entry.rec) (met-lawful opening h lawful.1)).known touched in
+        (updates_of-fits (base_with opening h) h (txn_of entry.rec) (lawful-met opening h lawful.1)).known touched in
         absurd (omega (arith, inside, before))
     by_case false off rest = rest
 
@@ -164,7 +164,7 @@ get_or-again (entry ∷ entries) (suc i) d inside = again entries i d (get_or en
     again (entry ∷ entries) (suc i) d e inside = again entries i d e (omega arith)
 
 -- what stands in a place of the log
-pub placed-at : (entries : List Placed) (i : ℕ) → i < length entries → (entry : Placed) × (entry ≡ get_or entries i entry)
-placed-at entries i inside =
+pub placed_at-exists : (entries : List Placed) (i : ℕ) → i < length entries → (entry : Placed) × (entry ≡ get_or entries i entry)
+placed_at-exists entries i inside =
     let none : Placed = record { end = 0; rec = Genesis 0 0 } in
     (get_or entries i none, sym (get_or-again entries i none inside))

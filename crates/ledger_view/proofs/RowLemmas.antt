@@ -18,13 +18,13 @@ entries_of_rows-append first [] row = refl
 entries_of_rows-append first (x ∷ rows) row = ap (λ entries. entry_of_row first x ∷ entries) (entries_of_rows-append x.balance rows row)
 
 -- where there are entries, they lead to the same balance from any
-pub last_balance-some : (first other : ℕ) (entries : List Entry) → 0 < length entries → last_balance first entries ≡ last_balance other entries
-last_balance-some first other [] some = absurd (omega arith)
-last_balance-some first other (entry ∷ entries) some = refl
+pub last_balance-any_first : (first other : ℕ) (entries : List Entry) → 0 < length entries → last_balance first entries ≡ last_balance other entries
+last_balance-any_first first other [] some = absurd (omega arith)
+last_balance-any_first first other (entry ∷ entries) some = refl
 
-pub no-rows : (first : ℕ) (rows : List Row) → entries_of_rows first rows ≡ [] → rows ≡ []
-no-rows first [] none = refl
-no-rows first (row ∷ rows) none = absurd (let long = ap length none in omega arith)
+pub entries_of_rows_none-rows_none : (first : ℕ) (rows : List Row) → entries_of_rows first rows ≡ [] → rows ≡ []
+entries_of_rows_none-rows_none first [] none = refl
+entries_of_rows_none-rows_none first (row ∷ rows) none = absurd (let long = ap length none in omega arith)
 
 -- the balance before a row
 abbrev pub balance_before : ℕ → List Row → ℕ → ℕ
@@ -39,37 +39,37 @@ entries_of_rows-at first (row ∷ rows) (suc zero) d r inside = entries_of_rows-
 entries_of_rows-at first (row ∷ rows) (suc (suc i)) d r inside = entries_of_rows-at row.balance rows (suc i) d r (omega arith)
 
 -- entries end where their rows do
-pub ends-at : (first : ℕ) (rows : List Row) (i : ℕ) (d : Entry) (r : Row) → i < length rows → (get_or (entries_of_rows first rows) i d).end ≡ (get_or rows i r).end
-ends-at first rows i d r inside = ap (λ (e : Entry). e.end) (entries_of_rows-at first rows i d r inside)
+pub entries_of_rows_end-at : (first : ℕ) (rows : List Row) (i : ℕ) (d : Entry) (r : Row) → i < length rows → (get_or (entries_of_rows first rows) i d).end ≡ (get_or rows i r).end
+entries_of_rows_end-at first rows i d r inside = ap (λ (e : Entry). e.end) (entries_of_rows-at first rows i d r inside)
 
 pub rows-rise : (first : ℕ) (rows : List Row) → IsNonDecreasingBy (λ (entry : Entry). entry.end) (entries_of_rows first rows) → Rises rows
 rows-rise first rows rises i j r before inside =
     let long = length-entries_of_rows first rows in
     let none = entry_of_row 0 r in
     let up = rises i j none before (omega (arith, long, inside)) in
-    let low = ends-at first rows i none r (omega (arith, before, inside)) in
-    let high = ends-at first rows j none r inside in
+    let low = entries_of_rows_end-at first rows i none r (omega (arith, before, inside)) in
+    let high = entries_of_rows_end-at first rows j none r inside in
     omega (arith, up, low, high)
 
 -- what an entry adds is what its row's balance is above the balance before it
-pub net-at : (first : ℕ) (rows : List Row) (i : ℕ) (d : Entry) → i < length rows
+pub entries_of_rows_net-at : (first : ℕ) (rows : List Row) (i : ℕ) (d : Entry) → i < length rows
     → (get_or (entries_of_rows first rows) i d).net ≡ pos (get_or (entries_of_rows first rows) i d).balance -ℤ pos (balance_before first rows i)
-net-at first rows i d inside =
+entries_of_rows_net-at first rows i d inside =
     let is = entries_of_rows-at first rows i d no_row inside in
     ap (λ (e : Entry). e.net) is ∙ ap (λ (e : Entry). pos e.balance -ℤ pos (balance_before first rows i)) (sym is)
 
 -- the entry at a place, which has its row's numbers and adds this
-pub entry-at : (first : ℕ) (rows : List Row) (i : ℕ) (d : Entry) (row : Row) (before : ℕ) → i < length rows → ((r : Row) → row ≡ get_or rows i r)
+pub entry_of_row-at : (first : ℕ) (rows : List Row) (i : ℕ) (d : Entry) (row : Row) (before : ℕ) → i < length rows → ((r : Row) → row ≡ get_or rows i r)
     → (get_or (entries_of_rows first rows) i d).net ≡ pos (get_or (entries_of_rows first rows) i d).balance -ℤ pos before
     → entry_of_row before row ≡ get_or (entries_of_rows first rows) i d
-entry-at first rows i d row before inside is net =
+entry_of_row-at first rows i d row before inside is net =
     let own = entries_of_rows-at first rows i d row inside in
     let same : balance_before first rows i ≡ before = (let e = ap (λ (e : Entry). e.net) own in let b = ap (λ (e : Entry). e.balance) own in omega (arith, ints, net, e, b)) in
     (λ j. entry_of_row (sym same j) (is row j)) ∙ sym own
 
 -- a row of which the net is known
-pub entry-of_net : (before : ℕ) (row : Row) (net : ℤ) → pos row.balance ≡ pos before +ℤ net
+pub entry_of_row-net : (before : ℕ) (row : Row) (net : ℤ) → pos row.balance ≡ pos before +ℤ net
     → entry_of_row before row ≡ record { end = row.end; txn = row.txn; net = net; balance = row.balance }
-entry-of_net before row net sum =
+entry_of_row-net before row net sum =
     let same : pos row.balance -ℤ pos before ≡ net = omega (arith, ints, sum) in
     λ i. record { end = row.end; txn = row.txn; net = same i; balance = row.balance }

@@ -19,45 +19,45 @@ use Rattle.lock_core.specs.Tests.{IsGenesis}
 use Rattle.lock_core.specs.Lawful.{base_with, with_genesis}
 use Rattle.lock_core.specs.Taking.{HasJudged, IsTakeFault}
 use Rattle.lock_core.specs.declared.reason.JudgeFault.{JudgeFault}
-use Rattle.lock_core.proofs.Meeting.{meets-passes, met-lawful}
+use Rattle.lock_core.proofs.Meeting.{all_passed-meets_tests, lawful-met}
 use Rattle.lock_core.proofs.Pairing.{updates_of-fits}
 use Rattle.ledger_view.specs.declared.accounts.Account.{Account}
 use Rattle.ledger_view.specs.declared.view.View.{View}
 use Rattle.ledger_view.specs.Entries.{net_of, balance_after, is_commit_on, entry_of, front_to, balance_up_to}
 use Rattle.ledger_view.specs.ViewedAccounts.{untouched, account_at, KeepsAccount, HasViewed}
 use Rattle.ledger_view.specs.Entering.{with_entry, LeadsOn, AllLeadOn, Enters, CanAdd, AddsEntry}
-use Rattle.ledger_view.proofs.HistoryLemmas.{accounts-front, unknown, judged-balance, balance-adds}
-use Rattle.ledger_view.proofs.RowLemmas.{last_balance-some}
-use Rattle.ledger_view.proofs.KeepingLemmas.{StandsBelow, stands-higher, keeps-first, keeps-opened, keeps-same, keeps-entered}
+use Rattle.ledger_view.proofs.HistoryLemmas.{accounts-front, balance-if_unknown, judged-balance_after_in_range, commit_balance-adds_net}
+use Rattle.ledger_view.proofs.RowLemmas.{last_balance-any_first}
+use Rattle.ledger_view.proofs.KeepingLemmas.{StandsBelow, stands_below-weaken, keeps_account-none, keeps_account-opened, keeps_account-no_commit, keeps_account-commit}
 
 -- what is kept stands at or below the record to come
-pub stands-below : (view : View) (lsn : ℕ) (rec : Rec) → CanAdd view lsn rec → (account : ℕ) → account < length view.accounts
+pub can_add-stands_below : (view : View) (lsn : ℕ) (rec : Rec) → CanAdd view lsn rec → (account : ℕ) → account < length view.accounts
     → StandsBelow lsn (account_at view.accounts account)
-stands-below view lsn rec can account inside =
+can_add-stands_below view lsn rec can account inside =
     let given = can.given in let kept = given.2.each account inside in
     subst (λ end. StandsBelow end (account_at view.accounts account)) (sym given.3) (record { begun = kept.begun; past = kept.past })
 
 -- a record that is neither a Genesis nor a Commit
-pub other-kinds : (rec : Rec) → ((account balance : ℕ) → rec ≡ Genesis account balance → ⊥) → ((txn legs : ℕ) → rec ≡ Commit txn legs → ⊥)
+pub other_kind-no_genesis_no_commit : (rec : Rec) → ((account balance : ℕ) → rec ≡ Genesis account balance → ⊥) → ((txn legs : ℕ) → rec ≡ Commit txn legs → ⊥)
     → (IsGenesis rec → ⊥) × (commits rec ≡ false)
-other-kinds (Genesis account balance) no_genesis no_commit = absurd (no_genesis account balance refl)
-other-kinds (Update txn account delta prev) no_genesis no_commit = (λ is. is, refl)
-other-kinds (Commit txn legs) no_genesis no_commit = absurd (no_commit txn legs refl)
-other-kinds (Short txn leg) no_genesis no_commit = (λ is. is, refl)
-other-kinds (Over txn leg) no_genesis no_commit = (λ is. is, refl)
-other-kinds (Note txn text) no_genesis no_commit = (λ is. is, refl)
+other_kind-no_genesis_no_commit (Genesis account balance) no_genesis no_commit = absurd (no_genesis account balance refl)
+other_kind-no_genesis_no_commit (Update txn account delta prev) no_genesis no_commit = (λ is. is, refl)
+other_kind-no_genesis_no_commit (Commit txn legs) no_genesis no_commit = absurd (no_commit txn legs refl)
+other_kind-no_genesis_no_commit (Short txn leg) no_genesis no_commit = (λ is. is, refl)
+other_kind-no_genesis_no_commit (Over txn leg) no_genesis no_commit = (λ is. is, refl)
+other_kind-no_genesis_no_commit (Note txn text) no_genesis no_commit = (λ is. is, refl)
 
 -- an account that a view doesn't keep is known nowhere
 pub unknown-up_to : (opening : Opening) (view : View) (h : List Placed) (account lsn : ℕ) → HasViewed opening view h → length view.accounts ≤ account
     → balance_up_to opening h account lsn ≡ None
 unknown-up_to opening view h account lsn viewed past =
-    let counted = viewed.count in let front = accounts-front opening h lsn in unknown opening (front_to h lsn) account (omega arith)
+    let counted = viewed.count in let front = accounts-front opening h lsn in balance-if_unknown opening (front_to h lsn) account (omega arith)
 
 -- the last balance of an account that it keeps
 pub last-in-range : (opening : Opening) (view : View) (h : List Placed) (account : ℕ) → HasViewed opening view h → account < length view.accounts
     → IsBalance (balance_after opening h account)
 last-in-range opening view h account viewed inside =
-    let counted = viewed.count in (judged-balance opening view.judge h account viewed.judged (omega arith)).0
+    let counted = viewed.count in (judged-balance_after_in_range opening view.judge h account viewed.judged (omega arith)).0
 
 module _ (opening : Opening) where
   -- behind an opening
@@ -70,7 +70,7 @@ module _ (opening : Opening) where
         each = λ account inside.
             let within : account < count = omega arith in
             subst (KeepsAccount opening [] account) (sym (ap (λ l. account_at l account) is ∙ get_or-replicate count account untouched untouched within))
-            (keeps-first opening account (omega arith));
+            (keeps_account-none opening account (omega arith));
       }
 
   module _ (old : View) (lsn : ℕ) (judge : Judge) (h : List Placed) (viewed : HasViewed opening old h) where
@@ -80,14 +80,14 @@ module _ (opening : Opening) where
     stays rec can judged account inside off =
         let counted = viewed.count in
         let kept = account_at old.accounts account in
-        keeps-same opening (entry_at lsn rec) h account kept
-        (stands-higher lsn (entry_at lsn rec).end kept (omega arith) (stands-below old lsn rec can account inside))
+        keeps_account-no_commit opening (entry_at lsn rec) h account kept
+        (stands_below-weaken lsn (entry_at lsn rec).end kept (omega arith) (can_add-stands_below old lsn rec can account inside))
         judged.ledger.judged.lawful.0 (omega arith) (viewed.each account inside) off
 
     -- a record that neither opens an account nor commits
-    pub views-plain : (rec : Rec) → (IsGenesis rec → ⊥) → commits rec ≡ false → CanAdd old lsn rec → HasJudged opening judge (entry_at lsn rec ∷ h)
+    pub views-other_kind : (rec : Rec) → (IsGenesis rec → ⊥) → commits rec ≡ false → CanAdd old lsn rec → HasJudged opening judge (entry_at lsn rec ∷ h)
         → HasViewed opening (record { judge = judge; accounts = old.accounts }) (entry_at lsn rec ∷ h)
-    views-plain rec other plain can judged = record {
+    views-other_kind rec other plain can judged = record {
       judged = judged;
       count = viewed.count ∙ same rec other;
       each = λ account inside. stays rec can judged account inside (ap (λ b. b && touches account (updates_of (txn_of rec) h)) plain);
@@ -121,7 +121,7 @@ module _ (opening : Opening) where
         count = omega arith;
         each = λ account inside. dite (ℕ_discrete account (length old.accounts))
             (λ new. subst (KeepsAccount opening (genesis ∷ h) account) (sym (get_or_at old.accounts opened [] untouched account (sym new)))
-            (keeps-opened opening genesis h account all (omega arith) (omega arith)))
+            (keeps_account-opened opening genesis h account all (omega arith) (omega arith)))
             (λ not_new. let within : account < length old.accounts = omega arith in
             subst (KeepsAccount opening (genesis ∷ h) account) (sym (get_or_append_left old.accounts (opened ∷ []) untouched account within))
             (stays (Genesis own balance) can judged account within refl));
@@ -138,11 +138,11 @@ module _ (opening : Opening) where
       adds account inside =
           let counted = viewed.count in
           let within : account < (base_with opening h).accounts = omega arith in
-          let before = judged-balance opening old.judge h account viewed.judged within in
-          let after = judged-balance opening judge (commit ∷ h) account judged within in (
+          let before = judged-balance_after_in_range opening old.judge h account viewed.judged within in
+          let after = judged-balance_after_in_range opening judge (commit ∷ h) account judged within in (
             before.0,
-            balance-adds opening txn legs commit.end h account (balance_after opening h account) (balance_after opening (commit ∷ h) account)
-                (meets-passes opening h commit judged.ledger.judged.lawful.0).ended before.1 after.1,
+            commit_balance-adds_net opening txn legs commit.end h account (balance_after opening h account) (balance_after opening (commit ∷ h) account)
+                (all_passed-meets_tests opening h commit judged.ledger.judged.lawful.0).ended before.1 after.1,
           )
 
       -- which leads on from what is kept of it
@@ -152,13 +152,13 @@ module _ (opening : Opening) where
         before = balance_after opening h account;
         range = sums.0;
         sum = sums.1;
-        last = λ first some. last_balance-some first kept.first (account_at old.accounts account).entries some ∙ kept.last;
+        last = λ first some. last_balance-any_first first kept.first (account_at old.accounts account).entries some ∙ kept.last;
       }
 
-      pub all-lead : (some : List Change) → AllByRecursion (λ (change : Change). change.account < length old.accounts) some
+      pub known_changes-all_lead_on : (some : List Change) → AllByRecursion (λ (change : Change). change.account < length old.accounts) some
           → AllLeadOn opening (commit ∷ h) (updates_of txn h) some old.accounts
-      all-lead [] known = tt
-      all-lead (change ∷ some) known = (leads change.account known.0, all-lead some known.1)
+      known_changes-all_lead_on [] known = tt
+      known_changes-all_lead_on (change ∷ some) known = (leads change.account known.0, known_changes-all_lead_on some known.1)
 
       entered : (account : ℕ) → account < length old.accounts → touches account (updates_of txn h) ≡ true
           → KeepsAccount opening (commit ∷ h) account (with_entry (account_at old.accounts account) (entry_of opening commit h account))
@@ -166,8 +166,8 @@ module _ (opening : Opening) where
           let counted = viewed.count in
           let kept = account_at old.accounts account in
           let sums = adds account inside in
-          keeps-entered opening commit h account kept
-          (stands-higher lsn commit.end kept (omega arith) (stands-below old lsn (Commit txn legs) can account inside))
+          keeps_account-commit opening commit h account kept
+          (stands_below-weaken lsn commit.end kept (omega arith) (can_add-stands_below old lsn (Commit txn legs) can account inside))
           judged.ledger.judged.lawful.0 (omega arith) (viewed.each account inside) on sums.0 sums.1
 
       pub views-commit : (new : List Account) → Enters opening (commit ∷ h) txn (lsn + 1) (updates_of txn h) (updates_of txn h) old.accounts new
@@ -185,58 +185,58 @@ module _ (opening : Opening) where
               subst (KeepsAccount opening (commit ∷ h) account) (sym (enters.left account off)) (stays (Commit txn legs) can judged account inside off)
 
     -- a record that is a Genesis
-    pub views-opened : (rec : Rec) (own balance since : ℕ) (accounts : List Account) → rec ≡ Genesis own balance → since ≡ lsn + 2
+    pub views-genesis_record : (rec : Rec) (own balance since : ℕ) (accounts : List Account) → rec ≡ Genesis own balance → since ≡ lsn + 2
         → accounts ≡ old.accounts ++ record { since = since; entries = [] } ∷ [] → CanAdd old lsn rec → HasJudged opening judge (entry_at lsn rec ∷ h)
         → HasViewed opening (record { judge = judge; accounts = accounts }) (entry_at lsn rec ∷ h)
-    views-opened rec own balance since accounts is from grown can judged =
+    views-genesis_record rec own balance since accounts is from grown can judged =
         subst (λ (l : List Account). HasViewed opening (record { judge = judge; accounts = l }) (entry_at lsn rec ∷ h))
         (sym (grown ∙ ap (λ s. old.accounts ++ record { since = s; entries = [] } ∷ []) from))
         (subst (λ r. HasViewed opening (record { judge = judge; accounts = old.accounts ++ record { since = lsn + 2; entries = [] } ∷ [] }) (entry_at lsn r ∷ h)) (sym is)
         (views-genesis own balance (subst (CanAdd old lsn) is can) (subst (λ r. HasJudged opening judge (entry_at lsn r ∷ h)) is judged)))
 
     -- what a Commit commits
-    pub commit-changes : (rec : Rec) (txn legs : ℕ) → rec ≡ Commit txn legs → HasJudged opening judge (entry_at lsn rec ∷ h) → open_changes_of txn h ≡ updates_of txn h
-    commit-changes rec txn legs is judged =
+    pub commit-open_changes_are_updates : (rec : Rec) (txn legs : ℕ) → rec ≡ Commit txn legs → HasJudged opening judge (entry_at lsn rec ∷ h) → open_changes_of txn h ≡ updates_of txn h
+    commit-open_changes_are_updates rec txn legs is judged =
         let own = subst (λ r. HasJudged opening judge (entry_at lsn r ∷ h)) is judged in
-        ap (λ b. cond b [] (updates_of txn h)) (meets-passes opening h (entry_at lsn (Commit txn legs)) own.ledger.judged.lawful.0).ended
+        ap (λ b. cond b [] (updates_of txn h)) (all_passed-meets_tests opening h (entry_at lsn (Commit txn legs)) own.ledger.judged.lawful.0).ended
 
     -- its accounts are kept
-    pub commit-known : (txn : ℕ) (changes : List Change) → changes ≡ updates_of txn h
+    pub updates_of-accounts_known : (txn : ℕ) (changes : List Change) → changes ≡ updates_of txn h
         → AllByRecursion (λ (change : Change). change.account < length old.accounts) changes
-    commit-known txn changes are =
+    updates_of-accounts_known txn changes are =
         subst (λ count. AllByRecursion (λ (change : Change). change.account < count) changes) (sym viewed.count)
         (subst (AllByRecursion (λ (change : Change). change.account < (base_with opening h).accounts)) (sym are)
-        (updates_of-fits (base_with opening h) h txn (met-lawful opening h viewed.judged.ledger.judged.lawful)).known)
+        (updates_of-fits (base_with opening h) h txn (lawful-met opening h viewed.judged.ledger.judged.lawful)).known)
 
     -- the net of a Commit's changes leads on, account by account
     pub commit-leads : (rec : Rec) (txn legs : ℕ) (changes : List Change) → rec ≡ Commit txn legs → changes ≡ open_changes_of txn h
         → CanAdd old lsn rec → HasJudged opening judge (entry_at lsn rec ∷ h) → AllLeadOn opening (entry_at lsn rec ∷ h) changes changes old.accounts
     commit-leads rec txn legs changes is are can judged =
-        let updates = are ∙ commit-changes rec txn legs is judged in
+        let updates = are ∙ commit-open_changes_are_updates rec txn legs is judged in
         subst (λ r. AllLeadOn opening (entry_at lsn r ∷ h) changes changes old.accounts) (sym is)
         (subst (λ (l : List Change). AllLeadOn opening (entry_at lsn (Commit txn legs) ∷ h) l l old.accounts) (sym updates)
-        (all-lead txn legs (subst (CanAdd old lsn) is can) (subst (λ r. HasJudged opening judge (entry_at lsn r ∷ h)) is judged)
-        (updates_of txn h) (commit-known txn (updates_of txn h) refl)))
+        (known_changes-all_lead_on txn legs (subst (CanAdd old lsn) is can) (subst (λ r. HasJudged opening judge (entry_at lsn r ∷ h)) is judged)
+        (updates_of txn h) (updates_of-accounts_known txn (updates_of txn h) refl)))
 
     -- a record that is a Commit
-    pub views-committed : (rec : Rec) (txn legs end : ℕ) (changes : List Change) (new : List Account) → rec ≡ Commit txn legs → end ≡ lsn + 1
+    pub views-commit_record : (rec : Rec) (txn legs end : ℕ) (changes : List Change) (new : List Account) → rec ≡ Commit txn legs → end ≡ lsn + 1
         → changes ≡ open_changes_of txn h → Enters opening (entry_at lsn rec ∷ h) txn end changes changes old.accounts new
         → CanAdd old lsn rec → HasJudged opening judge (entry_at lsn rec ∷ h) → HasViewed opening (record { judge = judge; accounts = new }) (entry_at lsn rec ∷ h)
-    views-committed rec txn legs end changes new is at are enters can judged =
-        let own = subst (λ (l : List Change). Enters opening (entry_at lsn rec ∷ h) txn end l l old.accounts new) (are ∙ commit-changes rec txn legs is judged) enters in
+    views-commit_record rec txn legs end changes new is at are enters can judged =
+        let own = subst (λ (l : List Change). Enters opening (entry_at lsn rec ∷ h) txn end l l old.accounts new) (are ∙ commit-open_changes_are_updates rec txn legs is judged) enters in
         subst (λ r. HasViewed opening (record { judge = judge; accounts = new }) (entry_at lsn r ∷ h)) (sym is)
         (views-commit txn legs (subst (CanAdd old lsn) is can) (subst (λ r. HasJudged opening judge (entry_at lsn r ∷ h)) is judged) new
         (subst (λ e. Enters opening (entry_at lsn (Commit txn legs) ∷ h) txn e (updates_of txn h) (updates_of txn h) old.accounts new) at
         (subst (λ r. Enters opening (entry_at lsn r ∷ h) txn end (updates_of txn h) (updates_of txn h) old.accounts new) is own)))
 
 -- what adding an entry says where it succeeds
-pub adds-taken : {A : Type 0} (old new : View) (entry : Placed) (r : Result A JudgeFault) → AddsEntry old new entry r
+pub adds_entry_ok-has_viewed : {A : Type 0} (old new : View) (entry : Placed) (r : Result A JudgeFault) → AddsEntry old new entry r
     → OnOk r ((opening : Opening) (h : List Placed) → HasViewed opening old h → HasViewed opening new (entry ∷ h))
-adds-taken old new entry (Ok x) adds = adds
-adds-taken old new entry (Err fault) adds = tt
+adds_entry_ok-has_viewed old new entry (Ok x) adds = adds
+adds_entry_ok-has_viewed old new entry (Err fault) adds = tt
 
 -- and where it fails
-pub adds-fault : {A : Type 0} (old new : View) (entry : Placed) (r : Result A JudgeFault) → AddsEntry old new entry r
+pub adds_entry_err-take_fault : {A : Type 0} (old new : View) (entry : Placed) (r : Result A JudgeFault) → AddsEntry old new entry r
     → IfErr r (λ fault. (opening : Opening) (h : List Placed) → HasViewed opening old h → IsTakeFault opening h entry fault)
-adds-fault old new entry (Ok x) adds = tt
-adds-fault old new entry (Err fault) adds = adds
+adds_entry_err-take_fault old new entry (Ok x) adds = tt
+adds_entry_err-take_fault old new entry (Err fault) adds = adds

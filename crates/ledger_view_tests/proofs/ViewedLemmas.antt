@@ -13,19 +13,19 @@ use Rattle.lock_core.specs.AccountRows.{opening_of}
 use Rattle.log_recovery.specs.declared.list_result.Listed.{Listed}
 use Rattle.log_recovery.specs.Opened.{log_of}
 use Rattle.log_recovery.specs.Recovery.{TakesBytes, list_of}
-use Rattle.log_recovery.proofs.RecoveryLemmas.{log-opening}
+use Rattle.log_recovery.proofs.RecoveryLemmas.{log_opening-none_or_snapshot}
 use Rattle.ledger_view.specs.declared.view.View.{View}
 use Rattle.ledger_view.specs.ViewedAccounts.{HasViewed}
 
 module _ (view : View) (listed : Listed) (bytes : List ℕ) (takes : TakesBytes HasViewed view listed bytes) where
-  pub viewed-taken : (opening : Opening) × (h : List Placed) × HasViewed opening view h
-  viewed-taken = (opening_of listed.opening, _, takes.taken)
+  pub takes_bytes-has_viewed : (opening : Opening) × (h : List Placed) × HasViewed opening view h
+  takes_bytes-has_viewed = (opening_of listed.opening, _, takes.taken)
 
-  pub opening-taken : (listed.opening.accounts ≡ []) ⊎ IsSnapshot listed.opening
-  opening-taken = log-opening bytes (log_of (list_of listed takes.records)) takes.held.list.holds
+  pub takes_bytes-empty_or_snapshot : (listed.opening.accounts ≡ []) ⊎ IsSnapshot listed.opening
+  takes_bytes-empty_or_snapshot = log_opening-none_or_snapshot bytes (log_of (list_of listed takes.records)) takes.held.list.holds
 
-  pub fits-taken : (units : List ℕ) → units ≡ listed.units → listed.opening.lsn + length units ≤ LAST
-  fits-taken units is = omega (arith, takes.held.list.holds.reads.total, ap length (is ∙ takes.has.list.units_are))
+  pub takes_bytes-within_log : (units : List ℕ) → units ≡ listed.units → listed.opening.lsn + length units ≤ LAST
+  takes_bytes-within_log units is = omega (arith, takes.held.list.holds.reads.total, ap length (is ∙ takes.has.list.units_are))
 
 -- A view was given these entries behind the opening, and the rest of the units is still to come, from this LSN on.
 pub record IsGiven (opening : Opening) (units rest : List ℕ) (view : View) (entries : List Placed) (lsn : ℕ) : Type 0 where
@@ -39,8 +39,8 @@ module _ (opening : Opening) (units rest : List ℕ) (old : View) (entries : Lis
   size-fits : length (spelling rec) ≤ length rest
   size-fits = let whole = ap length begins.2 in let parts = length-append (spelling rec) begins.1 in omega arith
 
-  pub given-fits : opening.state.end + length units ≤ LAST → lsn + length (spelling rec) ≤ LAST
-  given-fits fits = omega (arith, size-fits, given.left)
+  pub given_record-within_log : opening.state.end + length units ≤ LAST → lsn + length (spelling rec) ≤ LAST
+  given_record-within_log fits = omega (arith, size-fits, given.left)
 
   grown : (entry : Placed) → reverse (entries ++ entry ∷ []) ≡ entry ∷ reverse entries
   grown entry = reverse-append entries (entry ∷ [])
@@ -52,10 +52,10 @@ module _ (opening : Opening) (units rest : List ℕ) (old : View) (entries : Lis
   some = omega (arith, ap length (spelling-parts_of rec))
 
   -- the record is given, and as its entry is noted
-  pub given-next : (after : List ℕ) (new : View) (entry : Placed) → after ≡ drop (length (spelling rec)) rest → entry.rec ≡ rec
+  pub is_given-push : (after : List ℕ) (new : View) (entry : Placed) → after ≡ drop (length (spelling rec)) rest → entry.rec ≡ rec
       → entry.end ≡ lsn + length (spelling rec) → HasViewed opening new (entry_at lsn rec ∷ reverse entries)
       → IsGiven opening units after new (entries ++ entry ∷ []) entry.end
-  given-next after new entry dropped rec-is end-is viewed =
+  is_given-push after new entry dropped rec-is end-is viewed =
       let noted : entry ≡ entry_at lsn rec = λ i. record { end = end-is i; rec = rec-is i } in record {
         viewed = subst (HasViewed opening new) (ap (λ e. e ∷ reverse entries) (sym noted) ∙ sym (grown entry)) viewed;
         place = ap (end_from opening.state.end) (sym (grown entry));

@@ -11,11 +11,11 @@ use Rattle.lock_core.specs.Transactions.{of_transaction, own_records_of, updates
 use Rattle.lock_core.specs.Sums.{BaseState, Opening, base_after, moved, moved_by, total, IsBalanceOf, balance_of, AreInRange, last_commit_of, greatest_txn}
 use Rattle.lock_core.specs.Tests.{IsGenesis, HasNoGenesis, OpensLedger, AreAbove, IsCurrent, IsPaired}
 use Rattle.lock_core.specs.Lawful.{IsLawful, base_with, with_genesis, base_state_of, opening_after}
-use Rattle.lock_core.proofs.OneMore.{has_commit-unended, total-plain, total-empty}
-use Rattle.lock_core.proofs.Meeting.{MeetsTests, AreMet, meets-passes, passes-meets, met-lawful}
-use Rattle.lock_core.proofs.Ranging.{balance_of-is}
-use Rattle.lock_core.proofs.KindLemmas.{accounts-most}
-use Rattle.lock_core.proofs.Apart.{own_records_of-left, own_records_of-right, none-shared, share_none-sym, share_none-numbers, below-greatest}
+use Rattle.lock_core.proofs.OneMore.{has_commit-unended, total-uncommitted, total-no_change}
+use Rattle.lock_core.proofs.Meeting.{MeetsTests, AreMet, all_passed-meets_tests, meets_tests-all_passed, lawful-met}
+use Rattle.lock_core.proofs.Ranging.{is_balance-equals_balance_of}
+use Rattle.lock_core.proofs.KindLemmas.{base_with-accounts_le}
+use Rattle.lock_core.proofs.Apart.{own_records_of-append_none, own_records_of-none_append, share_none-of_transaction_none, share_none-sym, numbers_apart-share_none, greatest_txn_below-all_below}
 
 moved_by-append : (counts : ℕ → Bool) (side : ℤ → ℕ) (account : ℕ) (h l : List Placed)
     → moved_by counts side account (h ++ l) ≡ moved_by counts side account h + moved_by counts side account l
@@ -33,9 +33,9 @@ pub total-append : (side : ℤ → ℕ) (account : ℕ) (h l : List Placed) → 
     → total side account (h ++ l) ≡ total side account h + total side account l
 total-append side account h l apart =
     let ours = moved_by-where (λ n. is_committed n (h ++ l)) (λ n. is_committed n h) side account (λ (entry : Placed). of_transaction (txn_of entry.rec) l ≡ [])
-    (λ entry none. ap has_commit (own_records_of-left (txn_of entry.rec) h l none)) h (none-shared h l apart) in
+    (λ entry none. ap has_commit (own_records_of-append_none (txn_of entry.rec) h l none)) h (share_none-of_transaction_none h l apart) in
     let theirs = moved_by-where (λ n. is_committed n (h ++ l)) (λ n. is_committed n l) side account (λ (entry : Placed). of_transaction (txn_of entry.rec) h ≡ [])
-    (λ entry none. ap has_commit (own_records_of-right (txn_of entry.rec) h l none)) l (none-shared l h (share_none-sym h l apart)) in
+    (λ entry none. ap has_commit (own_records_of-none_append (txn_of entry.rec) h l none)) l (share_none-of_transaction_none l h (share_none-sym h l apart)) in
     moved_by-append (λ n. is_committed n (h ++ l)) side account h l ∙ (λ i. ours i + theirs i)
 
 -- last Commits go on
@@ -44,14 +44,14 @@ pub last_commit_of-append : (base later : BaseState) (h l : List Placed) (accoun
     → last_commit_of base (h ++ l) account ≡ last_commit_of later h account
 last_commit_of-append base later [] l account start none = sym start
 last_commit_of-append base later (entry ∷ h) l account start none =
-    λ i. cond (commits entry.rec && touches account (changes_in (own_records_of-left (txn_of entry.rec) h l none.0 i))) entry.end
+    λ i. cond (commits entry.rec && touches account (changes_in (own_records_of-append_none (txn_of entry.rec) h l none.0 i))) entry.end
     (last_commit_of-append base later h l account start none.1 i)
 
 -- where the tests are met, the balance is a balance
-pub is_balance-met : (base : BaseState) (h : List Placed) (account : ℕ) → account < base.accounts → AreMet base h
+pub met-balance_of_is_balance : (base : BaseState) (h : List Placed) (account : ℕ) → account < base.accounts → AreMet base h
     → IsBalanceOf base h account (balance_of base h account)
-is_balance-met base [] account inside met = omega arith
-is_balance-met base (entry ∷ h) account inside met = by_kind entry.rec entry.end met.0 (is_balance-met base h account inside met.1)
+met-balance_of_is_balance base [] account inside met = omega arith
+met-balance_of_is_balance base (entry ∷ h) account inside met = by_kind entry.rec entry.end met.0 (met-balance_of_is_balance base h account inside met.1)
   where
     same : (now : Placed) → ((side : ℤ → ℕ) → total side account (now ∷ h) ≡ total side account h) → IsBalanceOf base h account (balance_of base h account)
         → IsBalanceOf base (now ∷ h) account (balance_of base (now ∷ h) account)
@@ -60,31 +60,31 @@ is_balance-met base (entry ∷ h) account inside met = by_kind entry.rec entry.e
     by_kind : (rec : Rec) (end : ℕ) → MeetsTests base h (record { end = end; rec = rec }) → IsBalanceOf base h account (balance_of base h account)
         → IsBalanceOf base (record { end = end; rec = rec } ∷ h) account (balance_of base (record { end = end; rec = rec } ∷ h) account)
     by_kind (Genesis opened balance) end meets before = let now : Placed = record { end = end; rec = Genesis opened balance } in
-        same now (λ side. total-empty side account now h refl refl) before
+        same now (λ side. total-no_change side account now h refl refl) before
     by_kind (Update txn changed delta prev) end meets before = let now : Placed = record { end = end; rec = Update txn changed delta prev } in
-        same now (λ side. total-plain side account now h refl (has_commit-unended (own_records_of txn h) meets.ended)) before
+        same now (λ side. total-uncommitted side account now h refl (has_commit-unended (own_records_of txn h) meets.ended)) before
     by_kind (Commit txn legs) end meets before = let now : Placed = record { end = end; rec = Commit txn legs } in
         let found = meets.balance refl account inside in
-        subst (IsBalanceOf base (now ∷ h) account) (sym (balance_of-is base (now ∷ h) account found.0 found.2)) found.2
+        subst (IsBalanceOf base (now ∷ h) account) (sym (is_balance-equals_balance_of base (now ∷ h) account found.0 found.2)) found.2
     by_kind (Short txn leg) end meets before = let now : Placed = record { end = end; rec = Short txn leg } in
-        same now (λ side. total-empty side account now h refl refl) before
+        same now (λ side. total-no_change side account now h refl refl) before
     by_kind (Over txn leg) end meets before = let now : Placed = record { end = end; rec = Over txn leg } in
-        same now (λ side. total-empty side account now h refl refl) before
+        same now (λ side. total-no_change side account now h refl refl) before
     by_kind (Note txn text) end meets before = let now : Placed = record { end = end; rec = Note txn text } in
-        same now (λ side. total-empty side account now h refl refl) before
+        same now (λ side. total-no_change side account now h refl refl) before
 
 module _ (base : BaseState) (l : List Placed) (met : AreMet base l) where
   -- a balance after the base state that l leaves is one after both lists
   pub is_balance-append : (h : List Placed) (account balance : ℕ) → account < base.accounts → ShareNoTransaction h l
       → IsBalanceOf (base_after base l) h account balance → IsBalanceOf base (h ++ l) account balance
   is_balance-append h account balance inside apart is =
-      let before = is_balance-met base l account inside met in
+      let before = met-balance_of_is_balance base l account inside met in
       let gains = total-append gain account h l apart in let losses = total-append loss account h l apart in omega arith
 
   pub balance_of-append : (h : List Placed) (account : ℕ) → account < base.accounts → ShareNoTransaction h l
       → balance_of base (h ++ l) account ≡ balance_of (base_after base l) h account
   balance_of-append h account inside apart =
-      let before = is_balance-met base l account inside met in
+      let before = met-balance_of_is_balance base l account inside met in
       let gains = total-append gain account h l apart in let losses = total-append loss account h l apart in omega arith
 
   -- an entry meets the tests on both lists that it meets after the base state that l leaves
@@ -93,7 +93,7 @@ module _ (base : BaseState) (l : List Placed) (met : AreMet base l) where
   meets-append h entry other apart meets = by_kind entry.rec entry.end other apart meets
     where
       last : (h : List Placed) (account : ℕ) → ShareNoTransaction h l → last_commit_of (base_after base l) h account ≡ last_commit_of base (h ++ l) account
-      last h account apart = sym (last_commit_of-append base (base_after base l) h l account refl (none-shared h l apart))
+      last h account apart = sym (last_commit_of-append base (base_after base l) h l account refl (share_none-of_transaction_none h l apart))
 
       all_current : (h : List Placed) → ShareNoTransaction h l → (changes : List Change)
           → AllByRecursion (IsCurrent (base_after base l) h) changes → AllByRecursion (IsCurrent base (h ++ l)) changes
@@ -105,7 +105,7 @@ module _ (base : BaseState) (l : List Placed) (met : AreMet base l) where
           let found = range account inside in (found.0, found.1, is_balance-append h account found.0 inside apart found.2)
 
       own : (rec : Rec) (end : ℕ) → ShareNoTransaction (record { end = end; rec = rec } ∷ h) l → own_records_of (txn_of rec) h ≡ own_records_of (txn_of rec) (h ++ l)
-      own rec end apart = sym (own_records_of-left (txn_of rec) h l (none-shared (record { end = end; rec = rec } ∷ h) l apart).0)
+      own rec end apart = sym (own_records_of-append_none (txn_of rec) h l (share_none-of_transaction_none (record { end = end; rec = rec } ∷ h) l apart).0)
 
       by_kind : (rec : Rec) (end : ℕ) → (IsGenesis rec → ⊥) → ShareNoTransaction (record { end = end; rec = rec } ∷ h) l
           → MeetsTests (base_after base l) h (record { end = end; rec = rec }) → MeetsTests base (h ++ l) (record { end = end; rec = rec })
@@ -163,30 +163,30 @@ module _ (base : BaseState) (l : List Placed) (met : AreMet base l) where
 
 -- ---- behind an account there is no Genesis
 
-pub with_genesis-other : (rec : Rec) (base : BaseState) → (IsGenesis rec → ⊥) → with_genesis rec base ≡ base
-with_genesis-other (Genesis account balance) base other = absurd (other tt)
-with_genesis-other (Update txn account delta prev) base other = refl
-with_genesis-other (Commit txn legs) base other = refl
-with_genesis-other (Short txn leg) base other = refl
-with_genesis-other (Over txn leg) base other = refl
-with_genesis-other (Note txn text) base other = refl
+pub with_genesis-not_genesis : (rec : Rec) (base : BaseState) → (IsGenesis rec → ⊥) → with_genesis rec base ≡ base
+with_genesis-not_genesis (Genesis account balance) base other = absurd (other tt)
+with_genesis-not_genesis (Update txn account delta prev) base other = refl
+with_genesis-not_genesis (Commit txn legs) base other = refl
+with_genesis-not_genesis (Short txn leg) base other = refl
+with_genesis-not_genesis (Over txn leg) base other = refl
+with_genesis-not_genesis (Note txn text) base other = refl
 
 -- what has no Genesis opens no account
-pub base_with-append : (opening : Opening) (h l : List Placed) → HasNoGenesis h → base_with opening (h ++ l) ≡ base_with opening l
-base_with-append opening [] l none = refl
-base_with-append opening (entry ∷ h) l none = with_genesis-other entry.rec (base_with opening (h ++ l)) none.0 ∙ base_with-append opening h l none.1
+pub base_with-append_no_genesis : (opening : Opening) (h l : List Placed) → HasNoGenesis h → base_with opening (h ++ l) ≡ base_with opening l
+base_with-append_no_genesis opening [] l none = refl
+base_with-append_no_genesis opening (entry ∷ h) l none = with_genesis-not_genesis entry.rec (base_with opening (h ++ l)) none.0 ∙ base_with-append_no_genesis opening h l none.1
 
-pub base_with-other : (opening : Opening) (h : List Placed) → HasNoGenesis h → base_with opening h ≡ opening.state
-base_with-other opening [] none = refl
-base_with-other opening (entry ∷ h) none = with_genesis-other entry.rec (base_with opening h) none.0 ∙ base_with-other opening h none.1
+pub base_with-no_genesis : (opening : Opening) (h : List Placed) → HasNoGenesis h → base_with opening h ≡ opening.state
+base_with-no_genesis opening [] none = refl
+base_with-no_genesis opening (entry ∷ h) none = with_genesis-not_genesis entry.rec (base_with opening h) none.0 ∙ base_with-no_genesis opening h none.1
 
-pub opens-other : (opening : Opening) (h : List Placed) (rec : Rec) → 0 < opening.state.accounts + length h → (IsGenesis rec → ⊥) → OpensLedger opening h rec
-opens-other opening h (Genesis account balance) some other = absurd (other tt)
-opens-other opening h (Update txn account delta prev) some other = some
-opens-other opening h (Commit txn legs) some other = some
-opens-other opening h (Short txn leg) some other = some
-opens-other opening h (Over txn leg) some other = some
-opens-other opening h (Note txn text) some other = some
+pub not_genesis-opens_ledger : (opening : Opening) (h : List Placed) (rec : Rec) → 0 < opening.state.accounts + length h → (IsGenesis rec → ⊥) → OpensLedger opening h rec
+not_genesis-opens_ledger opening h (Genesis account balance) some other = absurd (other tt)
+not_genesis-opens_ledger opening h (Update txn account delta prev) some other = some
+not_genesis-opens_ledger opening h (Commit txn legs) some other = some
+not_genesis-opens_ledger opening h (Short txn leg) some other = some
+not_genesis-opens_ledger opening h (Over txn leg) some other = some
+not_genesis-opens_ledger opening h (Note txn text) some other = some
 
 -- behind an account there is no Genesis
 other-opens : (opening : Opening) (h : List Placed) (rec : Rec) → 0 < opening.state.accounts → OpensLedger opening h rec → IsGenesis rec → ⊥
@@ -197,13 +197,13 @@ other-opens opening h (Short txn leg) some opens is = is
 other-opens opening h (Over txn leg) some opens is = is
 other-opens opening h (Note txn text) some opens is = is
 
-pub none-genesis : (opening : Opening) (h : List Placed) → 0 < opening.state.accounts → IsLawful opening h → HasNoGenesis h
-none-genesis opening [] some lawful = tt
-none-genesis opening (entry ∷ h) some lawful = (other-opens opening h entry.rec some lawful.0.0, none-genesis opening h some lawful.1)
+pub lawful-no_genesis : (opening : Opening) (h : List Placed) → 0 < opening.state.accounts → IsLawful opening h → HasNoGenesis h
+lawful-no_genesis opening [] some lawful = tt
+lawful-no_genesis opening (entry ∷ h) some lawful = (other-opens opening h entry.rec some lawful.0.0, lawful-no_genesis opening h some lawful.1)
 
 -- behind an account the tests are met with the opening's state
-pub met-behind : (opening : Opening) (h : List Placed) → 0 < opening.state.accounts → IsLawful opening h → AreMet opening.state h
-met-behind opening h some lawful = subst (λ base. AreMet base h) (base_with-other opening h (none-genesis opening h some lawful)) (met-lawful opening h lawful)
+pub lawful-met_with_opening_state : (opening : Opening) (h : List Placed) → 0 < opening.state.accounts → IsLawful opening h → AreMet opening.state h
+lawful-met_with_opening_state opening h some lawful = subst (λ base. AreMet base h) (base_with-no_genesis opening h (lawful-no_genesis opening h some lawful)) (lawful-met opening h lawful)
 
 -- ---- appending
 
@@ -216,34 +216,34 @@ pub lawful-append : (opening : Opening) (txn : ℕ) (h l : List Placed) → IsLa
     → IsLawful opening (h ++ l)
 lawful-append opening txn [] l before some lawful above apart = before
 lawful-append opening txn (entry ∷ h) l before some lawful above apart =
-    let none = none-genesis (state_after opening l txn) (entry ∷ h) some lawful in
+    let none = lawful-no_genesis (state_after opening l txn) (entry ∷ h) some lawful in
     let meets : MeetsTests (base_after (base_with opening l) l) h entry =
-    subst (λ base. MeetsTests base h entry) (base_with-other (state_after opening l txn) h none.1) (meets-passes (state_after opening l txn) h entry lawful.0) in (
-      passes-meets opening (h ++ l) entry
-          (opens-other opening (h ++ l) entry.rec (let most = accounts-most opening l in let long = length-append h l in omega arith) none.0)
+    subst (λ base. MeetsTests base h entry) (base_with-no_genesis (state_after opening l txn) h none.1) (all_passed-meets_tests (state_after opening l txn) h entry lawful.0) in (
+      meets_tests-all_passed opening (h ++ l) entry
+          (not_genesis-opens_ledger opening (h ++ l) entry.rec (let most = base_with-accounts_le opening l in let long = length-append h l in omega arith) none.0)
           above.0
-          (subst (λ base. MeetsTests base (h ++ l) entry) (sym (base_with-append opening h l none.1))
-          (meets-append (base_with opening l) l (met-lawful opening l before) h entry none.0 apart meets)),
+          (subst (λ base. MeetsTests base (h ++ l) entry) (sym (base_with-append_no_genesis opening h l none.1))
+          (meets-append (base_with opening l) l (lawful-met opening l before) h entry none.0 apart meets)),
       lawful-append opening txn h l before some lawful.1 above.1 apart.1,
     )
 
 -- numbers that are above the opening's, one by one
-pub above-all : (opening : Opening) (h : List Placed) → IsLawful opening h → HasNoGenesis h
+pub lawful-above_opening_txn : (opening : Opening) (h : List Placed) → IsLawful opening h → HasNoGenesis h
     → AllByRecursion (λ (entry : Placed). suc opening.txn ≤ txn_of entry.rec) h
-above-all opening [] lawful none = tt
-above-all opening (entry ∷ h) lawful none = (let high = lawful.0.1.1.0.0 none.0 in omega arith, above-all opening h lawful.1 none.1)
+lawful-above_opening_txn opening [] lawful none = tt
+lawful-above_opening_txn opening (entry ∷ h) lawful none = (let high = lawful.0.1.1.0.0 none.0 in omega arith, lawful-above_opening_txn opening h lawful.1 none.1)
 
 -- numbers from one on are above those below it
-pub above-from : (low first : ℕ) → low < first → (h : List Placed) → AllByRecursion (λ (entry : Placed). first ≤ txn_of entry.rec) h → AreAbove low h
-above-from low first less [] all = tt
-above-from low first less (entry ∷ h) all = ((λ other. let here = all.0 in omega arith), above-from low first less h all.1)
+pub numbers_from-are_above : (low first : ℕ) → low < first → (h : List Placed) → AllByRecursion (λ (entry : Placed). first ≤ txn_of entry.rec) h → AreAbove low h
+numbers_from-are_above low first less [] all = tt
+numbers_from-are_above low first less (entry ∷ h) all = ((λ other. let here = all.0 in omega arith), numbers_from-are_above low first less h all.1)
 
 -- what is lawful behind the opening that a list leaves shares no transaction with it, and follows it
-pub lawful-goes_on : (opening : Opening) (h l : List Placed) → IsLawful opening l → 0 < (base_with opening l).accounts
+pub lawful-append_opening_after : (opening : Opening) (h l : List Placed) → IsLawful opening l → 0 < (base_with opening l).accounts
     → IsLawful (opening_after opening l) h → IsLawful opening (h ++ l)
-lawful-goes_on opening h l before some lawful =
+lawful-append_opening_after opening h l before some lawful =
     let most : ℕ = max opening.txn (greatest_txn l) in
-    let all = above-all (opening_after opening l) h lawful (none-genesis (opening_after opening l) h some lawful) in
+    let all = lawful-above_opening_txn (opening_after opening l) h lawful (lawful-no_genesis (opening_after opening l) h some lawful) in
     lawful-append opening most h l before some lawful
-    (above-from opening.txn (suc most) (omega arith) h all)
-    (share_none-numbers (suc most) h l all (below-greatest l (suc most) (omega arith)))
+    (numbers_from-are_above opening.txn (suc most) (omega arith) h all)
+    (numbers_apart-share_none (suc most) h l all (greatest_txn_below-all_below l (suc most) (omega arith)))

@@ -41,15 +41,15 @@ module _ (links : List UpdateLink) (first : link_at links 0 ≡ no_link) where
   at-none place none = ap (λ p. (link_at links p).change) none ∙ ap (λ (link : UpdateLink). link.change) first
 
   -- a change is paired with a chain exactly where it is with the newest of it
-  pub paired-chain : (place : ℕ) (changes : List Change) (change : Change) → HasChain links place changes
+  pub paired_newest-paired_chain : (place : ℕ) (changes : List Change) (change : Change) → HasChain links place changes
       → IsPaired ((link_at links place).change ∷ []) change → IsPaired changes change
-  paired-chain place [] change chain paired = subst (λ (newest : Change). IsPaired (newest ∷ []) change) (at-none place chain) paired
-  paired-chain place (newest ∷ changes) change chain paired = subst (λ (c : Change). IsPaired (c ∷ []) change) chain.2 paired
+  paired_newest-paired_chain place [] change chain paired = subst (λ (newest : Change). IsPaired (newest ∷ []) change) (at-none place chain) paired
+  paired_newest-paired_chain place (newest ∷ changes) change chain paired = subst (λ (c : Change). IsPaired (c ∷ []) change) chain.2 paired
 
-  pub chain-paired : (place : ℕ) (changes : List Change) (change : Change) → HasChain links place changes
+  pub paired_chain-paired_newest : (place : ℕ) (changes : List Change) (change : Change) → HasChain links place changes
       → IsPaired changes change → IsPaired ((link_at links place).change ∷ []) change
-  chain-paired place [] change chain paired = subst (λ (newest : Change). IsPaired (newest ∷ []) change) (sym (at-none place chain)) paired
-  chain-paired place (newest ∷ changes) change chain paired = subst (λ (c : Change). IsPaired (c ∷ []) change) (sym chain.2) paired
+  paired_chain-paired_newest place [] change chain paired = subst (λ (newest : Change). IsPaired (newest ∷ []) change) (sym (at-none place chain)) paired
+  paired_chain-paired_newest place (newest ∷ changes) change chain paired = subst (λ (c : Change). IsPaired (c ∷ []) change) (sym chain.2) paired
 
 pub chain-inside : (links : List UpdateLink) (place : ℕ) (changes : List Change) → 0 < length links → HasChain links place changes → place < length links
 chain-inside links place [] some chain = omega arith
@@ -65,9 +65,9 @@ pub record Collects (links : List UpdateLink) (place : ℕ) (collected : List Ch
 pub collects-none : (links : List UpdateLink) (place : ℕ) (changes : List Change) → HasChain links place changes → length changes ≤ 16 → Collects links place [] place
 collects-none links place changes chain few = record { rest = changes; chain = chain; whole = chain; few = omega arith }
 
-pub collects-inside : (links : List UpdateLink) (place : ℕ) (collected : List Change) (at : ℕ) → 0 < at → Collects links place collected at
+pub collects-inside_and_room : (links : List UpdateLink) (place : ℕ) (collected : List Change) (at : ℕ) → 0 < at → Collects links place collected at
     → (at < length links) × (length collected < 16)
-collects-inside links place collected at some collects = by_rest collects.rest collects.chain collects.few
+collects-inside_and_room links place collected at some collects = by_rest collects.rest collects.chain collects.few
   where
     by_rest : (rest : List Change) → HasChain links at rest → length collected + length rest ≤ 16 → (at < length links) × (length collected < 16)
     by_rest [] chain few = absurd (omega arith)
@@ -90,8 +90,8 @@ collects-more links place collected at link some is collects = by_rest collects.
           few = omega arith;
         }
 
-pub collects-all : (links : List UpdateLink) (place : ℕ) (collected : List Change) (at : ℕ) → at ≡ 0 → Collects links place collected at → HasChain links place collected
-collects-all links place collected at none collects = by_rest collects.rest collects.chain collects.whole
+pub collects_to_zero-has_chain : (links : List UpdateLink) (place : ℕ) (collected : List Change) (at : ℕ) → at ≡ 0 → Collects links place collected at → HasChain links place collected
+collects_to_zero-has_chain links place collected at none collects = by_rest collects.rest collects.chain collects.whole
   where
     by_rest : (rest : List Change) → HasChain links at rest → HasChain links place (collected ++ rest) → HasChain links place collected
     by_rest [] chain whole = subst (HasChain links place) (append-nil collected) whole

@@ -9,7 +9,7 @@ use Rattle.log_record.specs.Spelling.{IsBalance}
 use Rattle.lock_core.specs.Records.{gain, loss}
 use Rattle.lock_core.specs.Transactions.{touches}
 use Rattle.lock_core.specs.AccountRows.{row, IsBalanceAfter, AppliesToRow, AppliesToAccount, AppliesChanges, AreRowsInRange}
-use Rattle.lock_core.proofs.OneMore.{moved-append, neither, or-false, or-true}
+use Rattle.lock_core.proofs.OneMore.{moved-append, or_false-both_false, or-false, or-true}
 
 pub moved-take_more : (side : ℤ → ℕ) (account : ℕ) (changes : List Change) (i : ℕ) (change : Change) → i < length changes
     → change ≡ get_or changes i change
@@ -22,7 +22,7 @@ moved-take_more side account changes i change inside is =
 pub moved-untouched : (side : ℤ → ℕ) (account : ℕ) (changes : List Change) → touches account changes ≡ false → moved side account changes ≡ 0
 moved-untouched side account [] off = refl
 moved-untouched side account (change ∷ changes) off =
-    let parts = neither (change.account == account) (touches account changes) off in
+    let parts = or_false-both_false (change.account == account) (touches account changes) off in
     let here : cond {A = ℕ} (change.account == account) (side change.delta) 0 ≡ 0 = ap (λ b. cond {A = ℕ} b (side change.delta) 0) parts.0 in
     let rest = moved-untouched side account changes parts.1 in omega arith
 
@@ -32,8 +32,8 @@ pub record AppliesToTouched (some changes : List Change) (end : ℕ) (old new : 
   pub done : (account : ℕ) → touches account some ≡ true → AppliesToRow changes end account (row old account) (row new account)
   pub left : (account : ℕ) → touches account some ≡ false → row new account ≡ row old account
 
-pub applied-none : (changes : List Change) (end : ℕ) (rows : List (ℕ × ℕ)) → AppliesToTouched [] changes end rows rows
-applied-none changes end rows = record { count = refl; done = λ account on. absurd (true≢false (sym on)); left = λ account off. refl }
+pub applies_touched-none : (changes : List Change) (end : ℕ) (rows : List (ℕ × ℕ)) → AppliesToTouched [] changes end rows rows
+applies_touched-none changes end rows = record { count = refl; done = λ account on. absurd (true≢false (sym on)); left = λ account off. refl }
 
 touches-more : (account : ℕ) (changes : List Change) (change : Change) → touches account (changes ++ change ∷ []) ≡ (touches account changes || (change.account == account))
 touches-more account [] change = or-false (change.account == account)
@@ -45,12 +45,12 @@ touches-more account (first ∷ changes) change = by_case (first.account == acco
     by_case false rest = rest
 
 -- a change on an account that is applied adds nothing
-pub applied-again : (some changes : List Change) (change : Change) (end : ℕ) (old new : List (ℕ × ℕ)) → touches change.account some ≡ true
+pub applies_touched-push_touched : (some changes : List Change) (change : Change) (end : ℕ) (old new : List (ℕ × ℕ)) → touches change.account some ≡ true
     → AppliesToTouched some changes end old new → AppliesToTouched (some ++ change ∷ []) changes end old new
-applied-again some changes change end old new on before = record {
+applies_touched-push_touched some changes change end old new on before = record {
   count = before.count;
   done = λ account touched. by_case account (touches account some) refl (sym (touches-more account some change) ∙ touched);
-  left = λ account untouched. before.left account (neither (touches account some) (change.account == account) (sym (touches-more account some change) ∙ untouched)).0;
+  left = λ account untouched. before.left account (or_false-both_false (touches account some) (change.account == account) (sym (touches-more account some change) ∙ untouched)).0;
 }
   where
     by_case : (account : ℕ) (b : Bool) → touches account some ≡ b → (touches account some || (change.account == account)) ≡ true
@@ -61,10 +61,10 @@ applied-again some changes change end old new on before = record {
         subst (λ a. AppliesToRow changes end a (row old a) (row new a)) same (before.done change.account on)
 
 -- a change on another account applies that one
-pub applied-more : (some changes : List Change) (change : Change) (end : ℕ) (old new newer : List (ℕ × ℕ)) → touches change.account some ≡ false
+pub applies_touched-push_untouched : (some changes : List Change) (change : Change) (end : ℕ) (old new newer : List (ℕ × ℕ)) → touches change.account some ≡ false
     → touches change.account changes ≡ true → change.account < length old → AppliesToTouched some changes end old new → AppliesToAccount changes change.account end new newer
     → AppliesToTouched (some ++ change ∷ []) changes end old newer
-applied-more some changes change end old new newer off on inside before here =
+applies_touched-push_untouched some changes change end old new newer off on inside before here =
     let counted = before.count in
     let grown = ap length here.rows ∙ length-set new change.account (here.balance, end) in
     record {
@@ -74,7 +74,7 @@ applied-more some changes change end old new newer off on inside before here =
           (λ other. subst (AppliesToRow changes end account (row old account)) (sym (row-other account other))
           (before.done account (by_other account other (touches account some) refl (sym (touches-more account some change) ∙ touched))));
       left = λ account untouched.
-          let parts = neither (touches account some) (change.account == account) (sym (touches-more account some change) ∙ untouched) in
+          let parts = or_false-both_false (touches account some) (change.account == account) (sym (touches-more account some change) ∙ untouched) in
           row-other account (λ same. true≢false (sym (eq-eqb change.account account (sym same)) ∙ parts.1)) ∙ before.left account parts.0;
     }
   where
@@ -101,8 +101,8 @@ applied-more some changes change end old new newer off on inside before here =
         absurd (other (sym (eqb-true change.account account (sym (ap (λ b. b || (change.account == account)) is) ∙ either))))
 
 -- with all changes, all rows are applied
-pub applied-all : (changes : List Change) (end : ℕ) (old new : List (ℕ × ℕ)) → AreRowsInRange old → AppliesToTouched changes changes end old new → AppliesChanges changes end old new
-applied-all changes end old new range applied = record {
+pub applies_touched-applies_changes : (changes : List Change) (end : ℕ) (old new : List (ℕ × ℕ)) → AreRowsInRange old → AppliesToTouched changes changes end old new → AppliesChanges changes end old new
+applies_touched-applies_changes changes end old new range applied = record {
   count = applied.count;
   each = λ account inside. by_case account inside (touches account changes) refl;
 }

@@ -19,11 +19,11 @@ use Rattle.lock_core.specs.Sums.{BaseState, moved, moved_by, total, balance_of}
 use Rattle.lock_core.specs.Alone.{PlainTransfer, IsAllowedLeg, IsAllowedTransfer, Done, ShortAt, OverAt, lacks, overfills, after_leg, outcome_from, with_note, leg_updates, outcome_records}
 use Rattle.lock_core.specs.Serial.{NumberedTransfer, numbered, IsRunWhole, IsCutShort, HasNoOthers, IsSerialAfter, IsPartlySerialAfter}
 use Rattle.lock_core.specs.AnyOrder.{given, taken, legs_of, HasRoomFor, IsDoneIn, done_records, weight_of}
-use Rattle.lock_core.proofs.OneMore.{neither, of_transaction-same, has_commit-unended}
-use Rattle.lock_core.proofs.Apart.{own_records_of-right}
+use Rattle.lock_core.proofs.OneMore.{or_false-both_false, of_transaction-first_own, has_commit-unended}
+use Rattle.lock_core.proofs.Apart.{own_records_of-none_append}
 use Rattle.lock_core.proofs.NextRecords.{size-without_prev}
-use Rattle.lock_core.proofs.Running.{has_end-front}
-use Rattle.lock_core.proofs.SerialFronts.{IsRunPartly, all-map, cut_short-end, has_end-without_prev, partly_serial-front, serial-partly}
+use Rattle.lock_core.proofs.Running.{note_and_updates-front_unended}
+use Rattle.lock_core.proofs.SerialFronts.{IsRunPartly, all-weaken, outcome_records-front_cut_short, has_end-without_prev, partly_serial-front, serial-partly}
 use Rattle.lock_core.proofs.Weighing.{has_number, AreDistinct, each_task, each_task-same, IgnoresPrev, weight_of-entry, weight_of-tasks, weight_of-append, weight_of-in_order, weight_of-without_prev, weight_of-history}
 
 nothing : (b : Bool) → cond {A = ℕ} b 0 0 ≡ 0
@@ -93,18 +93,18 @@ legs_move-gain account (leg ∷ legs) =
 own_records_of-run : (base : BaseState) (h : List Placed) (task : NumberedTransfer) (run : IsRunWhole base h task) → own_records_of task.number h ≡ run.end.rec ∷ own_records_of task.number run.front
 own_records_of-run base h task run =
     ap (own_records_of task.number) run.whole
-    ∙ own_records_of-right task.number run.later (run.end ∷ run.front) run.last
-    ∙ ap recs_of (of_transaction-same task.number run.end run.front run.own)
+    ∙ own_records_of-none_append task.number run.later (run.end ∷ run.front) run.last
+    ∙ ap recs_of (of_transaction-first_own task.number run.end run.front run.own)
 
 -- a transfer that is cut short is not committed
 uncommitted-cut : (h : List Placed) (task : NumberedTransfer) → IsCutShort h task → is_committed task.number h ≡ false
 uncommitted-cut h task cut =
     has_commit-unended (own_records_of task.number h) (sym (has_end-without_prev (own_records_of task.number h))
-    ∙ has_end-front task.number task.job (all_without_prev (own_records_of task.number h)) cut.rest cut.front)
+    ∙ note_and_updates-front_unended task.number task.job (all_without_prev (own_records_of task.number h)) cut.rest cut.front)
 
 -- before its end record a transfer is cut short
 cut-before : (base : BaseState) (h : List Placed) (task : NumberedTransfer) (run : IsRunWhole base h task) → IsCutShort run.front task
-cut-before base h task run = cut_short-end base run.end run.front task run.records
+cut-before base h task run = outcome_records-front_cut_short base run.end run.front task run.records
 
 -- the records before an end record are a partly serial history
 serial-before : (base : BaseState) (tasks : List NumberedTransfer) (h : List Placed) (task : NumberedTransfer) (run : IsRunWhole base h task)
@@ -199,7 +199,7 @@ each_task-but f g tasks task all one = All-contains (λ t. f t ≡ 0 → each_ta
     each [] all = tt
     each (first ∷ tasks) all = (
       (λ none. let more = each_task-le f g tasks all.1 in omega (arith, none)),
-      all-map (λ t. f t ≡ 0 → each_task f tasks + g t ≤ each_task g tasks) (λ t. f t ≡ 0 → f first + each_task f tasks + g t ≤ g first + each_task g tasks)
+      all-weaken (λ t. f t ≡ 0 → each_task f tasks + g t ≤ each_task g tasks) (λ t. f t ≡ 0 → f first + each_task f tasks + g t ≤ g first + each_task g tasks)
           (λ t before none. let rest = before none in let own = all.0 in omega arith) tasks (each tasks all.1),
     )
 
@@ -209,7 +209,7 @@ total-but : (side : ℤ → ℕ) (account : ℕ) (base : BaseState) (tasks : Lis
     → total side account h + legs_move side account task.job.legs ≤ each_task (λ t. legs_move side account t.job.legs) tasks
 total-but side account base tasks h task distinct serial one cut =
     let sum = total-tasks side account tasks h distinct serial.others in
-    let bound = all-map (IsRunPartly base h) (λ t. counted side account h t ≤ legs_move side account t.job.legs)
+    let bound = all-weaken (IsRunPartly base h) (λ t. counted side account h t ≤ legs_move side account t.job.legs)
     (λ t run. let most = moves-partly side account base h t run in
     let few = counted-le (is_committed t.number h) (weight_of (moves side account) (own_records_of t.number h)) in omega arith) tasks serial.each in
     let none : counted side account h task ≡ 0
@@ -321,7 +321,7 @@ committed-done h task done = by_case (is_committed task.number h) refl
     without : (records : List Rec) → has_commit records ≡ false → weight_of commit_weight records ≡ 0
     without [] off = refl
     without (rec ∷ records) off =
-        let parts = neither (commits rec) (has_commit records) off in
+        let parts = or_false-both_false (commits rec) (has_commit records) off in
         λ i. cond {A = ℕ} (parts.0 i) 1 0 + without records parts.1 i
 
     by_case : (b : Bool) → is_committed task.number h ≡ b → b ≡ true
@@ -368,9 +368,9 @@ module _ (base : BaseState) (first : ℕ) (jobs : List PlainTransfer) (room : Ha
   each_contained : AllByRecursion (Contains (numbered first jobs)) (numbered first jobs)
   each_contained = recursion_from_All (Contains (numbered first jobs)) (numbered first jobs) (All-contains_itself (numbered first jobs))
 
-  pub partly-done : (h : List Placed) → IsPartlySerialAfter base (numbered first jobs) h
+  pub partly_serial-done_or_cut_short : (h : List Placed) → IsPartlySerialAfter base (numbered first jobs) h
       → AllByRecursion (λ (task : NumberedTransfer). IsDoneIn h task ⊎ IsCutShort h task) (numbered first jobs)
-  partly-done h serial = all-three _ _ (IsRunPartly base h) (λ (task : NumberedTransfer). IsDoneIn h task ⊎ IsCutShort h task)
+  partly_serial-done_or_cut_short h serial = all-three _ _ (IsRunPartly base h) (λ (task : NumberedTransfer). IsDoneIn h task ⊎ IsCutShort h task)
       (λ task one allowed run. elim run [ inl whole ↦ inl (run-done h serial task one allowed whole) | inr cut ↦ inr cut ])
       (numbered first jobs) each_contained (allowed-numbered base.accounts first jobs room.allowed) serial.each
 
@@ -380,12 +380,12 @@ module _ (base : BaseState) (first : ℕ) (jobs : List PlainTransfer) (room : Ha
       (numbered first jobs) each_contained (allowed-numbered base.accounts first jobs room.allowed) serial.each
 
   -- the history weighs what the records of all transfers do, one after another
-  pub weight-done : (weight : Rec → ℕ) (h : List Placed) → IgnoresPrev weight → IsSerialAfter base (numbered first jobs) h
+  pub serial-weight_of_done_records : (weight : Rec → ℕ) (h : List Placed) → IgnoresPrev weight → IsSerialAfter base (numbered first jobs) h
       → weight_of weight (recs_of h) ≡ weight_of weight (done_records (numbered first jobs))
-  weight-done weight h ignores serial =
+  serial-weight_of_done_records weight h ignores serial =
       weight_of-tasks weight (numbered first jobs) h (distinct-numbered first jobs) serial.others
       ∙ each_task-same (λ task. weight_of weight (own_records_of task.number h)) (λ task. weight_of weight (outcome_records task.number task.job Done)) (numbered first jobs)
-      (all-map (IsDoneIn h) _ (λ task done. weight_of-done_in weight h task ignores done) (numbered first jobs) (serial-done h serial))
+      (all-weaken (IsDoneIn h) _ (λ task done. weight_of-done_in weight h task ignores done) (numbered first jobs) (serial-done h serial))
       ∙ sym (weight_of-done_records weight (numbered first jobs))
 
   total-done : (side : ℤ → ℕ) (account : ℕ) (h : List Placed) → IsSerialAfter base (numbered first jobs) h
@@ -393,25 +393,25 @@ module _ (base : BaseState) (first : ℕ) (jobs : List PlainTransfer) (room : Ha
   total-done side account h serial =
       total-tasks side account (numbered first jobs) h (distinct-numbered first jobs) serial.others
       ∙ each_task-same (counted side account h) (λ task. legs_move side account task.job.legs) (numbered first jobs)
-      (all-map (IsDoneIn h) _ all (numbered first jobs) (serial-done h serial))
+      (all-weaken (IsDoneIn h) _ all (numbered first jobs) (serial-done h serial))
     where
       all : (task : NumberedTransfer) → IsDoneIn h task → counted side account h task ≡ legs_move side account task.job.legs
       all task done =
           ap (λ b. cond {A = ℕ} b (weight_of (moves side account) (own_records_of task.number h)) 0) (committed-done h task done)
           ∙ weight_of-done_in (moves side account) h task (moves-prev side account) done ∙ moves-done side account task
 
-  pub balance-done : (h : List Placed) (account : ℕ) → IsSerialAfter base (numbered first jobs) h → account < base.accounts
+  pub serial-balance_taken_given : (h : List Placed) (account : ℕ) → IsSerialAfter base (numbered first jobs) h → account < base.accounts
       → balance_of base h account + taken account (legs_of jobs) ≡ base.balance account + given account (legs_of jobs)
-  balance-done h account serial below =
+  serial-balance_taken_given h account serial below =
       let lost = total-done loss account h serial ∙ all_taken account in
       let gained = total-done gain account h serial ∙ all_given account in
       let covered = room.covered account below in
       omega arith
 
-  pub records-done : (weight : Rec → ℕ) (records : List Rec) → IgnoresPrev weight → IsSerialAfter base (numbered first jobs) (history_from base.end [] records)
+  pub serial_records-weight_of_done : (weight : Rec → ℕ) (records : List Rec) → IgnoresPrev weight → IsSerialAfter base (numbered first jobs) (history_from base.end [] records)
       → weight_of weight records ≡ weight_of weight (done_records (numbered first jobs))
-  records-done weight records ignores serial =
-      let whole = weight-done weight (history_from base.end [] records) ignores serial in
+  serial_records-weight_of_done weight records ignores serial =
+      let whole = serial-weight_of_done_records weight (history_from base.end [] records) ignores serial in
       let order = weight_of-history weight base.end [] records in omega arith
 
 pub end_of-weight : (records : List Rec) → end_of records ≡ weight_of size_of records
@@ -419,7 +419,7 @@ end_of-weight [] = refl
 end_of-weight (rec ∷ records) = omega (arith, end_of-weight records, end_of-cons rec records)
 
 -- the list ends where the records of all transfers, one after another, do
-pub end-done : (base : BaseState) (first : ℕ) (jobs : List PlainTransfer) (records : List Rec) → HasRoomFor base jobs
+pub serial-end_of_done_records : (base : BaseState) (first : ℕ) (jobs : List PlainTransfer) (records : List Rec) → HasRoomFor base jobs
     → IsSerialAfter base (numbered first jobs) (history_from base.end [] records) → end_of records ≡ end_of (done_records (numbered first jobs))
-end-done base first jobs records room serial =
-    end_of-weight records ∙ records-done base first jobs room size_of records size-without_prev serial ∙ sym (end_of-weight (done_records (numbered first jobs)))
+serial-end_of_done_records base first jobs records room serial =
+    end_of-weight records ∙ serial_records-weight_of_done base first jobs room size_of records size-without_prev serial ∙ sym (end_of-weight (done_records (numbered first jobs)))

@@ -16,22 +16,22 @@ history_from-append start h [] later = refl
 history_from-append start h (rec ∷ front) later = history_from-append start (entry_at (end_from start h) rec ∷ h) front later
 
 -- a history stands at the bottom of what follows it
-pub history_from-onto : (start : ℕ) (h : List Placed) (records : List Rec) → (more : List Placed) × (history_from start h records ≡ more ++ h)
-history_from-onto start h [] = ([], refl)
-history_from-onto start h (rec ∷ records) =
+pub history_from-extends : (start : ℕ) (h : List Placed) (records : List Rec) → (more : List Placed) × (history_from start h records ≡ more ++ h)
+history_from-extends start h [] = ([], refl)
+history_from-extends start h (rec ∷ records) =
     let entry : Placed = entry_at (end_from start h) rec in
-    let rest = history_from-onto start (entry ∷ h) records in
+    let rest = history_from-extends start (entry ∷ h) records in
     (rest.0 ++ entry ∷ [], rest.1 ∙ sym (append_assoc rest.0 (entry ∷ []) h))
 
-pub lawful-records : (opening : Opening) (start : ℕ) (front later : List Rec) → IsLawful opening (history_from start [] (front ++ later))
+pub lawful-records_front : (opening : Opening) (start : ℕ) (front later : List Rec) → IsLawful opening (history_from start [] (front ++ later))
     → IsLawful opening (history_from start [] front)
-lawful-records opening start front later lawful =
-    let rest = history_from-onto start (history_from start [] front) later in
+lawful-records_front opening start front later lawful =
+    let rest = history_from-extends start (history_from start [] front) later in
     lawful-front opening rest.0 (history_from start [] front) (subst (IsLawful opening) (history_from-append start [] front later ∙ rest.1) lawful)
 
 -- a history goes on as one of its own does that starts where it ends
-pub history_from-apart : (start : ℕ) (h : List Placed) (records : List Rec) → history_from start h records ≡ history_from (end_from start h) [] records ++ h
-history_from-apart start h records = onto [] records
+pub history_from-split : (start : ℕ) (h : List Placed) (records : List Rec) → history_from start h records ≡ history_from (end_from start h) [] records ++ h
+history_from-split start h records = onto [] records
   where
     -- behind some entries more
     onto : (more : List Placed) (records : List Rec)

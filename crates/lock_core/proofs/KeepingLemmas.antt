@@ -14,26 +14,26 @@ use Rattle.lock_core.specs.declared.transactions.Transactions.{Transactions}
 use Rattle.lock_core.specs.Records.{txn_of, ends, changes_of}
 use Rattle.lock_core.specs.Transactions.{recs_of, own_records_of, updates_of, has_end, changes_in}
 use Rattle.lock_core.specs.KeptLedger.{no_link, link_at, HasChain, IsOpenAt, KeepsRecords, KeepsTransactions}
-use Rattle.lock_core.proofs.OneMore.{of_transaction-same, of_transaction-other}
+use Rattle.lock_core.proofs.OneMore.{of_transaction-first_own, of_transaction-first_other}
 use Rattle.lock_core.proofs.ChainLemmas.{chain-append, chain-push}
 
 own_records_of-same : (n : ℕ) (entry : Placed) (h : List Placed) → txn_of entry.rec ≡ n → own_records_of n (entry ∷ h) ≡ entry.rec ∷ own_records_of n h
-own_records_of-same n entry h is = ap recs_of (of_transaction-same n entry h is)
+own_records_of-same n entry h is = ap recs_of (of_transaction-first_own n entry h is)
 
 own_records_of-other : (n : ℕ) (entry : Placed) (h : List Placed) → txn_of entry.rec ≢ n → own_records_of n (entry ∷ h) ≡ own_records_of n h
-own_records_of-other n entry h other = ap recs_of (of_transaction-other n entry h other)
+own_records_of-other n entry h other = ap recs_of (of_transaction-first_other n entry h other)
 
-pub keeps-none : (txns : Transactions) → txns.updates ≡ no_link ∷ [] → ((txn : ℕ) → value_at txns.newest txn ≡ 0) → KeepsTransactions txns []
-keeps-none txns updates values = record {
+pub keeps_transactions-none : (txns : Transactions) → txns.updates ≡ no_link ∷ [] → ((txn : ℕ) → value_at txns.newest txn ≡ 0) → KeepsTransactions txns []
+keeps_transactions-none txns updates values = record {
   some = let one = ap length updates in omega arith;
   first = ap (λ links. link_at links 0) updates;
   each = λ txn. record { ended = λ is. absurd (let none = values txn in omega arith); unended = λ other. record { unended = refl; chain = values txn } };
 }
 
 -- a record that neither changes an account nor ends its transaction
-pub keeps-idle : (txns : Transactions) (entry : Placed) (h : List Placed) → changes_of entry.rec ≡ [] → ends entry.rec ≡ false → KeepsTransactions txns h
+pub keeps_transactions-first_idle : (txns : Transactions) (entry : Placed) (h : List Placed) → changes_of entry.rec ≡ [] → ends entry.rec ≡ false → KeepsTransactions txns h
     → KeepsTransactions txns (entry ∷ h)
-keeps-idle txns entry h empty off kept = record { some = kept.some; first = kept.first; each = each }
+keeps_transactions-first_idle txns entry h empty off kept = record { some = kept.some; first = kept.first; each = each }
   where
     more : (place : ℕ) (records : List Rec) → KeepsRecords txns.updates place records → KeepsRecords txns.updates place (entry.rec ∷ records)
     more place records keeps = record {
@@ -50,10 +50,10 @@ keeps-idle txns entry h empty off kept = record { some = kept.some; first = kept
         (λ other. subst (KeepsRecords txns.updates (value_at txns.newest txn)) (sym (own_records_of-other txn entry h other)) (kept.each txn))
 
 -- an end record
-pub keeps-ended : (newest newer : TxnTable) (updates : List UpdateLink) (txn : ℕ) (entry : Placed) (h : List Placed) → PutsValue newest newer txn ENDED
+pub keeps_transactions-first_end : (newest newer : TxnTable) (updates : List UpdateLink) (txn : ℕ) (entry : Placed) (h : List Placed) → PutsValue newest newer txn ENDED
     → txn_of entry.rec ≡ txn → ends entry.rec ≡ true → KeepsTransactions (record { newest = newest; updates = updates }) h
     → KeepsTransactions (record { newest = newer; updates = updates }) (entry ∷ h)
-keeps-ended newest newer updates txn entry h puts own on kept = record { some = kept.some; first = kept.first; each = each }
+keeps_transactions-first_end newest newer updates txn entry h puts own on kept = record { some = kept.some; first = kept.first; each = each }
   where
     each : (other : ℕ) → KeepsRecords updates (value_at newer other) (own_records_of other (entry ∷ h))
     each other = dite (ℕ_discrete txn other)
@@ -64,13 +64,13 @@ keeps-ended newest newer updates txn entry h puts own on kept = record { some = 
         (subst (λ value. KeepsRecords updates value (own_records_of other h)) (sym (puts other ∙ ap (λ b. cond b ENDED (value_at newest other)) (ne_eqb txn other apart))) (kept.each other)))
 
 -- an Update
-pub keeps-pushed : (newest newer : TxnTable) (updates longer : List UpdateLink) (txn place end : ℕ) (link : UpdateLink) (h : List Placed)
+pub keeps_transactions-first_update : (newest newer : TxnTable) (updates longer : List UpdateLink) (txn place end : ℕ) (link : UpdateLink) (h : List Placed)
     → longer ≡ updates ++ link ∷ [] → place ≡ length updates → place < ENDED → PutsValue newest newer txn place
     → IsOpenAt updates link.older (own_records_of txn h) → link.count ≡ length (updates_of txn h) + 1
     → KeepsTransactions (record { newest = newest; updates = updates }) h
     → KeepsTransactions (record { newest = newer; updates = longer })
     (record { end = end; rec = Update txn link.change.account link.change.delta link.change.prev } ∷ h)
-keeps-pushed newest newer updates longer txn place end link h pushed at fits puts open' count kept = record {
+keeps_transactions-first_update newest newer updates longer txn place end link h pushed at fits puts open' count kept = record {
   some = let parts = ap length pushed ∙ length-append updates (link ∷ []) in omega arith;
   first = ap (λ links. link_at links 0) pushed ∙ get_or_append_left updates (link ∷ []) no_link 0 kept.some ∙ kept.first;
   each = each;

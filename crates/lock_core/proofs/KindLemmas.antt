@@ -18,16 +18,16 @@ use Rattle.lock_core.specs.Lawful.{IsLawful, base_with, with_genesis, tests, Pas
 use Rattle.lock_core.specs.Faults.{IsFirstFailing}
 use Rattle.lock_core.specs.AccountRows.{row, AppliesChanges, LeavesSome, KeepsRows}
 use Rattle.lock_core.specs.Judging.{IsCommitting}
-use Rattle.lock_core.proofs.OneMore.{has_commit-unended, total-empty, total-commit, last_commit_of-commit}
-use Rattle.lock_core.proofs.Meeting.{met-lawful}
+use Rattle.lock_core.proofs.OneMore.{has_commit-unended, total-no_change, total-commit, last_commit_of-commit}
+use Rattle.lock_core.proofs.Meeting.{lawful-met}
 use Rattle.lock_core.proofs.LastCommits.{base_with-last_commit}
 use Rattle.lock_core.proofs.Pairing.{updates_of-fits}
 
 -- a record that moves nothing and commits nothing leaves the rows
-pub keeps-same : (rows : List (ℕ × ℕ)) (base : BaseState) (h : List Placed) (entry : Placed)
+pub keeps_rows-first_unmoved : (rows : List (ℕ × ℕ)) (base : BaseState) (h : List Placed) (entry : Placed)
     → ((side : ℤ → ℕ) (a : ℕ) → total side a (entry ∷ h) ≡ total side a h)
     → ((a : ℕ) → last_commit_of base (entry ∷ h) a ≡ last_commit_of base h a) → KeepsRows rows base h → KeepsRows rows base (entry ∷ h)
-keeps-same rows base h entry sums lasts kept = record {
+keeps_rows-first_unmoved rows base h entry sums lasts kept = record {
   count = kept.count;
   range = kept.range;
   balance = λ a inside. let before = kept.balance a inside in let gains = sums gain a in let losses = sums loss a in omega arith;
@@ -35,19 +35,19 @@ keeps-same rows base h entry sums lasts kept = record {
 }
 
 -- the changes name the last Commits exactly where they agree with the rows
-pub current-rows : (rows : List (ℕ × ℕ)) (base : BaseState) (h : List Placed) (changes : List Change)
+pub prev_in_rows-current : (rows : List (ℕ × ℕ)) (base : BaseState) (h : List Placed) (changes : List Change)
     → AllByRecursion (λ (change : Change). change.account < length rows) changes → KeepsRows rows base h
     → AllByRecursion (λ (change : Change). change.prev ≡ (row rows change.account).1) changes → AllByRecursion (IsCurrent base h) changes
-current-rows rows base h [] known kept all = tt
-current-rows rows base h (change ∷ changes) known kept all =
-    (all.0 ∙ kept.last change.account known.0, current-rows rows base h changes known.1 kept all.1)
+prev_in_rows-current rows base h [] known kept all = tt
+prev_in_rows-current rows base h (change ∷ changes) known kept all =
+    (all.0 ∙ kept.last change.account known.0, prev_in_rows-current rows base h changes known.1 kept all.1)
 
-pub rows-current : (rows : List (ℕ × ℕ)) (base : BaseState) (h : List Placed) (changes : List Change)
+pub current-prev_in_rows : (rows : List (ℕ × ℕ)) (base : BaseState) (h : List Placed) (changes : List Change)
     → AllByRecursion (λ (change : Change). change.account < length rows) changes → KeepsRows rows base h
     → AllByRecursion (IsCurrent base h) changes → AllByRecursion (λ (change : Change). change.prev ≡ (row rows change.account).1) changes
-rows-current rows base h [] known kept all = tt
-rows-current rows base h (change ∷ changes) known kept all =
-    (all.0 ∙ sym (kept.last change.account known.0), rows-current rows base h changes known.1 kept all.1)
+current-prev_in_rows rows base h [] known kept all = tt
+current-prev_in_rows rows base h (change ∷ changes) known kept all =
+    (all.0 ∙ sym (kept.last change.account known.0), current-prev_in_rows rows base h changes known.1 kept all.1)
 
 module _ (rows : List (ℕ × ℕ)) (base : BaseState) (h : List Placed) (txn legs end : ℕ) (changes : List Change) (kept : KeepsRows rows base h)
     (unended : has_end (own_records_of txn h) ≡ false) (are : changes ≡ updates_of txn h) where
@@ -58,8 +58,8 @@ module _ (rows : List (ℕ × ℕ)) (base : BaseState) (h : List Placed) (txn le
   moves : (side : ℤ → ℕ) (a : ℕ) → total side a (commit ∷ h) ≡ total side a h + moved side a changes
   moves side a = total-commit side a commit h refl (has_commit-unended (own_records_of txn h) unended) ∙ ap (λ l. total side a h + moved side a l) (sym are)
 
-  pub keeps-commit : (new : List (ℕ × ℕ)) → AppliesChanges changes end rows new → KeepsRows new base (commit ∷ h)
-  keeps-commit new applies = let count = applies.count in let counted = kept.count in record {
+  pub keeps_rows-first_commit : (new : List (ℕ × ℕ)) → AppliesChanges changes end rows new → KeepsRows new base (commit ∷ h)
+  keeps_rows-first_commit new applies = let count = applies.count in let counted = kept.count in record {
     count = omega arith;
     range = λ a inside. (applies.each a (omega arith)).range;
     balance = λ a inside.
@@ -73,16 +73,16 @@ module _ (rows : List (ℕ × ℕ)) (base : BaseState) (h : List Placed) (txn le
         ∙ sym (last_commit_of-commit base commit h a refl);
   }
 
-  pub leaves-commit : LeavesSome changes rows → AreInRange base (commit ∷ h) → ⊥
-  leaves-commit leaves range =
+  pub leaves_some-commit_out_of_range : LeavesSome changes rows → AreInRange base (commit ∷ h) → ⊥
+  leaves_some-commit_out_of_range leaves range =
       let inside = leaves.inside in let counted = kept.count in
       let found = range leaves.account (omega arith) in
       let before = kept.balance leaves.account inside in
       let after = found.2 in let gains = moves gain leaves.account in let losses = moves loss leaves.account in
       leaves.leaves found.0 found.1 (omega arith)
 
-pub in_range-rows : (rows : List (ℕ × ℕ)) (base : BaseState) (h : List Placed) → KeepsRows rows base h → AreInRange base h
-in_range-rows rows base h kept account below =
+pub keeps_rows-in_range : (rows : List (ℕ × ℕ)) (base : BaseState) (h : List Placed) → KeepsRows rows base h → AreInRange base h
+keeps_rows-in_range rows base h kept account below =
     let counted = kept.count in let inside : account < length rows = omega arith in
     ((row rows account).0, kept.range account inside, kept.balance account inside)
 
@@ -92,7 +92,7 @@ total-genesis side a [] all = refl
 total-genesis side a (entry ∷ h) all = by_kind entry.rec entry.end all.0 ∙ total-genesis side a h all.1
   where
     by_kind : (rec : Rec) (end : ℕ) → IsGenesis rec → total side a (record { end = end; rec = rec } ∷ h) ≡ total side a h
-    by_kind (Genesis account balance) end is = total-empty side a (record { end = end; rec = Genesis account balance }) h refl refl
+    by_kind (Genesis account balance) end is = total-no_change side a (record { end = end; rec = Genesis account balance }) h refl refl
     by_kind (Update txn account delta prev) end is = absurd is
     by_kind (Commit txn legs) end is = absurd is
     by_kind (Short txn leg) end is = absurd is
@@ -113,21 +113,21 @@ last-genesis base a (entry ∷ h) all = by_kind entry.rec entry.end all.0 ∙ la
 
 module _ (opening : Opening) where
   -- at most 16 Updates of a transaction stand in a lawful list
-  pub few_updates : (h : List Placed) (n : ℕ) → IsLawful opening h → length (updates_of n h) ≤ 16
-  few_updates h n lawful = (updates_of-fits (base_with opening h) h n (met-lawful opening h lawful)).few
+  pub lawful-updates_of_at_most_16 : (h : List Placed) (n : ℕ) → IsLawful opening h → length (updates_of n h) ≤ 16
+  lawful-updates_of_at_most_16 h n lawful = (updates_of-fits (base_with opening h) h n (lawful-met opening h lawful)).few
 
   -- and their accounts have a row
-  pub updates-known : (rows : List (ℕ × ℕ)) (h : List Placed) (n : ℕ) (changes : List Change) → IsLawful opening h → KeepsRows rows (base_with opening h) h
+  pub updates_of-accounts_have_rows : (rows : List (ℕ × ℕ)) (h : List Placed) (n : ℕ) (changes : List Change) → IsLawful opening h → KeepsRows rows (base_with opening h) h
       → changes ≡ updates_of n h → AllByRecursion (λ (change : Change). change.account < length rows) changes
-  updates-known rows h n changes lawful kept are =
+  updates_of-accounts_have_rows rows h n changes lawful kept are =
       subst (λ count. AllByRecursion (λ (change : Change). change.account < count) changes) (sym kept.count)
       (subst (AllByRecursion (λ (change : Change). change.account < (base_with opening h).accounts)) (sym are)
-      (updates_of-fits (base_with opening h) h n (met-lawful opening h lawful)).known)
+      (updates_of-fits (base_with opening h) h n (lawful-met opening h lawful)).known)
 
   -- behind a list of Genesis records there is an account for each
-  pub accounts-genesis : (h : List Placed) → AllByRecursion (λ (entry : Placed). IsGenesis entry.rec) h → (base_with opening h).accounts ≡ opening.state.accounts + length h
-  accounts-genesis [] all = omega arith
-  accounts-genesis (entry ∷ h) all = by_kind entry.rec all.0 (accounts-genesis h all.1)
+  pub all_genesis-accounts_count : (h : List Placed) → AllByRecursion (λ (entry : Placed). IsGenesis entry.rec) h → (base_with opening h).accounts ≡ opening.state.accounts + length h
+  all_genesis-accounts_count [] all = omega arith
+  all_genesis-accounts_count (entry ∷ h) all = by_kind entry.rec all.0 (all_genesis-accounts_count h all.1)
     where
       by_kind : (rec : Rec) → IsGenesis rec → (base_with opening h).accounts ≡ opening.state.accounts + length h → (with_genesis rec (base_with opening h)).accounts ≡ opening.state.accounts + length (entry ∷ h)
       by_kind (Genesis account balance) is before = omega arith
@@ -137,9 +137,9 @@ module _ (opening : Opening) where
       by_kind (Over txn leg) is before = absurd is
       by_kind (Note txn text) is before = absurd is
 
-  pub accounts-most : (h : List Placed) → (base_with opening h).accounts ≤ opening.state.accounts + length h
-  accounts-most [] = omega arith
-  accounts-most (entry ∷ h) = by_kind entry.rec (accounts-most h)
+  pub base_with-accounts_le : (h : List Placed) → (base_with opening h).accounts ≤ opening.state.accounts + length h
+  base_with-accounts_le [] = omega arith
+  base_with-accounts_le (entry ∷ h) = by_kind entry.rec (base_with-accounts_le h)
     where
       by_kind : (rec : Rec) → (base_with opening h).accounts ≤ opening.state.accounts + length h → (with_genesis rec (base_with opening h)).accounts ≤ opening.state.accounts + length (entry ∷ h)
       by_kind (Genesis account balance) before = omega arith
@@ -150,9 +150,9 @@ module _ (opening : Opening) where
       by_kind (Note txn text) before = omega arith
 
   -- where there are as many accounts as records, all are Genesis records
-  pub genesis-accounts : (h : List Placed) → (base_with opening h).accounts ≡ opening.state.accounts + length h → AllByRecursion (λ (entry : Placed). IsGenesis entry.rec) h
-  genesis-accounts [] equal = tt
-  genesis-accounts (entry ∷ h) equal = by_kind entry.rec equal (accounts-most h) (genesis-accounts h)
+  pub accounts_count-all_genesis : (h : List Placed) → (base_with opening h).accounts ≡ opening.state.accounts + length h → AllByRecursion (λ (entry : Placed). IsGenesis entry.rec) h
+  accounts_count-all_genesis [] equal = tt
+  accounts_count-all_genesis (entry ∷ h) equal = by_kind entry.rec equal (base_with-accounts_le h) (accounts_count-all_genesis h)
     where
       by_kind : (rec : Rec) → (with_genesis rec (base_with opening h)).accounts ≡ opening.state.accounts + length (entry ∷ h) → (base_with opening h).accounts ≤ opening.state.accounts + length h
           → ((base_with opening h).accounts ≡ opening.state.accounts + length h → AllByRecursion (λ (entry : Placed). IsGenesis entry.rec) h)
@@ -190,8 +190,8 @@ module _ (opening : Opening) where
     balance-new : (a : ℕ) → a ≡ length rows → grown.balance a ≡ balance
     balance-new a is = let counted = kept.count in ap (λ b. cond b balance ((base_with opening h).balance a)) (eq-eqb a account (omega arith))
 
-    pub keeps-genesis : KeepsRows (rows ++ (balance, 0) ∷ []) grown (genesis ∷ h)
-    keeps-genesis = let counted = kept.count in let longer = length-append rows ((balance, 0) ∷ []) in record {
+    pub keeps_rows-first_genesis : KeepsRows (rows ++ (balance, 0) ∷ []) grown (genesis ∷ h)
+    keeps_rows-first_genesis = let counted = kept.count in let longer = length-append rows ((balance, 0) ∷ []) in record {
       count = omega arith;
       range = λ a inside. dite (ℕ_discrete a (length rows))
           (λ new. subst (λ (v : ℕ × ℕ). IsBalance v.0) (sym (new-row a new)) range)
@@ -219,25 +219,25 @@ module _ (opening : Opening) where
     AreCurrentRows = AllByRecursion (λ (change : Change). change.prev ≡ (row rows change.account).1) changes
 
     known : AllByRecursion (λ (change : Change). change.account < length rows) changes
-    known = updates-known rows h txn changes lawful kept on.are
+    known = updates_of-accounts_have_rows rows h txn changes lawful kept on.are
 
     current : AreCurrentRows → AllByRecursion (IsCurrent (base_with opening h) h) (updates_of txn h)
-    current all = subst (AllByRecursion (IsCurrent (base_with opening h) h)) on.are (current-rows rows (base_with opening h) h changes known kept all)
+    current all = subst (AllByRecursion (IsCurrent (base_with opening h) h)) on.are (prev_in_rows-current rows (base_with opening h) h changes known kept all)
 
     pub fails-stale : (AreCurrentRows → ⊥) → IsFirstFailing (Passes opening h entry) why.Stale
     fails-stale stale = record {
       passes = (on.some, (tt, (((λ other. on.above), on.unended), (sym (ap length on.are) ∙ on.legs_are, (tt, (tt, tt))))));
-      fails = λ all. stale (rows-current rows (base_with opening h) h changes known kept (subst (AllByRecursion (IsCurrent (base_with opening h) h)) (sym on.are) all));
+      fails = λ all. stale (current-prev_in_rows rows (base_with opening h) h changes known kept (subst (AllByRecursion (IsCurrent (base_with opening h) h)) (sym on.are) all));
     }
 
     pub fails-balance : AreCurrentRows → LeavesSome changes rows → IsFirstFailing (Passes opening h entry) why.Balance
     fails-balance all leaves = record {
       passes = (on.some, (tt, (((λ other. on.above), on.unended), (sym (ap length on.are) ∙ on.legs_are, (tt, (tt, (current all, tt)))))));
-      fails = λ keeps. leaves-commit rows (base_with opening h) h txn legs end changes kept on.unended on.are leaves (keeps refl);
+      fails = λ keeps. leaves_some-commit_out_of_range rows (base_with opening h) h txn legs end changes kept on.unended on.are leaves (keeps refl);
     }
 
-    pub keeps-applied : (new : List (ℕ × ℕ)) → AppliesChanges changes end rows new → KeepsRows new (base_with opening h) (entry ∷ h)
-    keeps-applied new applies = keeps-commit rows (base_with opening h) h txn legs end changes kept on.unended on.are new applies
+    pub committing-applied_keeps_rows : (new : List (ℕ × ℕ)) → AppliesChanges changes end rows new → KeepsRows new (base_with opening h) (entry ∷ h)
+    committing-applied_keeps_rows new applies = keeps_rows-first_commit rows (base_with opening h) h txn legs end changes kept on.unended on.are new applies
 
     pub passes-commit : AreCurrentRows → (new : List (ℕ × ℕ)) → AppliesChanges changes end rows new → AllByRecursion (Passes opening h entry) tests
     passes-commit all new applies = (
@@ -254,7 +254,7 @@ module _ (opening : Opening) where
                 tt,
                 (
                   current all,
-                  ((λ is. in_range-rows new (base_with opening h) (entry ∷ h) (keeps-applied new applies)), tt),
+                  ((λ is. keeps_rows-in_range new (base_with opening h) (entry ∷ h) (committing-applied_keeps_rows new applies)), tt),
                 ),
               ),
             ),
@@ -274,5 +274,5 @@ module _ (opening : Opening) where
       → IsFirstFailing (Passes opening h (record { end = end; rec = Genesis account balance })) why.Genesis
   fails-genesis rows h account kept other end balance = record {
     passes = tt;
-    fails = λ opens. let counted = kept.count in let all = accounts-genesis h opens.1 in let none = opens.0 in let next = opens.2 in other (omega arith) (omega arith);
+    fails = λ opens. let counted = kept.count in let all = all_genesis-accounts_count h opens.1 in let none = opens.0 in let next = opens.2 in other (omega arith) (omega arith);
   }

@@ -12,9 +12,9 @@ use Rattle.lock_core.specs.Lawful.{base_with, with_genesis}
 abbrev pub IsBaseOrCommitOn : BaseState → List Placed → ℕ → ℕ → Type 0
 IsBaseOrCommitOn base h account end = (end ≡ base.last_commit account) ⊎ IsCommitOn h account end
 
-pub last_commit_of-is : (base : BaseState) (h : List Placed) (account : ℕ) → IsBaseOrCommitOn base h account (last_commit_of base h account)
-last_commit_of-is base [] account = inl refl
-last_commit_of-is base (entry ∷ h) account = by_case (commits entry.rec) (touches account (updates_of (txn_of entry.rec) h)) refl refl (last_commit_of-is base h account)
+pub last_commit_of-base_or_commit : (base : BaseState) (h : List Placed) (account : ℕ) → IsBaseOrCommitOn base h account (last_commit_of base h account)
+last_commit_of-base_or_commit base [] account = inl refl
+last_commit_of-base_or_commit base (entry ∷ h) account = by_case (commits entry.rec) (touches account (updates_of (txn_of entry.rec) h)) refl refl (last_commit_of-base_or_commit base h account)
   where
     older : (end : ℕ) → IsBaseOrCommitOn base h account end → IsBaseOrCommitOn base (entry ∷ h) account end
     older end (inl is) = inl is

@@ -21,14 +21,14 @@ abbrev pub AreMet : BaseState → List Placed → Type 0
 AreMet base [] = Unit {0}
 AreMet base (entry ∷ h) = MeetsTests base h entry × AreMet base h
 
-pub meets-passes : (opening : Opening) (h : List Placed) (entry : Placed) → AllByRecursion (Passes opening h entry) tests
+pub all_passed-meets_tests : (opening : Opening) (h : List Placed) (entry : Placed) → AllByRecursion (Passes opening h entry) tests
     → MeetsTests (base_with opening h) h entry
-meets-passes opening h entry (genesis, (account, (ended, (legs, (pair, (prev, (stale, (balance, end)))))))) =
+all_passed-meets_tests opening h entry (genesis, (account, (ended, (legs, (pair, (prev, (stale, (balance, end)))))))) =
     record { account = account; ended = ended.1; legs = legs; pair = pair; prev = prev; stale = stale; balance = balance }
 
-pub passes-meets : (opening : Opening) (h : List Placed) (entry : Placed) → OpensLedger opening h entry.rec → IsAbove opening.txn entry.rec
+pub meets_tests-all_passed : (opening : Opening) (h : List Placed) (entry : Placed) → OpensLedger opening h entry.rec → IsAbove opening.txn entry.rec
     → MeetsTests (base_with opening h) h entry → AllByRecursion (Passes opening h entry) tests
-passes-meets opening h entry opens above meets =
+meets_tests-all_passed opening h entry opens above meets =
     (opens, (meets.account, ((above, meets.ended), (meets.legs, (meets.pair, (meets.prev, (meets.stale, (meets.balance, tt))))))))
 
 -- a Genesis meets all tests but its own
@@ -44,21 +44,21 @@ meets-genesis base h entry is = by_kind entry.rec entry.end is
     by_kind (Over txn leg) end is = absurd is
     by_kind (Note txn text) end is = absurd is
 
-pub met-genesis : (base : BaseState) (h : List Placed) → AllByRecursion (λ entry. IsGenesis entry.rec) h → AreMet base h
-met-genesis base [] all = tt
-met-genesis base (entry ∷ h) all = (meets-genesis base h entry all.0, met-genesis base h all.1)
+pub all_genesis-met : (base : BaseState) (h : List Placed) → AllByRecursion (λ entry. IsGenesis entry.rec) h → AreMet base h
+all_genesis-met base [] all = tt
+all_genesis-met base (entry ∷ h) all = (meets-genesis base h entry all.0, all_genesis-met base h all.1)
 
 -- the accounts stand once a record isn't a Genesis
-pub met-lawful : (opening : Opening) (h : List Placed) → IsLawful opening h → AreMet (base_with opening h) h
-met-lawful opening [] lawful = tt
-met-lawful opening (entry ∷ h) lawful = by_kind entry.rec entry.end lawful.0 (met-lawful opening h lawful.1)
+pub lawful-met : (opening : Opening) (h : List Placed) → IsLawful opening h → AreMet (base_with opening h) h
+lawful-met opening [] lawful = tt
+lawful-met opening (entry ∷ h) lawful = by_kind entry.rec entry.end lawful.0 (lawful-met opening h lawful.1)
   where
     by_kind : (rec : Rec) (end : ℕ) → AllByRecursion (Passes opening h (record { end = end; rec = rec })) tests → AreMet (base_with opening h) h
         → AreMet (with_genesis rec (base_with opening h)) (record { end = end; rec = rec } ∷ h)
     by_kind (Genesis account balance) end passes before =
-        met-genesis (with_genesis (Genesis account balance) (base_with opening h)) (record { end = end; rec = Genesis account balance } ∷ h) (tt, passes.0.1)
-    by_kind (Update txn account delta prev) end passes before = (meets-passes opening h (record { end = end; rec = Update txn account delta prev }) passes, before)
-    by_kind (Commit txn legs) end passes before = (meets-passes opening h (record { end = end; rec = Commit txn legs }) passes, before)
-    by_kind (Short txn leg) end passes before = (meets-passes opening h (record { end = end; rec = Short txn leg }) passes, before)
-    by_kind (Over txn leg) end passes before = (meets-passes opening h (record { end = end; rec = Over txn leg }) passes, before)
-    by_kind (Note txn text) end passes before = (meets-passes opening h (record { end = end; rec = Note txn text }) passes, before)
+        all_genesis-met (with_genesis (Genesis account balance) (base_with opening h)) (record { end = end; rec = Genesis account balance } ∷ h) (tt, passes.0.1)
+    by_kind (Update txn account delta prev) end passes before = (all_passed-meets_tests opening h (record { end = end; rec = Update txn account delta prev }) passes, before)
+    by_kind (Commit txn legs) end passes before = (all_passed-meets_tests opening h (record { end = end; rec = Commit txn legs }) passes, before)
+    by_kind (Short txn leg) end passes before = (all_passed-meets_tests opening h (record { end = end; rec = Short txn leg }) passes, before)
+    by_kind (Over txn leg) end passes before = (all_passed-meets_tests opening h (record { end = end; rec = Over txn leg }) passes, before)
+    by_kind (Note txn text) end passes before = (all_passed-meets_tests opening h (record { end = end; rec = Note txn text }) passes, before)

@@ -9,19 +9,19 @@ use Rattle.lock_core.specs.Records.{txn_of, ends, without_prev}
 use Rattle.lock_core.specs.Transactions.{of_transaction, recs_of, own_records_of, has_end, all_without_prev, in_order}
 use Rattle.lock_core.specs.History.{end_from, entry_at, history_from}
 use Rattle.lock_core.specs.Alone.{PlainTransfer, Outcome, outcome_alone, outcome_records, planned_records}
-use Rattle.lock_core.proofs.OneMore.{neither, or-false, or-true}
-use Rattle.lock_core.proofs.Running.{before-end, has_end-front, all_without_prev-in_order, planned_records-without_prev, planned_records-outcome}
+use Rattle.lock_core.proofs.OneMore.{or_false-both_false, or-false, or-true}
+use Rattle.lock_core.proofs.Running.{outcome_records-before_end_front, note_and_updates-front_unended, all_without_prev-in_order, planned_records-without_prev, planned_records-outcome}
 use Rattle.lock_core.proofs.SerialFronts.{has_end-without_prev}
 
 -- the records of the transaction
 abbrev pub own_of : ℕ → List Rec → List Rec
 own_of n records = filter (λ rec. txn_of rec == n) records
 
-pub own_records_of-own : (n start : ℕ) (h : List Placed) (records rest : List Rec)
+pub own_records_of-history_from : (n start : ℕ) (h : List Placed) (records rest : List Rec)
     → in_order (own_records_of n (history_from start h records)) rest ≡ in_order (own_records_of n h) (own_of n records ++ rest)
-own_records_of-own n start h [] rest = refl
-own_records_of-own n start h (rec ∷ records) rest =
-    own_records_of-own n start (entry_at (end_from start h) rec ∷ h) records rest ∙ by_case (txn_of rec == n)
+own_records_of-history_from n start h [] rest = refl
+own_records_of-history_from n start h (rec ∷ records) rest =
+    own_records_of-history_from n start (entry_at (end_from start h) rec ∷ h) records rest ∙ by_case (txn_of rec == n)
   where
     entry : Placed
     entry = entry_at (end_from start h) rec
@@ -52,12 +52,12 @@ own-end n (rec ∷ records) end (suc k, inside, at) own on = by_case (txn_of rec
     by_case true rest = ap (λ later. ends rec || later) rest ∙ or-true (ends rec)
     by_case false rest = rest
 
-pub has_end-own : (n start : ℕ) (records : List Rec) (end : Rec) → Contains records end → txn_of end ≡ n → ends end ≡ true
+pub contains_end-has_end : (n start : ℕ) (records : List Rec) (end : Rec) → Contains records end → txn_of end ≡ n → ends end ≡ true
     → has_end (own_records_of n (history_from start [] records)) ≡ true
-has_end-own n start records end is own on =
+contains_end-has_end n start records end is own on =
     let found : List Rec = own_records_of n (history_from start [] records) in
     sym (or-false (has_end found)) ∙ sym (has_end-in_order found [])
-    ∙ ap has_end (own_records_of-own n start [] records [] ∙ append-nil (own_of n records)) ∙ own-end n records end is own on
+    ∙ ap has_end (own_records_of-history_from n start [] records [] ∙ append-nil (own_of n records)) ∙ own-end n records end is own on
 
 -- the newest of records that follow others
 abbrev Newest : List Rec → Rec → List Rec → Type 0
@@ -67,26 +67,26 @@ newest : (rest : List Rec) (next : Rec) (records : List Rec) → Newest rest nex
 newest [] next records = (next, records, refl, λ off. off)
 newest (rec ∷ rest) next records =
     let found = newest rest rec (next ∷ records) in
-    (found.0, found.1, found.2, λ off. (neither (ends next) (has_end records) (found.3 off)).1)
+    (found.0, found.1, found.2, λ off. (or_false-both_false (ends next) (has_end records) (found.3 off)).1)
 
 turned : (records rest : List Rec) → in_order (in_order rest records) [] ≡ in_order records rest
 turned records [] = refl
 turned records (rec ∷ rest) = turned (rec ∷ records) rest
 
 -- where records of an outcome are to come, there is no end record yet
-pub unended-next : (txn : ℕ) (job : PlainTransfer) (outcome : Outcome) (records rest : List Rec) (next : Rec)
+pub outcome_records-front_unended : (txn : ℕ) (job : PlainTransfer) (outcome : Outcome) (records rest : List Rec) (next : Rec)
     → in_order (all_without_prev records) (next ∷ rest) ≡ outcome_records txn job outcome → has_end records ≡ false
-unended-next txn job outcome records rest next plan =
+outcome_records-front_unended txn job outcome records rest next plan =
     let found = newest rest next (all_without_prev records) in
     let whole = ap (λ l. in_order l []) (sym found.2) ∙ turned (next ∷ all_without_prev records) rest ∙ plan in
-    let before = before-end txn job outcome found.1 found.0 whole in
-    sym (has_end-without_prev records) ∙ found.3 (has_end-front txn job found.1 before.0 before.1)
+    let before = outcome_records-before_end_front txn job outcome found.1 found.0 whole in
+    sym (has_end-without_prev records) ∙ found.3 (note_and_updates-front_unended txn job found.1 before.0 before.1)
 
 -- what is to come by the records leg by leg is so by those of the outcome
-pub planned-next : (txn : ℕ) (job : PlainTransfer) (last_commit balance : ℕ → ℕ) (records rest : List Rec) (next : Rec)
+pub planned_next-outcome_next : (txn : ℕ) (job : PlainTransfer) (last_commit balance : ℕ → ℕ) (records rest : List Rec) (next : Rec)
     → in_order records (next ∷ rest) ≡ planned_records txn job last_commit balance
     → in_order (all_without_prev records) (without_prev next ∷ all_without_prev rest) ≡ outcome_records txn job (outcome_alone job balance)
-planned-next txn job last_commit balance records rest next plan =
+planned_next-outcome_next txn job last_commit balance records rest next plan =
     sym (all_without_prev-in_order records (next ∷ rest)) ∙ ap all_without_prev plan
     ∙ planned_records-without_prev txn job last_commit balance ∙ planned_records-outcome txn job balance
 

@@ -10,17 +10,17 @@ use Rattle.lock_core.specs.Records.{txn_of, commits, ends, changes_of}
 use Rattle.lock_core.specs.Transactions.{of_transaction, recs_of, changes_in, updates_of, has_end, has_commit, is_committed, touches}
 use Rattle.lock_core.specs.Sums.{BaseState, moved, moved_by, total, last_commit_of}
 
-pub of_transaction-same : (n : ℕ) (entry : Placed) (h : List Placed) → txn_of entry.rec ≡ n → of_transaction n (entry ∷ h) ≡ entry ∷ of_transaction n h
-of_transaction-same n entry h is = ap (λ (b : Bool). cond b (entry ∷ of_transaction n h) (of_transaction n h)) (eq-eqb (txn_of entry.rec) n is)
+pub of_transaction-first_own : (n : ℕ) (entry : Placed) (h : List Placed) → txn_of entry.rec ≡ n → of_transaction n (entry ∷ h) ≡ entry ∷ of_transaction n h
+of_transaction-first_own n entry h is = ap (λ (b : Bool). cond b (entry ∷ of_transaction n h) (of_transaction n h)) (eq-eqb (txn_of entry.rec) n is)
 
-pub of_transaction-other : (n : ℕ) (entry : Placed) (h : List Placed) → txn_of entry.rec ≢ n → of_transaction n (entry ∷ h) ≡ of_transaction n h
-of_transaction-other n entry h other = ap (λ (b : Bool). cond b (entry ∷ of_transaction n h) (of_transaction n h)) (ne_eqb (txn_of entry.rec) n other)
+pub of_transaction-first_other : (n : ℕ) (entry : Placed) (h : List Placed) → txn_of entry.rec ≢ n → of_transaction n (entry ∷ h) ≡ of_transaction n h
+of_transaction-first_other n entry h other = ap (λ (b : Bool). cond b (entry ∷ of_transaction n h) (of_transaction n h)) (ne_eqb (txn_of entry.rec) n other)
 
-pub updates_of-same : (n : ℕ) (entry : Placed) (h : List Placed) → txn_of entry.rec ≡ n → updates_of n (entry ∷ h) ≡ changes_of entry.rec ++ updates_of n h
-updates_of-same n entry h is = ap (λ entries. changes_in (recs_of entries)) (of_transaction-same n entry h is)
+pub updates_of-first_own : (n : ℕ) (entry : Placed) (h : List Placed) → txn_of entry.rec ≡ n → updates_of n (entry ∷ h) ≡ changes_of entry.rec ++ updates_of n h
+updates_of-first_own n entry h is = ap (λ entries. changes_in (recs_of entries)) (of_transaction-first_own n entry h is)
 
-pub updates_of-other : (n : ℕ) (entry : Placed) (h : List Placed) → txn_of entry.rec ≢ n → updates_of n (entry ∷ h) ≡ updates_of n h
-updates_of-other n entry h other = ap (λ entries. changes_in (recs_of entries)) (of_transaction-other n entry h other)
+pub updates_of-first_other : (n : ℕ) (entry : Placed) (h : List Placed) → txn_of entry.rec ≢ n → updates_of n (entry ∷ h) ≡ updates_of n h
+updates_of-first_other n entry h other = ap (λ entries. changes_in (recs_of entries)) (of_transaction-first_other n entry h other)
 
 pub or-false : (x : Bool) → (x || false) ≡ x
 or-false true = refl
@@ -30,9 +30,9 @@ pub or-true : (x : Bool) → (x || true) ≡ true
 or-true true = refl
 or-true false = refl
 
-pub neither : (x y : Bool) → (x || y) ≡ false → (x ≡ false) × (y ≡ false)
-neither true y off = absurd (true≢false off)
-neither false y off = (refl, off)
+pub or_false-both_false : (x y : Bool) → (x || y) ≡ false → (x ≡ false) × (y ≡ false)
+or_false-both_false true y off = absurd (true≢false off)
+or_false-both_false false y off = (refl, off)
 
 ends_not-commits_not : (rec : Rec) → ends rec ≡ false → commits rec ≡ false
 ends_not-commits_not (Genesis account balance) off = refl
@@ -46,7 +46,7 @@ ends_not-commits_not (Note txn text) off = refl
 pub has_commit-unended : (records : List Rec) → has_end records ≡ false → has_commit records ≡ false
 has_commit-unended [] off = refl
 has_commit-unended (rec ∷ records) off =
-    let parts = neither (ends rec) (has_end records) off in
+    let parts = or_false-both_false (ends rec) (has_end records) off in
     λ i. ends_not-commits_not rec parts.0 i || has_commit-unended records parts.1 i
 
 pub changes_of-commit : (rec : Rec) → commits rec ≡ true → changes_of rec ≡ []
@@ -57,8 +57,8 @@ changes_of-commit (Short txn leg) is = refl
 changes_of-commit (Over txn leg) is = refl
 changes_of-commit (Note txn text) is = refl
 
-pub is_committed-plain : (entry : Placed) (h : List Placed) (n : ℕ) → commits entry.rec ≡ false → is_committed n (entry ∷ h) ≡ is_committed n h
-is_committed-plain entry h n plain = by_case (txn_of entry.rec == n)
+pub is_committed-no_commit : (entry : Placed) (h : List Placed) (n : ℕ) → commits entry.rec ≡ false → is_committed n (entry ∷ h) ≡ is_committed n h
+is_committed-no_commit entry h n plain = by_case (txn_of entry.rec == n)
   where
     by_case : (b : Bool) → has_commit (recs_of (cond b (entry ∷ of_transaction n h) (of_transaction n h))) ≡ is_committed n h
     by_case true = ap (λ b. b || is_committed n h) plain
@@ -79,18 +79,18 @@ moved_by-same : (c d : ℕ → Bool) (side : ℤ → ℕ) (account : ℕ) (h : L
 moved_by-same c d side account h same = ap (λ (f : ℕ → Bool). moved_by f side account h) (λ i n. same n i)
 
 -- a record that is no Commit, of a transaction that isn't committed, moves nothing
-pub total-plain : (side : ℤ → ℕ) (account : ℕ) (entry : Placed) (h : List Placed) → commits entry.rec ≡ false
+pub total-uncommitted : (side : ℤ → ℕ) (account : ℕ) (entry : Placed) (h : List Placed) → commits entry.rec ≡ false
     → is_committed (txn_of entry.rec) h ≡ false → total side account (entry ∷ h) ≡ total side account h
-total-plain side account entry h plain uncommitted =
-    moved_by-same (λ n. is_committed n (entry ∷ h)) (λ n. is_committed n h) side account (entry ∷ h) (λ n. is_committed-plain entry h n plain)
+total-uncommitted side account entry h plain uncommitted =
+    moved_by-same (λ n. is_committed n (entry ∷ h)) (λ n. is_committed n h) side account (entry ∷ h) (λ n. is_committed-no_commit entry h n plain)
     ∙ ap (λ b. cond b (moved side account (changes_of entry.rec)) 0 + total side account h) uncommitted
     ∙ omega arith
 
 -- a record that is no Commit and changes nothing
-pub total-empty : (side : ℤ → ℕ) (account : ℕ) (entry : Placed) (h : List Placed) → commits entry.rec ≡ false
+pub total-no_change : (side : ℤ → ℕ) (account : ℕ) (entry : Placed) (h : List Placed) → commits entry.rec ≡ false
     → changes_of entry.rec ≡ [] → total side account (entry ∷ h) ≡ total side account h
-total-empty side account entry h plain empty =
-    moved_by-same (λ n. is_committed n (entry ∷ h)) (λ n. is_committed n h) side account (entry ∷ h) (λ n. is_committed-plain entry h n plain)
+total-no_change side account entry h plain empty =
+    moved_by-same (λ n. is_committed n (entry ∷ h)) (λ n. is_committed n h) side account (entry ∷ h) (λ n. is_committed-no_commit entry h n plain)
     ∙ (let nothing : cond (is_committed (txn_of entry.rec) h) (moved side account (changes_of entry.rec)) 0 ≡ 0
     = ap (λ changes. cond (is_committed (txn_of entry.rec) h) (moved side account changes) 0) empty ∙ both (is_committed (txn_of entry.rec) h) in
     omega arith)
@@ -113,14 +113,14 @@ moved_by-or c n side account (entry ∷ h) off =
     let now : cond (c (txn_of entry.rec) || (n == txn_of entry.rec)) own 0 ≡ own = (λ i. cond (off-here i || on-here i) own 0) in
     let before : cond (c (txn_of entry.rec)) own 0 ≡ 0 = ap (λ b. cond b own 0) off-here in
     let updates : moved side account (updates_of n (entry ∷ h)) ≡ own + moved side account (updates_of n h)
-    = ap (moved side account) (updates_of-same n entry h is) ∙ moved-append side account (changes_of entry.rec) (updates_of n h) in
+    = ap (moved side account) (updates_of-first_own n entry h is) ∙ moved-append side account (changes_of entry.rec) (updates_of n h) in
     omega arith)
     (λ other.
     let off-here : (n == txn_of entry.rec) ≡ false = ne_eqb n (txn_of entry.rec) (λ z. other (sym z)) in
     let same : cond (c (txn_of entry.rec) || (n == txn_of entry.rec)) own 0 ≡ cond (c (txn_of entry.rec)) own 0
     = ap (λ b. cond b own 0) (ap (λ b. c (txn_of entry.rec) || b) off-here ∙ or-false (c (txn_of entry.rec))) in
     let updates : moved side account (updates_of n (entry ∷ h)) ≡ moved side account (updates_of n h)
-    = ap (moved side account) (updates_of-other n entry h other) in
+    = ap (moved side account) (updates_of-first_other n entry h other) in
     omega arith)
 
 -- a Commit moves what the Updates of its transaction say
@@ -139,9 +139,9 @@ total-commit side account entry h is uncommitted =
     nothing true = ap (moved side account) (changes_of-commit entry.rec is)
     nothing false = refl
 
-pub last_commit_of-plain : (base : BaseState) (entry : Placed) (h : List Placed) (account : ℕ) → commits entry.rec ≡ false
+pub last_commit_of-no_commit : (base : BaseState) (entry : Placed) (h : List Placed) (account : ℕ) → commits entry.rec ≡ false
     → last_commit_of base (entry ∷ h) account ≡ last_commit_of base h account
-last_commit_of-plain base entry h account plain =
+last_commit_of-no_commit base entry h account plain =
     ap (λ b. cond (b && touches account (updates_of (txn_of entry.rec) h)) entry.end (last_commit_of base h account)) plain
 
 pub last_commit_of-commit : (base : BaseState) (entry : Placed) (h : List Placed) (account : ℕ) → commits entry.rec ≡ true

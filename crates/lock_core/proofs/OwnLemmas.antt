@@ -7,7 +7,7 @@ use Rattle.log_record.specs.declared.rec.Placed.{Placed}
 use Rattle.lock_core.specs.declared.update.Change.{Change}
 use Rattle.lock_core.specs.Records.{txn_of, changes_of}
 use Rattle.lock_core.specs.Transactions.{own_records_of, updates_of, has_end}
-use Rattle.lock_core.proofs.OneMore.{updates_of-same, updates_of-other}
+use Rattle.lock_core.proofs.OneMore.{updates_of-first_own, updates_of-first_other}
 
 -- one entry further, the history has that entry in front
 pub reverse-take_more : (entries : List Placed) (i : ℕ) (entry : Placed) → i < length entries → entry ≡ get_or entries i entry
@@ -19,9 +19,9 @@ pub updates_of-longer : (n : ℕ) (later h : List Placed) → length (updates_of
 updates_of-longer n [] h = omega arith
 updates_of-longer n (entry ∷ later) h = let before = updates_of-longer n later h in dite (ℕ_discrete (txn_of entry.rec) n)
     (λ same.
-    let longer = ap length (updates_of-same n entry (later ++ h) same) in
+    let longer = ap length (updates_of-first_own n entry (later ++ h) same) in
     let parts = length-append (changes_of entry.rec) (updates_of n (later ++ h)) in omega arith)
-    (λ other. let equal = ap length (updates_of-other n entry (later ++ h) other) in omega arith)
+    (λ other. let equal = ap length (updates_of-first_other n entry (later ++ h) other) in omega arith)
 
 -- what stands behind this entry is part of the whole
 pub reverse-split : (entries : List Placed) (i : ℕ) (entry : Placed) → i < length entries → entry ≡ get_or entries i entry
@@ -37,7 +37,7 @@ pub updates_of-room : (n : ℕ) (entries : List Placed) (i : ℕ) (entry : Place
 updates_of-room n entries i entry inside is same few =
     let whole = ap (λ h. length (updates_of n h)) (reverse-split entries i entry inside is) in
     let longer = updates_of-longer n (reverse (drop (i + 1) entries)) (entry ∷ reverse (take i entries)) in
-    let here = ap length (updates_of-same n entry (reverse (take i entries)) same) in
+    let here = ap length (updates_of-first_own n entry (reverse (take i entries)) same) in
     let parts = length-append (changes_of entry.rec) (updates_of n (reverse (take i entries))) in omega arith
 
 -- what was gathered of a history: whether the transaction is ended, and its changes

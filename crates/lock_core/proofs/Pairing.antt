@@ -14,7 +14,7 @@ use Rattle.lock_core.specs.Sums.{BaseState}
 use Rattle.lock_core.specs.Tests.{KnowsAccount, CountsLegs, PairsDeltas, IsPaired, IsOpposite}
 use Rattle.lock_core.specs.Plain.{is_odd}
 use Rattle.lock_core.proofs.Meeting.{AreMet}
-use Rattle.lock_core.proofs.OneMore.{updates_of-same, updates_of-other}
+use Rattle.lock_core.proofs.OneMore.{updates_of-first_own, updates_of-first_other}
 
 -- each change is paired with those before it
 abbrev pub ArePaired : List Change → Type 0
@@ -39,10 +39,10 @@ fits-more base h (Note txn text) known legs pair fits = fits
 pub updates_of-fits : (base : BaseState) (h : List Placed) (n : ℕ) → AreMet base h → Fits base.accounts (updates_of n h)
 updates_of-fits base [] n met = record { few = omega arith; paired = tt; known = tt }
 updates_of-fits base (entry ∷ h) n met = let before = updates_of-fits base h n met.1 in dite (ℕ_discrete (txn_of entry.rec) n)
-    (λ same. subst (Fits base.accounts) (sym (updates_of-same n entry h same))
+    (λ same. subst (Fits base.accounts) (sym (updates_of-first_own n entry h same))
     (subst (λ m. Fits base.accounts (changes_of entry.rec ++ updates_of m h)) same
     (fits-more base h entry.rec met.0.account met.0.legs met.0.pair (subst (λ m. Fits base.accounts (updates_of m h)) (sym same) before))))
-    (λ other. subst (Fits base.accounts) (sym (updates_of-other n entry h other)) before)
+    (λ other. subst (Fits base.accounts) (sym (updates_of-first_other n entry h other)) before)
 
 pub gain-lowers : (delta : ℤ) → lowers delta ≡ true → gain delta ≡ 0
 gain-lowers (pos n) is = absurd (true≢false (sym is))
@@ -70,10 +70,10 @@ abbrev pub owed : List Change → ℕ
 owed [] = 0
 owed (newest ∷ older) = loss newest.delta
 
-pub all_moved-paired : (changes : List Change) → ArePaired changes → all_moved loss changes ≡ all_moved gain changes + owed changes
-all_moved-paired [] paired = refl
-all_moved-paired (change ∷ []) paired = let none = gain-lowers change.delta paired.0 in omega arith
-all_moved-paired (change ∷ newest ∷ older) paired = by_newest (lowers newest.delta) refl paired.0 (all_moved-paired (newest ∷ older) paired.1)
+pub paired-loss_is_gain_plus_owed : (changes : List Change) → ArePaired changes → all_moved loss changes ≡ all_moved gain changes + owed changes
+paired-loss_is_gain_plus_owed [] paired = refl
+paired-loss_is_gain_plus_owed (change ∷ []) paired = let none = gain-lowers change.delta paired.0 in omega arith
+paired-loss_is_gain_plus_owed (change ∷ newest ∷ older) paired = by_newest (lowers newest.delta) refl paired.0 (paired-loss_is_gain_plus_owed (newest ∷ older) paired.1)
   where
     by_newest : (b : Bool) → lowers newest.delta ≡ b → MatchBool b (IsOpposite newest change) (lowers change.delta ≡ true)
         → all_moved loss (newest ∷ older) ≡ all_moved gain (newest ∷ older) + loss newest.delta

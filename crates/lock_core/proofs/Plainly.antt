@@ -14,8 +14,8 @@ use Rattle.lock_core.specs.Sums.{BaseState, Opening, last_commit_of}
 use Rattle.lock_core.specs.Tests.{IsUnended, IsPaired, IsOpposite}
 use Rattle.lock_core.specs.Plain.{last_commit_where, plain_last_commit, is_odd, IsOppositeOfNewest, IsPlainlyPaired}
 use Rattle.lock_core.specs.Lawful.{IsLawful, base_with}
-use Rattle.lock_core.proofs.Meeting.{AreMet, met-lawful}
-use Rattle.lock_core.proofs.OneMore.{of_transaction-same, of_transaction-other, updates_of-same, updates_of-other, changes_of-commit, or-true}
+use Rattle.lock_core.proofs.Meeting.{AreMet, lawful-met}
+use Rattle.lock_core.proofs.OneMore.{of_transaction-first_own, of_transaction-first_other, updates_of-first_own, updates_of-first_other, changes_of-commit, or-true}
 use Rattle.lock_core.proofs.Pairing.{ArePaired, updates_of-fits, newest_lowers, newest_lowers-parity}
 
 commits-ends : (rec : Rec) → commits rec ≡ true → ends rec ≡ true
@@ -32,8 +32,8 @@ HasEndedIn h entry = commits entry.rec ≡ true → has_end (own_records_of (txn
 
 has_end-more : (entry : Placed) (h : List Placed) (n : ℕ) → has_end (own_records_of n h) ≡ true → has_end (own_records_of n (entry ∷ h)) ≡ true
 has_end-more entry h n ended = dite (ℕ_discrete (txn_of entry.rec) n)
-    (λ same. ap (λ entries. has_end (recs_of entries)) (of_transaction-same n entry h same) ∙ ap (λ b. ends entry.rec || b) ended ∙ or-true (ends entry.rec))
-    (λ other. ap (λ entries. has_end (recs_of entries)) (of_transaction-other n entry h other) ∙ ended)
+    (λ same. ap (λ entries. has_end (recs_of entries)) (of_transaction-first_own n entry h same) ∙ ap (λ b. ends entry.rec || b) ended ∙ or-true (ends entry.rec))
+    (λ other. ap (λ entries. has_end (recs_of entries)) (of_transaction-first_other n entry h other) ∙ ended)
 
 all-map : (P Q : Placed → Type 0) → ((entry : Placed) → P entry → Q entry) → (h : List Placed) → AllByRecursion P h → AllByRecursion Q h
 all-map P Q f [] all = tt
@@ -42,7 +42,7 @@ all-map P Q f (entry ∷ h) all = (f entry all.0, all-map P Q f h all.1)
 all-ended : (h : List Placed) → AllByRecursion (HasEndedIn h) h
 all-ended [] = tt
 all-ended (entry ∷ h) = (
-  (λ is. ap (λ entries. has_end (recs_of entries)) (of_transaction-same (txn_of entry.rec) entry h refl)
+  (λ is. ap (λ entries. has_end (recs_of entries)) (of_transaction-first_own (txn_of entry.rec) entry h refl)
       ∙ ap (λ b. b || has_end (own_records_of (txn_of entry.rec) h)) (commits-ends entry.rec is)),
   all-map (HasEndedIn h) (HasEndedIn (entry ∷ h)) (λ other ended is. has_end-more entry h (txn_of other.rec) (ended is)) h (all-ended h),
 )
@@ -66,8 +66,8 @@ last_commit_where-same c d otherwise (entry ∷ h) same =
 updates_of-ended : (base : BaseState) (entry : Placed) (h : List Placed) (n : ℕ) → IsUnended h entry.rec → has_end (own_records_of n h) ≡ true
     → updates_of n (entry ∷ h) ≡ updates_of n h
 updates_of-ended base entry h n unended ended = dite (ℕ_discrete (txn_of entry.rec) n)
-    (λ same. updates_of-same n entry h same ∙ by_kind entry.rec unended same)
-    (λ other. updates_of-other n entry h other)
+    (λ same. updates_of-first_own n entry h same ∙ by_kind entry.rec unended same)
+    (λ other. updates_of-first_other n entry h other)
   where
     clash : (m : ℕ) → has_end (own_records_of m h) ≡ false → m ≡ n → ⊥
     clash m off same = true≢false (sym ended ∙ ap (λ k. has_end (own_records_of k h)) (sym same) ∙ off)
@@ -98,7 +98,7 @@ last_commit_of-plainly base (entry ∷ h) account met = head (last_commit_of-pla
             ≡ cond (commits entry.rec && touches account (updates_of (txn_of entry.rec) h)) entry.end (last_commit_where (λ n. touches account (updates_of n (entry ∷ h))) (base.last_commit account) h)
         by_case true on =
             ap (λ changes. cond (commits entry.rec && touches account changes) entry.end (last_commit_where (λ n. touches account (updates_of n (entry ∷ h))) (base.last_commit account) h))
-            (updates_of-same (txn_of entry.rec) entry h refl ∙ ap (λ changes. changes ++ updates_of (txn_of entry.rec) h) (changes_of-commit entry.rec (sym on)))
+            (updates_of-first_own (txn_of entry.rec) entry h refl ∙ ap (λ changes. changes ++ updates_of (txn_of entry.rec) h) (changes_of-commit entry.rec (sym on)))
         by_case false off =
             ap (λ z. cond (z && touches account (updates_of (txn_of entry.rec) (entry ∷ h))) entry.end (last_commit_where (λ n. touches account (updates_of n (entry ∷ h))) (base.last_commit account) h)) (sym off)
             ∙ ap (λ z. cond (z && touches account (updates_of (txn_of entry.rec) h)) entry.end (last_commit_where (λ n. touches account (updates_of n (entry ∷ h))) (base.last_commit account) h)) off
@@ -129,12 +129,12 @@ plainly-paired (newest ∷ older) change are plain = by_case (lowers newest.delt
     by_case true is = plain.even (sym (newest_lowers-parity (newest ∷ older) are) ∙ is)
     by_case false is = plain.odd (sym (newest_lowers-parity (newest ∷ older) are) ∙ is)
 
-pub last_commit_of-lawful : (opening : Opening) (h : List Placed) (account : ℕ) → IsLawful opening h
+pub lawful-plain_last_commit_same : (opening : Opening) (h : List Placed) (account : ℕ) → IsLawful opening h
     → plain_last_commit (base_with opening h) h account ≡ last_commit_of (base_with opening h) h account
-last_commit_of-lawful opening h account lawful = last_commit_of-plainly (base_with opening h) h account (met-lawful opening h lawful)
+lawful-plain_last_commit_same opening h account lawful = last_commit_of-plainly (base_with opening h) h account (lawful-met opening h lawful)
 
-pub paired-lawful : (opening : Opening) (h : List Placed) (txn : ℕ) (change : Change) → IsLawful opening h
+pub lawful-paired_iff_plainly : (opening : Opening) (h : List Placed) (txn : ℕ) (change : Change) → IsLawful opening h
     → IsPaired (updates_of txn h) change ↔ IsPlainlyPaired (updates_of txn h) change
-paired-lawful opening h txn change lawful =
-    let fits = updates_of-fits (base_with opening h) h txn (met-lawful opening h lawful) in
+lawful-paired_iff_plainly opening h txn change lawful =
+    let fits = updates_of-fits (base_with opening h) h txn (lawful-met opening h lawful) in
     (paired-plainly (updates_of txn h) change fits.paired, plainly-paired (updates_of txn h) change fits.paired)

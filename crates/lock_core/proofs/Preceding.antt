@@ -13,10 +13,10 @@ use Rattle.lock_core.specs.Tests.{IsGenesis, OpensLedger, IsUnended, IsCurrent, 
 use Rattle.lock_core.specs.Sums.{BaseState, Opening}
 use Rattle.lock_core.specs.Lawful.{IsLawful, base_with}
 use Rattle.lock_core.specs.Soundness.{IsBuiltOn, StandsBetween, HasPredecessors}
-use Rattle.lock_core.proofs.Meeting.{AreMet, met-lawful}
-use Rattle.lock_core.proofs.LastCommits.{IsBaseOrCommitOn, last_commit_of-is}
+use Rattle.lock_core.proofs.Meeting.{AreMet, lawful-met}
+use Rattle.lock_core.proofs.LastCommits.{IsBaseOrCommitOn, last_commit_of-base_or_commit}
 use Rattle.lock_core.proofs.ListLemmas.{all-split}
-use Rattle.lock_core.proofs.OneMore.{of_transaction-same, of_transaction-other, or-true}
+use Rattle.lock_core.proofs.OneMore.{of_transaction-first_own, of_transaction-first_other, or-true}
 
 -- ---- what is named
 
@@ -24,7 +24,7 @@ are-built_on : (base : BaseState) (front : List Placed) (changes : List Change) 
     → AllByRecursion (IsBuiltOn base front) changes
 are-built_on base front [] current = tt
 are-built_on base front (change ∷ changes) current =
-    let there = subst (IsBaseOrCommitOn base front change.account) (sym current.0) (last_commit_of-is base front change.account) in
+    let there = subst (IsBaseOrCommitOn base front change.account) (sym current.0) (last_commit_of-base_or_commit base front change.account) in
     (record { last = current.0; there = there }, are-built_on base front changes current.1)
 
 current-update : (base : BaseState) (h : List Placed) (rec : Rec) → NamesLastCommit base h rec → AllByRecursion (IsCurrent base h) (changes_of rec)
@@ -83,17 +83,17 @@ unended-genesis h (Note txn text) off on = absurd (true≢false (sym on ∙ off)
 module _ (base : BaseState) (front : List Placed) (entry : Placed) where
   has_end-front : (later : List Placed) → ends entry.rec ≡ true → has_end (own_records_of (txn_of entry.rec) (later ++ entry ∷ front)) ≡ true
   has_end-front [] on =
-      ap (λ entries. has_end (recs_of entries)) (of_transaction-same (txn_of entry.rec) entry front refl) ∙ ap (λ b. b || has_end (own_records_of (txn_of entry.rec) front)) on
+      ap (λ entries. has_end (recs_of entries)) (of_transaction-first_own (txn_of entry.rec) entry front refl) ∙ ap (λ b. b || has_end (own_records_of (txn_of entry.rec) front)) on
   has_end-front (next ∷ later) on = dite (ℕ_discrete (txn_of next.rec) (txn_of entry.rec))
-      (λ same. ap (λ entries. has_end (recs_of entries)) (of_transaction-same (txn_of entry.rec) next (later ++ entry ∷ front) same)
+      (λ same. ap (λ entries. has_end (recs_of entries)) (of_transaction-first_own (txn_of entry.rec) next (later ++ entry ∷ front) same)
       ∙ ap (λ b. ends next.rec || b) (has_end-front later on) ∙ or-true (ends next.rec))
-      (λ other. ap (λ entries. has_end (recs_of entries)) (of_transaction-other (txn_of entry.rec) next (later ++ entry ∷ front) other) ∙ has_end-front later on)
+      (λ other. ap (λ entries. has_end (recs_of entries)) (of_transaction-first_other (txn_of entry.rec) next (later ++ entry ∷ front) other) ∙ has_end-front later on)
 
   of_transaction-ended : (later : List Placed) → AreMet base (later ++ entry ∷ front) → OpensAlone (later ++ entry ∷ front) → ends entry.rec ≡ true
       → of_transaction (txn_of entry.rec) later ≡ []
   of_transaction-ended [] met opens on = refl
   of_transaction-ended (next ∷ later) met opens on =
-      of_transaction-other (txn_of entry.rec) next later apart ∙ of_transaction-ended later met.1 opens.1 on
+      of_transaction-first_other (txn_of entry.rec) next later apart ∙ of_transaction-ended later met.1 opens.1 on
     where
       apart : txn_of next.rec ≢ txn_of entry.rec
       apart same =
@@ -118,5 +118,5 @@ predecessors-met : (base : BaseState) (h : List Placed) → AreMet base h → Op
 predecessors-met base h met opens later front entry whole =
     stands-between base front entry later (subst (AreMet base) whole met) (subst OpensAlone whole opens)
 
-pub predecessors-lawful : (opening : Opening) (h : List Placed) → IsLawful opening h → HasPredecessors (base_with opening h) h
-predecessors-lawful opening h lawful = predecessors-met (base_with opening h) h (met-lawful opening h lawful) (opens-alone opening h lawful)
+pub lawful-has_predecessors : (opening : Opening) (h : List Placed) → IsLawful opening h → HasPredecessors (base_with opening h) h
+lawful-has_predecessors opening h lawful = predecessors-met (base_with opening h) h (lawful-met opening h lawful) (opens-alone opening h lawful)

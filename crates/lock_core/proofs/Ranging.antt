@@ -12,12 +12,12 @@ use Rattle.lock_core.specs.Transactions.{own_records_of}
 use Rattle.lock_core.specs.Sums.{BaseState, Opening, total, IsBalanceOf, balance_of, BeginsInRange, AreInRange}
 use Rattle.lock_core.specs.Tests.{OpensLedger}
 use Rattle.lock_core.specs.Lawful.{IsLawful, base_with, with_genesis}
-use Rattle.lock_core.proofs.Meeting.{MeetsTests, AreMet, met-lawful}
-use Rattle.lock_core.proofs.KindLemmas.{accounts-genesis}
-use Rattle.lock_core.proofs.OneMore.{has_commit-unended, total-plain, total-empty}
+use Rattle.lock_core.proofs.Meeting.{MeetsTests, AreMet, lawful-met}
+use Rattle.lock_core.proofs.KindLemmas.{all_genesis-accounts_count}
+use Rattle.lock_core.proofs.OneMore.{has_commit-unended, total-uncommitted, total-no_change}
 
-pub balance_of-is : (base : BaseState) (h : List Placed) (account balance : ℕ) → IsBalanceOf base h account balance → balance_of base h account ≡ balance
-balance_of-is base h account balance is = omega arith
+pub is_balance-equals_balance_of : (base : BaseState) (h : List Placed) (account balance : ℕ) → IsBalanceOf base h account balance → balance_of base h account ≡ balance
+is_balance-equals_balance_of base h account balance is = omega arith
 
 pub is_balance-unique : (base : BaseState) (h : List Placed) (account x y : ℕ) → IsBalanceOf base h account x → IsBalanceOf base h account y → x ≡ y
 is_balance-unique base h account x y first second = omega arith
@@ -31,20 +31,20 @@ in_range-more : (base : BaseState) (h : List Placed) (rec : Rec) (end : ℕ) →
     → AreInRange base h → AreInRange base (record { end = end; rec = rec } ∷ h)
 in_range-more base h (Commit txn legs) end meets range = meets.balance refl
 in_range-more base h (Genesis account balance) end meets range =
-    in_range-same base h (record { end = end; rec = Genesis account balance } ∷ h) (λ side a. total-empty side a (record { end = end; rec = Genesis account balance }) h refl refl) range
+    in_range-same base h (record { end = end; rec = Genesis account balance } ∷ h) (λ side a. total-no_change side a (record { end = end; rec = Genesis account balance }) h refl refl) range
 in_range-more base h (Update txn account delta prev) end meets range =
     in_range-same base h (record { end = end; rec = Update txn account delta prev } ∷ h)
-    (λ side a. total-plain side a (record { end = end; rec = Update txn account delta prev }) h refl (has_commit-unended (own_records_of txn h) meets.ended)) range
+    (λ side a. total-uncommitted side a (record { end = end; rec = Update txn account delta prev }) h refl (has_commit-unended (own_records_of txn h) meets.ended)) range
 in_range-more base h (Short txn leg) end meets range =
-    in_range-same base h (record { end = end; rec = Short txn leg } ∷ h) (λ side a. total-empty side a (record { end = end; rec = Short txn leg }) h refl refl) range
+    in_range-same base h (record { end = end; rec = Short txn leg } ∷ h) (λ side a. total-no_change side a (record { end = end; rec = Short txn leg }) h refl refl) range
 in_range-more base h (Over txn leg) end meets range =
-    in_range-same base h (record { end = end; rec = Over txn leg } ∷ h) (λ side a. total-empty side a (record { end = end; rec = Over txn leg }) h refl refl) range
+    in_range-same base h (record { end = end; rec = Over txn leg } ∷ h) (λ side a. total-no_change side a (record { end = end; rec = Over txn leg }) h refl refl) range
 in_range-more base h (Note txn text) end meets range =
-    in_range-same base h (record { end = end; rec = Note txn text } ∷ h) (λ side a. total-empty side a (record { end = end; rec = Note txn text }) h refl refl) range
+    in_range-same base h (record { end = end; rec = Note txn text } ∷ h) (λ side a. total-no_change side a (record { end = end; rec = Note txn text }) h refl refl) range
 
-pub in_range-met : (base : BaseState) (h : List Placed) → BeginsInRange base → AreMet base h → AreInRange base h
-in_range-met base [] first met = λ account below. (base.balance account, first account below, refl)
-in_range-met base (entry ∷ h) first met = in_range-more base h entry.rec entry.end met.0 (in_range-met base h first met.1)
+pub met-in_range : (base : BaseState) (h : List Placed) → BeginsInRange base → AreMet base h → AreInRange base h
+met-in_range base [] first met = λ account below. (base.balance account, first account below, refl)
+met-in_range base (entry ∷ h) first met = in_range-more base h entry.rec entry.end met.0 (met-in_range base h first met.1)
 
 base_with-range : (opening : Opening) → BeginsInRange opening.state → (h : List Placed) → AllByRecursion (λ (entry : Placed). IsSpellable entry.rec) h
     → IsLawful opening h → BeginsInRange (base_with opening h)
@@ -55,7 +55,7 @@ base_with-range opening first (entry ∷ h) spellable lawful = by_kind entry.rec
     by_kind (Genesis own balance) is opens before account below = dite (ℕ_discrete account own)
         (λ same. subst IsBalance (sym (ap (λ b. cond b balance ((base_with opening h).balance account)) (eq-eqb account own same))) is.1)
         (λ other. subst IsBalance (sym (ap (λ b. cond b balance ((base_with opening h).balance account)) (ne_eqb account own other)))
-        (before account (let count = accounts-genesis opening h opens.1 in let none = opens.0 in let next = opens.2 in
+        (before account (let count = all_genesis-accounts_count opening h opens.1 in let none = opens.0 in let next = opens.2 in
         dite (dec_lt account (base_with opening h).accounts) (λ inside. inside) (λ past. absurd (other (omega arith))))))
     by_kind (Update txn own delta prev) is opens before account below = before account below
     by_kind (Commit txn legs) is opens before account below = before account below
@@ -63,7 +63,7 @@ base_with-range opening first (entry ∷ h) spellable lawful = by_kind entry.rec
     by_kind (Over txn leg) is opens before account below = before account below
     by_kind (Note txn text) is opens before account below = before account below
 
-pub in_range-lawful : (opening : Opening) (h : List Placed) → BeginsInRange opening.state → AllByRecursion (λ (entry : Placed). IsSpellable entry.rec) h
+pub lawful-in_range : (opening : Opening) (h : List Placed) → BeginsInRange opening.state → AllByRecursion (λ (entry : Placed). IsSpellable entry.rec) h
     → IsLawful opening h → AreInRange (base_with opening h) h
-in_range-lawful opening h first spellable lawful =
-    in_range-met (base_with opening h) h (base_with-range opening first h spellable lawful) (met-lawful opening h lawful)
+lawful-in_range opening h first spellable lawful =
+    met-in_range (base_with opening h) h (base_with-range opening first h spellable lawful) (lawful-met opening h lawful)

@@ -7,7 +7,7 @@ use Rattle.log_record.specs.declared.rec.Rec.TheVariants.{Update, Commit, Short,
 use Rattle.log_record.specs.declared.limits.TheConstants.{MOST_BALANCE}
 use Rattle.lock_core.specs.Records.{ends}
 use Rattle.lock_core.specs.Transactions.{has_end, all_without_prev, in_order}
-use Rattle.lock_core.proofs.OneMore.{neither}
+use Rattle.lock_core.proofs.OneMore.{or_false-both_false}
 use Rattle.lock_core.specs.Alone.{PlainTransfer, Outcome, Done, ShortAt, OverAt, lacks, overfills, after_leg, outcome_from, outcome_alone, with_note, leg_updates, legs_passed, end_record, outcome_records, planned_from, planned_records}
 
 -- a last commit of 0 for each account
@@ -161,9 +161,9 @@ with_note-append txn [] xs ys = refl
 with_note-append txn (byte ∷ bytes) xs ys = refl
 
 -- what stands before the end record of an outcome is a front of the Note and the Updates of all legs
-pub before-end : (txn : ℕ) (job : PlainTransfer) (outcome : Outcome) (records : List Rec) (end : Rec) → in_order (end ∷ records) [] ≡ outcome_records txn job outcome
+pub outcome_records-before_end_front : (txn : ℕ) (job : PlainTransfer) (outcome : Outcome) (records : List Rec) (end : Rec) → in_order (end ∷ records) [] ≡ outcome_records txn job outcome
     → (rest : List Rec) × (in_order records rest ≡ with_note txn job.note (leg_updates txn job.legs))
-before-end txn job outcome records end are = (
+outcome_records-before_end_front txn job outcome records end are = (
   after,
   in_order-append records [] after ∙ ap (λ list. list ++ after) same ∙ sym (with_note-append txn job.note before after)
       ∙ ap (with_note txn job.note) (sym (leg_updates-append txn (take passed job.legs) (drop passed job.legs)) ∙ ap (leg_updates txn) (take-append-drop passed job.legs)),
@@ -183,8 +183,8 @@ before-end txn job outcome records end are = (
         (sym (in_order-append records [] (end ∷ [])) ∙ are ∙ with_note-append txn job.note before (end_record txn job outcome ∷ []))).0
 
 -- a front of the Note and the Updates has no end record
-pub has_end-front : (txn : ℕ) (job : PlainTransfer) (records rest : List Rec) → in_order records rest ≡ with_note txn job.note (leg_updates txn job.legs) → has_end records ≡ false
-has_end-front txn job records rest are = unturned records rest (ap has_end are ∙ by_note job.note)
+pub note_and_updates-front_unended : (txn : ℕ) (job : PlainTransfer) (records rest : List Rec) → in_order records rest ≡ with_note txn job.note (leg_updates txn job.legs) → has_end records ≡ false
+note_and_updates-front_unended txn job records rest are = unturned records rest (ap has_end are ∙ by_note job.note)
   where
     updates : (legs : List (ℕ × ℕ × ℕ)) → has_end (leg_updates txn legs) ≡ false
     updates [] = refl
@@ -197,7 +197,7 @@ has_end-front txn job records rest are = unturned records rest (ap has_end are �
     whole : (records rest : List Rec) → has_end (in_order records rest) ≡ false → (has_end records ≡ false) × (has_end rest ≡ false)
     whole [] rest off = (refl, off)
     whole (rec ∷ records) rest off =
-        let parts = whole records (rec ∷ rest) off in let own = neither (ends rec) (has_end rest) parts.1 in
+        let parts = whole records (rec ∷ rest) off in let own = or_false-both_false (ends rec) (has_end rest) parts.1 in
         ((λ i. own.0 i || parts.0 i), own.1)
 
     unturned : (records rest : List Rec) → has_end (in_order records rest) ≡ false → has_end records ≡ false

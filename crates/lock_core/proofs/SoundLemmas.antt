@@ -14,35 +14,35 @@ use Rattle.lock_core.specs.Tests.{HasNoGenesis, KnowsAccount, OpensLedger}
 use Rattle.lock_core.specs.Sums.{BaseState, Opening, BeginsInRange, moved, moved_by, sum_below, IsBalanceOf, balance_of, last_commit_of}
 use Rattle.lock_core.specs.Lawful.{IsLawful, base_with, with_genesis, base_state_of, opening_after}
 use Rattle.lock_core.specs.Soundness.{IsSoundAfter}
-use Rattle.lock_core.proofs.Meeting.{AreMet, met-lawful}
+use Rattle.lock_core.proofs.Meeting.{AreMet, lawful-met}
 use Rattle.lock_core.proofs.LastCommits.{base_with-last_commit}
-use Rattle.lock_core.proofs.Preceding.{predecessors-lawful}
+use Rattle.lock_core.proofs.Preceding.{lawful-has_predecessors}
 use Rattle.lock_core.proofs.Fronts.{lawful-front}
-use Rattle.lock_core.proofs.Appending.{base_with-append, none-genesis, lawful-goes_on, is_balance-met, total-append}
-use Rattle.lock_core.proofs.Ranging.{in_range-lawful}
-use Rattle.lock_core.proofs.Conserving.{sum_below-lawful}
-use Rattle.lock_core.proofs.KindLemmas.{accounts-genesis}
+use Rattle.lock_core.proofs.Appending.{base_with-append_no_genesis, lawful-no_genesis, lawful-append_opening_after, met-balance_of_is_balance, total-append}
+use Rattle.lock_core.proofs.Ranging.{lawful-in_range}
+use Rattle.lock_core.proofs.Conserving.{lawful-balances_sum_as_base}
+use Rattle.lock_core.proofs.KindLemmas.{all_genesis-accounts_count}
 use Rattle.lock_core.proofs.Pairing.{updates_of-fits}
 
 -- a lawful list keeps sound what it goes on from, where nothing behind that is a Genesis
-pub sound-lawful : (opening : Opening) (before later : List Placed) → BeginsInRange opening.state → IsLawful opening (later ++ before) → HasNoGenesis later
+pub lawful-sound_after : (opening : Opening) (before later : List Placed) → BeginsInRange opening.state → IsLawful opening (later ++ before) → HasNoGenesis later
     → AllByRecursion (λ (entry : Placed). IsSpellable entry.rec) (later ++ before) → IsSoundAfter opening before (later ++ before)
-sound-lawful opening before later first whole none spellable = record {
+lawful-sound_after opening before later first whole none spellable = record {
   later = later;
   whole = refl;
-  predecessors = predecessors-lawful opening (later ++ before) whole;
-  range = in_range-lawful opening (later ++ before) first spellable whole;
-  sum = sum_below-lawful opening (later ++ before) whole
-      ∙ ap (λ (base : BaseState). sum_below base.accounts base.balance) (base_with-append opening later before none)
-      ∙ sym (sum_below-lawful opening before (lawful-front opening later before whole));
+  predecessors = lawful-has_predecessors opening (later ++ before) whole;
+  range = lawful-in_range opening (later ++ before) first spellable whole;
+  sum = lawful-balances_sum_as_base opening (later ++ before) whole
+      ∙ ap (λ (base : BaseState). sum_below base.accounts base.balance) (base_with-append_no_genesis opening later before none)
+      ∙ sym (lawful-balances_sum_as_base opening before (lawful-front opening later before whole));
 }
 
-pub sound-after : (opening : Opening) (before later : List Placed) → BeginsInRange opening.state → IsLawful opening before
+pub lawful_after-sound_after : (opening : Opening) (before later : List Placed) → BeginsInRange opening.state → IsLawful opening before
     → 0 < (base_with opening before).accounts → AllByRecursion (λ (entry : Placed). IsSpellable entry.rec) (later ++ before)
     → IsLawful (opening_after opening before) later → IsSoundAfter opening before (later ++ before)
-sound-after opening before later first lawful some spellable after =
-    sound-lawful opening before later first (lawful-goes_on opening later before lawful some after)
-    (none-genesis (opening_after opening before) later some after) spellable
+lawful_after-sound_after opening before later first lawful some spellable after =
+    lawful-sound_after opening before later first (lawful-append_opening_after opening later before lawful some after)
+    (lawful-no_genesis (opening_after opening before) later some after) spellable
 
 -- ---- an account that the list doesn't have
 
@@ -101,7 +101,7 @@ base_with-past opening (entry ∷ h) account lawful past = by_kind entry.rec law
         → ((base_with opening h).accounts ≤ account → (base_with opening h).balance account ≡ opening.state.balance account)
         → (with_genesis rec (base_with opening h)).accounts ≤ account → (with_genesis rec (base_with opening h)).balance account ≡ opening.state.balance account
     by_kind (Genesis own balance) opens before past =
-        let count = accounts-genesis opening h opens.1 in let none = opens.0 in let number = opens.2 in
+        let count = all_genesis-accounts_count opening h opens.1 in let none = opens.0 in let number = opens.2 in
         ap (λ b. cond b balance ((base_with opening h).balance account)) (ne_eqb account own (λ same. omega arith)) ∙ before (omega arith)
     by_kind (Update txn own delta prev) opens before past = before past
     by_kind (Commit txn legs) opens before past = before past
@@ -110,11 +110,11 @@ base_with-past opening (entry ∷ h) account lawful past = by_kind entry.rec law
     by_kind (Note txn text) opens before past = before past
 
 -- an account that a lawful list doesn't have has what the opening says of it: nothing, and no Commit, in a whole log
-pub base_state-past : (opening : Opening) (h : List Placed) (account : ℕ) → IsLawful opening h → (base_with opening h).accounts ≤ account
+pub base_state_of-past_accounts_same : (opening : Opening) (h : List Placed) (account : ℕ) → IsLawful opening h → (base_with opening h).accounts ≤ account
     → ((base_state_of opening h).balance account ≡ opening.state.balance account) × ((base_state_of opening h).last_commit account ≡ opening.state.last_commit account)
-base_state-past opening h account lawful past =
+base_state_of-past_accounts_same opening h account lawful past =
     let base = base_with opening h in
-    let met = met-lawful opening h lawful in
+    let met = lawful-met opening h lawful in
     let gains = moved_by-past base account past (λ txn. is_committed txn h) gain h met in
     let losses = moved_by-past base account past (λ txn. is_committed txn h) loss h met in
     let begins = base_with-past opening h account lawful past in
@@ -124,9 +124,9 @@ base_state-past opening h account lawful past =
 is_balance-lawful : (opening : Opening) (h : List Placed) (account : ℕ) → IsLawful opening h
     → IsBalanceOf (base_with opening h) h account (balance_of (base_with opening h) h account)
 is_balance-lawful opening h account lawful = dite (dec_lt account (base_with opening h).accounts)
-    (λ inside. is_balance-met (base_with opening h) h account inside (met-lawful opening h lawful))
+    (λ inside. met-balance_of_is_balance (base_with opening h) h account inside (lawful-met opening h lawful))
     (λ outside.
-    let met = met-lawful opening h lawful in
+    let met = lawful-met opening h lawful in
     let past : (base_with opening h).accounts ≤ account = omega arith in
     let gains = moved_by-past (base_with opening h) account past (λ txn. is_committed txn h) gain h met in
     let losses = moved_by-past (base_with opening h) account past (λ txn. is_committed txn h) loss h met in omega arith)

@@ -12,20 +12,20 @@ use Rattle.lock_core.specs.Transactions.{own_records_of, updates_of, has_end, ch
 use Rattle.lock_core.specs.Sums.{BaseState, Opening, no_opening, base_after, IsBalanceOf, AreInRange, last_commit_of, greatest_txn}
 use Rattle.lock_core.specs.Tests.{IsGenesis, HasNoGenesis, IsAbove, AreAbove, IsCurrent, IsPaired}
 use Rattle.lock_core.specs.Lawful.{IsLawful, base_with, opening_after}
-use Rattle.lock_core.proofs.Meeting.{MeetsTests, AreMet, meets-passes, passes-meets, met-lawful}
+use Rattle.lock_core.proofs.Meeting.{MeetsTests, AreMet, all_passed-meets_tests, meets_tests-all_passed, lawful-met}
 use Rattle.lock_core.proofs.Fronts.{lawful-front}
-use Rattle.lock_core.proofs.Apart.{own_records_of-left, none-shared}
-use Rattle.lock_core.proofs.Appending.{is_balance-met, total-append, last_commit_of-append, base_with-append, base_with-other, opens-other, state_after}
+use Rattle.lock_core.proofs.Apart.{own_records_of-append_none, share_none-of_transaction_none}
+use Rattle.lock_core.proofs.Appending.{met-balance_of_is_balance, total-append, last_commit_of-append, base_with-append_no_genesis, base_with-no_genesis, not_genesis-opens_ledger, state_after}
 
 module _ (base : BaseState) (l : List Placed) (met : AreMet base l) where
   is_balance-split : (h : List Placed) (account balance : ℕ) → account < base.accounts → ShareNoTransaction h l
       → IsBalanceOf base (h ++ l) account balance → IsBalanceOf (base_after base l) h account balance
   is_balance-split h account balance inside apart is =
-      let before = is_balance-met base l account inside met in
+      let before = met-balance_of_is_balance base l account inside met in
       let gains = total-append gain account h l apart in let losses = total-append loss account h l apart in omega arith
 
   last : (h : List Placed) (account : ℕ) → ShareNoTransaction h l → last_commit_of base (h ++ l) account ≡ last_commit_of (base_after base l) h account
-  last h account apart = last_commit_of-append base (base_after base l) h l account refl (none-shared h l apart)
+  last h account apart = last_commit_of-append base (base_after base l) h l account refl (share_none-of_transaction_none h l apart)
 
   all_current : (h : List Placed) → ShareNoTransaction h l → (changes : List Change)
       → AllByRecursion (IsCurrent base (h ++ l)) changes → AllByRecursion (IsCurrent (base_after base l) h) changes
@@ -38,7 +38,7 @@ module _ (base : BaseState) (l : List Placed) (met : AreMet base l) where
 
   own : (h : List Placed) (rec : Rec) (end : ℕ) → ShareNoTransaction (record { end = end; rec = rec } ∷ h) l
       → own_records_of (txn_of rec) (h ++ l) ≡ own_records_of (txn_of rec) h
-  own h rec end apart = own_records_of-left (txn_of rec) h l (none-shared (record { end = end; rec = rec } ∷ h) l apart).0
+  own h rec end apart = own_records_of-append_none (txn_of rec) h l (share_none-of_transaction_none (record { end = end; rec = rec } ∷ h) l apart).0
 
   -- an entry meets the tests after the base state that l leaves that it meets on both lists
   pub meets-split : (h : List Placed) (entry : Placed) → (IsGenesis entry.rec → ⊥) → ShareNoTransaction (entry ∷ h) l → MeetsTests base (h ++ l) entry
@@ -105,12 +105,12 @@ pub lawful-split : (opening : Opening) (txn : ℕ) (h l : List Placed) → IsLaw
 lawful-split opening txn [] l lawful some none above apart = tt
 lawful-split opening txn (entry ∷ h) l lawful some none above apart =
     let meets : MeetsTests (base_with opening l) (h ++ l) entry =
-    subst (λ base. MeetsTests base (h ++ l) entry) (base_with-append opening h l none.1) (meets-passes opening (h ++ l) entry lawful.0) in (
-      passes-meets (state_after opening l txn) h entry
-          (opens-other (state_after opening l txn) h entry.rec (omega arith) none.0)
+    subst (λ base. MeetsTests base (h ++ l) entry) (base_with-append_no_genesis opening h l none.1) (all_passed-meets_tests opening (h ++ l) entry lawful.0) in (
+      meets_tests-all_passed (state_after opening l txn) h entry
+          (not_genesis-opens_ledger (state_after opening l txn) h entry.rec (omega arith) none.0)
           above.0
-          (subst (λ base. MeetsTests base h entry) (sym (base_with-other (state_after opening l txn) h none.1))
-          (meets-split (base_with opening l) l (met-lawful opening l (lawful-front opening h l lawful.1)) h entry none.0 apart meets)),
+          (subst (λ base. MeetsTests base h entry) (sym (base_with-no_genesis (state_after opening l txn) h none.1))
+          (meets-split (base_with opening l) l (lawful-met opening l (lawful-front opening h l lawful.1)) h entry none.0 apart meets)),
       lawful-split opening txn h l lawful.1 some none.1 above.1 apart.1,
     )
 
@@ -145,10 +145,10 @@ genesis-txn (Short txn leg) is = absurd is
 genesis-txn (Over txn leg) is = absurd is
 genesis-txn (Note txn text) is = absurd is
 
-pub apart-genesis : (h l : List Placed) → AreAbove 0 h → HasNoGenesis h
+pub all_genesis-share_none : (h l : List Placed) → AreAbove 0 h → HasNoGenesis h
     → AllByRecursion (λ (entry : Placed). IsGenesis entry.rec) l → ShareNoTransaction h l
-apart-genesis [] l above none all = tt
-apart-genesis (entry ∷ h) l above none all = (each l all, apart-genesis h l above.1 none.1 all)
+all_genesis-share_none [] l above none all = tt
+all_genesis-share_none (entry ∷ h) l above none all = (each l all, all_genesis-share_none h l above.1 none.1 all)
   where
     each : (l : List Placed) → AllByRecursion (λ (entry : Placed). IsGenesis entry.rec) l → AllByRecursion (λ (other : Placed). txn_of entry.rec ≢ txn_of other.rec) l
     each [] all = tt
@@ -160,11 +160,11 @@ above-all_spelled [] all = tt
 above-all_spelled (entry ∷ h) all = (above-spelled entry.rec all.0, above-all_spelled h all.1)
 
 -- an upgraded log: what stands behind the Genesis records of a lawful log is lawful behind the opening that they leave
-pub lawful-upgraded : (h l : List Placed) → AllByRecursion (λ (entry : Placed). IsSpellable entry.rec) h → IsLawful no_opening (h ++ l)
+pub lawful-split_behind_genesis : (h l : List Placed) → AllByRecursion (λ (entry : Placed). IsSpellable entry.rec) h → IsLawful no_opening (h ++ l)
     → 0 < (base_with no_opening l).accounts → HasNoGenesis h → AllByRecursion (λ (entry : Placed). IsGenesis entry.rec) l
     → IsLawful (opening_after no_opening l) h
-lawful-upgraded h l spellable lawful some none all =
+lawful-split_behind_genesis h l spellable lawful some none all =
     let above = above-all_spelled h spellable in
     subst (λ txn. IsLawful (state_after no_opening l txn) h)
     (let zero_is = greatest-genesis l all in let e : 0 ≡ max 0 (greatest_txn l) = omega arith in e)
-    (lawful-split no_opening 0 h l lawful some none above (apart-genesis h l above none all))
+    (lawful-split no_opening 0 h l lawful some none above (all_genesis-share_none h l above none all))

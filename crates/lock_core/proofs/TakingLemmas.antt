@@ -25,13 +25,13 @@ use Rattle.lock_core.specs.Faults.{IsFirstFailing}
 use Rattle.lock_core.specs.AccountRows.{row, opening_of, AppliesChanges, LeavesSome, KeepsRows, AreRowsInRange}
 use Rattle.lock_core.specs.Judging.{IsCommitting}
 use Rattle.lock_core.specs.KeptLedger.{IsEndFault, KeepsTransactions, KeepsLedger}
-use Rattle.lock_core.proofs.KindLemmas.{accounts-genesis, accounts-most, keeps-genesis, passes-genesis, fails-stale, fails-balance, keeps-applied, passes-commit}
-use Rattle.lock_core.proofs.JudgingLemmas.{judged-plain}
-use Rattle.lock_core.proofs.KeepingLemmas.{keeps-idle}
+use Rattle.lock_core.proofs.KindLemmas.{all_genesis-accounts_count, base_with-accounts_le, keeps_rows-first_genesis, passes-genesis, fails-stale, fails-balance, committing-applied_keeps_rows, passes-commit}
+use Rattle.lock_core.proofs.JudgingLemmas.{judged-first_same_accounts}
+use Rattle.lock_core.proofs.KeepingLemmas.{keeps_transactions-first_idle}
 
 -- a fault of an end: want of memory, or the test of the end
-pub end-fault : {X : Type 0} (F : JudgeFault → Type 0) (f : JudgeFault) → IsEndFault X f → F fault.NoMemory → (X → F (fault.Why why.Ended)) → F f
-end-fault F f is none ended = ⊎_elim (λ same. subst F (sym same) none) (λ both. subst F (sym both.0) (ended both.1)) is
+pub end_fault-no_memory_or_ended : {X : Type 0} (F : JudgeFault → Type 0) (f : JudgeFault) → IsEndFault X f → F fault.NoMemory → (X → F (fault.Why why.Ended)) → F f
+end_fault-no_memory_or_ended F f is none ended = ⊎_elim (λ same. subst F (sym same) none) (λ both. subst F (sym both.0) (ended both.1)) is
 
 -- ---- no record yet
 
@@ -41,19 +41,19 @@ snapshot-rows lsn (first ∷ rows) each zero inside = each.0.0
 snapshot-rows lsn (first ∷ rows) each (suc account) inside = snapshot-rows lsn rows each.1 account (omega arith)
 
 -- a judge may begin with an opening that has no account or is a snapshot: its balances are in their range
-pub begins-rows : (opening : space.Opening) → (opening.accounts ≡ []) ⊎ IsSnapshot opening → AreRowsInRange opening.accounts
-begins-rows opening (inl none) = λ account inside. let count = ap length none in absurd (omega arith)
-begins-rows opening (inr is) = snapshot-rows opening.lsn opening.accounts is.each
+pub empty_or_snapshot-rows_in_range : (opening : space.Opening) → (opening.accounts ≡ []) ⊎ IsSnapshot opening → AreRowsInRange opening.accounts
+empty_or_snapshot-rows_in_range opening (inl none) = λ account inside. let count = ap length none in absurd (omega arith)
+empty_or_snapshot-rows_in_range opening (inr is) = snapshot-rows opening.lsn opening.accounts is.each
 
-pub begins-few : (opening : space.Opening) → (opening.accounts ≡ []) ⊎ IsSnapshot opening → length opening.accounts ≤ MOST_ACCOUNTS
-begins-few opening (inl none) = let count = ap length none in omega arith
-begins-few opening (inr is) = is.most
+pub empty_or_snapshot-few_accounts : (opening : space.Opening) → (opening.accounts ≡ []) ⊎ IsSnapshot opening → length opening.accounts ≤ MOST_ACCOUNTS
+empty_or_snapshot-few_accounts opening (inl none) = let count = ap length none in omega arith
+empty_or_snapshot-few_accounts opening (inr is) = is.most
 
 -- a ledger that has taken no record behind an opening
-pub keeps-after : (opening : space.Opening) (ledger : Ledger) → ledger.accounts.rows ≡ opening.accounts → ledger.accounts.room ≡ MOST_ACCOUNTS
+pub keeps_ledger-none : (opening : space.Opening) (ledger : Ledger) → ledger.accounts.rows ≡ opening.accounts → ledger.accounts.room ≡ MOST_ACCOUNTS
     → AreRowsInRange opening.accounts → IsTrue ledger.is_opening ↔ (length opening.accounts ≡ 0) → KeepsTransactions ledger.txns [] → ledger.least ≡ opening.txn
     → KeepsLedger (opening_of opening) ledger []
-keeps-after opening ledger same room range begins none least = record {
+keeps_ledger-none opening ledger same room range begins none least = record {
   judged = record {
     lawful = tt;
     room = room;
@@ -98,19 +98,19 @@ module _ (opening : Opening) where
     counted = kept.judged.rows.count
 
     -- a number above the opening's, of a transaction with no end record
-    pub fresh : (txn : ℕ) → ledger.least < txn → has_end (own_records_of txn h) ≡ false → {X : Type 0} → (X → opening.txn < txn) × (has_end (own_records_of txn h) ≡ false)
-    fresh txn above unended = ((λ other. let least = kept.least in omega arith), unended)
+    pub unended-passes_ended : (txn : ℕ) → ledger.least < txn → has_end (own_records_of txn h) ≡ false → {X : Type 0} → (X → opening.txn < txn) × (has_end (own_records_of txn h) ≡ false)
+    unended-passes_ended txn above unended = ((λ other. let least = kept.least in omega arith), unended)
 
     -- a number up to the opening's, or a transaction with an end record, fails the test of the end
-    pub stale-ended : (rec : Rec) → (IsGenesis rec → ⊥) → txn_of rec ≤ ledger.least → IsAbove opening.txn rec → ⊥
-    stale-ended rec other low above = let least = kept.least in let high = above other in omega arith
+    pub at_most_least-not_above : (rec : Rec) → (IsGenesis rec → ⊥) → txn_of rec ≤ ledger.least → IsAbove opening.txn rec → ⊥
+    at_most_least-not_above rec other low above = let least = kept.least in let high = above other in omega arith
 
-    pub some-taken : (length ledger.accounts.rows ≡ 0 → ⊥) → 0 < opening.state.accounts + length h
-    some-taken some = let same = counted in let most = accounts-most opening h in let none : (base_with opening h).accounts ≡ 0 → ⊥ = (λ is. some (same ∙ is)) in omega (arith, none)
+    pub some_rows-some_account_or_record : (length ledger.accounts.rows ≡ 0 → ⊥) → 0 < opening.state.accounts + length h
+    some_rows-some_account_or_record some = let same = counted in let most = base_with-accounts_le opening h in let none : (base_with opening h).accounts ≡ 0 → ⊥ = (λ is. some (same ∙ is)) in omega (arith, none)
 
     -- the first record is a Genesis
-    pub fails-first : (entry : Placed) → (IsGenesis entry.rec → ⊥) → length ledger.accounts.rows ≡ 0 → IsFirstFailing (Passes opening h entry) why.Genesis
-    fails-first entry other none = record {
+    pub no_accounts-fails_genesis : (entry : Placed) → (IsGenesis entry.rec → ⊥) → length ledger.accounts.rows ≡ 0 → IsFirstFailing (Passes opening h entry) why.Genesis
+    no_accounts-fails_genesis entry other none = record {
       passes = tt;
       fails = λ opens. let some = accounts-some h kept.judged.lawful (opens-some h entry.rec other opens) in let same = counted in omega arith;
     }
@@ -120,36 +120,36 @@ module _ (opening : Opening) where
     IsStart entry = (opening.state.accounts ≡ 0) × AllByRecursion (λ (e : Placed). IsGenesis e.rec) (entry ∷ h)
 
     -- a record that is no Genesis ends the opening
-    pub opening-over : (entry : Placed) → (IsGenesis entry.rec → ⊥) → (false ≡ true → IsStart entry) × (IsStart entry → false ≡ true)
-    opening-over entry other = ((λ on. absurd (true≢false (sym on))), (λ start. absurd (other start.1.0)))
+    pub not_genesis-not_start : (entry : Placed) → (IsGenesis entry.rec → ⊥) → (false ≡ true → IsStart entry) × (IsStart entry → false ≡ true)
+    not_genesis-not_start entry other = ((λ on. absurd (true≢false (sym on))), (λ start. absurd (other start.1.0)))
 
     -- a Genesis
     module _ (end account balance : ℕ) where
       abbrev genesis : Placed
       genesis = record { end = end; rec = Genesis account balance }
 
-      pub fails-opening : ledger.is_opening ≡ false → IsFirstFailing (Passes opening h genesis) why.Genesis
-      fails-opening off = record { passes = tt; fails = λ opens. true≢false (sym (kept.begins.1 (opens.0, opens.1)) ∙ off) }
+      pub genesis_after_opening-fails : ledger.is_opening ≡ false → IsFirstFailing (Passes opening h genesis) why.Genesis
+      genesis_after_opening-fails off = record { passes = tt; fails = λ opens. true≢false (sym (kept.begins.1 (opens.0, opens.1)) ∙ off) }
 
-      pub fails-next : (account ≡ length ledger.accounts.rows → ⊥) → IsFirstFailing (Passes opening h genesis) why.Genesis
-      fails-next other = record {
+      pub genesis_not_next-fails : (account ≡ length ledger.accounts.rows → ⊥) → IsFirstFailing (Passes opening h genesis) why.Genesis
+      genesis_not_next-fails other = record {
         passes = tt;
-        fails = λ opens. let all = accounts-genesis opening h opens.1 in let first = opens.0 in let same = counted in let next = opens.2 in other (omega arith);
+        fails = λ opens. let all = all_genesis-accounts_count opening h opens.1 in let first = opens.0 in let same = counted in let next = opens.2 in other (omega arith);
       }
 
       pub takes-genesis : (accounts : Accounts) → ledger.is_opening ≡ true → account ≡ length ledger.accounts.rows → IsBalance balance
           → accounts ≡ record ledger.accounts { rows = ledger.accounts.rows ++ (balance, 0) ∷ [] }
           → KeepsLedger opening (record ledger { accounts = accounts }) (genesis ∷ h)
       takes-genesis accounts on next range pushed =
-          let start = kept.begins.0 on in let first = start.0 in let all = start.1 in let same = counted in let equal = accounts-genesis opening h all in record {
+          let start = kept.begins.0 on in let first = start.0 in let all = start.1 in let same = counted in let equal = all_genesis-accounts_count opening h all in record {
             judged = record {
               lawful = (passes-genesis opening h end account balance all first (omega arith), kept.judged.lawful);
               room = ap (λ (a : Accounts). a.room) pushed ∙ kept.judged.room;
               rows = subst (λ (a : Accounts). KeepsRows a.rows (base_with opening (genesis ∷ h)) (genesis ∷ h)) (sym pushed)
-                  (keeps-genesis opening ledger.accounts.rows h end account balance kept.judged.rows all (omega arith) range (kept.blank first));
+                  (keeps_rows-first_genesis opening ledger.accounts.rows h end account balance kept.judged.rows all (omega arith) range (kept.blank first));
             };
             begins = ((λ is. (first, (tt, all))), (λ both. on));
-            transactions = keeps-idle ledger.txns genesis h refl refl kept.transactions;
+            transactions = keeps_transactions-first_idle ledger.txns genesis h refl refl kept.transactions;
             least = kept.least;
             blank = kept.blank;
           }
@@ -163,16 +163,16 @@ module _ (opening : Opening) where
       known = let same = counted in omega arith
 
       pub fails-update-legs : has_end (own_records_of txn h) ≡ false → 2 * MOST_LEGS ≤ length (updates_of txn h) → IsFirstFailing (Passes opening h update) why.Legs
-      fails-update-legs unended many = record { passes = (some, (known, (fresh txn above unended, tt))); fails = λ few. omega arith }
+      fails-update-legs unended many = record { passes = (some, (known, (unended-passes_ended txn above unended, tt))); fails = λ few. omega arith }
 
       pub fails-update-pair : has_end (own_records_of txn h) ≡ false → length (updates_of txn h) < 2 * MOST_LEGS → (IsPaired (updates_of txn h) change → ⊥)
           → IsFirstFailing (Passes opening h update) why.Pair
-      fails-update-pair unended few apart = record { passes = (some, (known, (fresh txn above unended, (few, tt)))); fails = apart }
+      fails-update-pair unended few apart = record { passes = (some, (known, (unended-passes_ended txn above unended, (few, tt)))); fails = apart }
 
       pub fails-update-prev : has_end (own_records_of txn h) ≡ false → length (updates_of txn h) < 2 * MOST_LEGS → IsPaired (updates_of txn h) change
           → (change.prev ≡ (row ledger.accounts.rows change.account).1 → ⊥) → IsFirstFailing (Passes opening h update) why.Prev
       fails-update-prev unended few paired stale = record {
-        passes = (some, (known, (fresh txn above unended, (few, (paired, tt)))));
+        passes = (some, (known, (unended-passes_ended txn above unended, (few, (paired, tt)))));
         fails = λ names. stale (names ∙ sym (kept.judged.rows.last change.account below));
       }
 
@@ -180,9 +180,9 @@ module _ (opening : Opening) where
           → change.prev ≡ (row ledger.accounts.rows change.account).1 → KeepsTransactions txns (update ∷ h)
           → KeepsLedger opening (record { accounts = ledger.accounts; is_opening = false; txns = txns; least = ledger.least }) (update ∷ h)
       takes-update txns unended few paired names keeps = record {
-        judged = judged-plain opening ledger.accounts h end update.rec (λ never. never) refl kept.judged
-            (some, (known, (fresh txn above unended, (few, (paired, (names ∙ kept.judged.rows.last change.account below, (tt, ((λ on. absurd (true≢false (sym on))), tt))))))));
-        begins = opening-over update (λ never. never);
+        judged = judged-first_same_accounts opening ledger.accounts h end update.rec (λ never. never) refl kept.judged
+            (some, (known, (unended-passes_ended txn above unended, (few, (paired, (names ∙ kept.judged.rows.last change.account below, (tt, ((λ on. absurd (true≢false (sym on))), tt))))))));
+        begins = not_genesis-not_start update (λ never. never);
         transactions = keeps;
         least = kept.least;
         blank = kept.blank;
@@ -208,9 +208,9 @@ module _ (opening : Opening) where
         judged = record {
           lawful = (passes-commit opening ledger.accounts.rows h txn legs end changes kept.judged.lawful kept.judged.rows on all accounts.rows applies, kept.judged.lawful);
           room = room ∙ kept.judged.room;
-          rows = keeps-applied opening ledger.accounts.rows h txn legs end changes kept.judged.lawful kept.judged.rows on accounts.rows applies;
+          rows = committing-applied_keeps_rows opening ledger.accounts.rows h txn legs end changes kept.judged.lawful kept.judged.rows on accounts.rows applies;
         };
-        begins = opening-over commit (λ never. never);
+        begins = not_genesis-not_start commit (λ never. never);
         transactions = keeps;
         least = kept.least;
         blank = kept.blank;
@@ -225,17 +225,17 @@ module _ (opening : Opening) where
       over = record { end = end; rec = Over txn leg }
 
       pub fails-short-legs : (length (updates_of txn h) ≡ 2 * (leg - 1) → ⊥) → IsFirstFailing (Passes opening h short) why.Legs
-      fails-short-legs other = record { passes = (some, (tt, (fresh txn above unended, tt))); fails = other }
+      fails-short-legs other = record { passes = (some, (tt, (unended-passes_ended txn above unended, tt))); fails = other }
 
       pub fails-over-legs : (length (updates_of txn h) ≡ 2 * (leg - 1) → ⊥) → IsFirstFailing (Passes opening h over) why.Legs
-      fails-over-legs other = record { passes = (some, (tt, (fresh txn above unended, tt))); fails = other }
+      fails-over-legs other = record { passes = (some, (tt, (unended-passes_ended txn above unended, tt))); fails = other }
 
       pub takes-short : (txns : Transactions) → length (updates_of txn h) ≡ 2 * (leg - 1) → KeepsTransactions txns (short ∷ h)
           → KeepsLedger opening (record { accounts = ledger.accounts; is_opening = false; txns = txns; least = ledger.least }) (short ∷ h)
       takes-short txns legs keeps = record {
-        judged = judged-plain opening ledger.accounts h end short.rec (λ never. never) refl kept.judged
-            (some, (tt, (fresh txn above unended, (legs, (tt, (tt, (tt, ((λ on. absurd (true≢false (sym on))), tt))))))));
-        begins = opening-over short (λ never. never);
+        judged = judged-first_same_accounts opening ledger.accounts h end short.rec (λ never. never) refl kept.judged
+            (some, (tt, (unended-passes_ended txn above unended, (legs, (tt, (tt, (tt, ((λ on. absurd (true≢false (sym on))), tt))))))));
+        begins = not_genesis-not_start short (λ never. never);
         transactions = keeps;
         least = kept.least;
         blank = kept.blank;
@@ -244,9 +244,9 @@ module _ (opening : Opening) where
       pub takes-over : (txns : Transactions) → length (updates_of txn h) ≡ 2 * (leg - 1) → KeepsTransactions txns (over ∷ h)
           → KeepsLedger opening (record { accounts = ledger.accounts; is_opening = false; txns = txns; least = ledger.least }) (over ∷ h)
       takes-over txns legs keeps = record {
-        judged = judged-plain opening ledger.accounts h end over.rec (λ never. never) refl kept.judged
-            (some, (tt, (fresh txn above unended, (legs, (tt, (tt, (tt, ((λ on. absurd (true≢false (sym on))), tt))))))));
-        begins = opening-over over (λ never. never);
+        judged = judged-first_same_accounts opening ledger.accounts h end over.rec (λ never. never) refl kept.judged
+            (some, (tt, (unended-passes_ended txn above unended, (legs, (tt, (tt, (tt, ((λ on. absurd (true≢false (sym on))), tt))))))));
+        begins = not_genesis-not_start over (λ never. never);
         transactions = keeps;
         least = kept.least;
         blank = kept.blank;
@@ -256,21 +256,21 @@ module _ (opening : Opening) where
     pub takes-note : (end txn : ℕ) (text : List ℕ) → 0 < opening.state.accounts + length h → ledger.least < txn → has_end (own_records_of txn h) ≡ false
         → KeepsLedger opening (record { accounts = ledger.accounts; is_opening = false; txns = ledger.txns; least = ledger.least }) (record { end = end; rec = Note txn text } ∷ h)
     takes-note end txn text some above unended = let note : Placed = record { end = end; rec = Note txn text } in record {
-      judged = judged-plain opening ledger.accounts h end note.rec (λ never. never) refl kept.judged
-          (some, (tt, (fresh txn above unended, (tt, (tt, (tt, (tt, ((λ on. absurd (true≢false (sym on))), tt))))))));
-      begins = opening-over note (λ never. never);
-      transactions = keeps-idle ledger.txns note h refl refl kept.transactions;
+      judged = judged-first_same_accounts opening ledger.accounts h end note.rec (λ never. never) refl kept.judged
+          (some, (tt, (unended-passes_ended txn above unended, (tt, (tt, (tt, (tt, ((λ on. absurd (true≢false (sym on))), tt))))))));
+      begins = not_genesis-not_start note (λ never. never);
+      transactions = keeps_transactions-first_idle ledger.txns note h refl refl kept.transactions;
       least = kept.least;
       blank = kept.blank;
     }
 
   -- a ledger with the same accounts
-  pub keeps-accounts : (ledger : Ledger) (accounts : Accounts) (h : List Placed) → accounts ≡ ledger.accounts → KeepsLedger opening ledger h
+  pub keeps_ledger-same_accounts : (ledger : Ledger) (accounts : Accounts) (h : List Placed) → accounts ≡ ledger.accounts → KeepsLedger opening ledger h
       → KeepsLedger opening (record ledger { accounts = accounts }) h
-  keeps-accounts ledger accounts h same kept = subst (λ (a : Accounts). KeepsLedger opening (record ledger { accounts = a }) h) (sym same) kept
+  keeps_ledger-same_accounts ledger accounts h same kept = subst (λ (a : Accounts). KeepsLedger opening (record ledger { accounts = a }) h) (sym same) kept
 
   -- a ledger with these parts
-  pub keeps-parts : (new old : Ledger) (accounts : Accounts) (h : List Placed) → new.accounts ≡ accounts → new.is_opening ≡ false → new.least ≡ old.least
+  pub keeps_ledger-same_parts : (new old : Ledger) (accounts : Accounts) (h : List Placed) → new.accounts ≡ accounts → new.is_opening ≡ false → new.least ≡ old.least
       → KeepsLedger opening (record { accounts = accounts; is_opening = false; txns = new.txns; least = old.least }) h → KeepsLedger opening new h
-  keeps-parts new old accounts h same over low keeps =
+  keeps_ledger-same_parts new old accounts h same over low keeps =
       subst (λ (l : Ledger). KeepsLedger opening l h) (λ i. record { accounts = sym same i; is_opening = sym over i; txns = new.txns; least = sym low i }) keeps

@@ -10,8 +10,8 @@ use Rattle.lock_core.specs.Records.{txn_of, without_prev}
 use Rattle.lock_core.specs.Transactions.{of_transaction, recs_of, own_records_of, all_without_prev, in_order}
 use Rattle.lock_core.specs.Serial.{NumberedTransfer, HasNoOthers}
 use Rattle.lock_core.specs.AnyOrder.{weight_of}
-use Rattle.lock_core.proofs.OneMore.{neither, of_transaction-same}
-use Rattle.lock_core.proofs.Apart.{of_transaction-older}
+use Rattle.lock_core.proofs.OneMore.{or_false-both_false, of_transaction-first_own}
+use Rattle.lock_core.proofs.Apart.{of_transaction-front_none}
 
 -- one of the transfers has this number
 abbrev pub has_number : List NumberedTransfer → ℕ → Bool
@@ -64,7 +64,7 @@ each_task-at amount n (task ∷ tasks) distinct =
 has_number-none : (tasks : List NumberedTransfer) (n : ℕ) → has_number tasks n ≡ false → AllByRecursion (λ (task : NumberedTransfer). task.number ≢ n) tasks
 has_number-none [] n off = tt
 has_number-none (task ∷ tasks) n off =
-    let parts = neither (n == task.number) (has_number tasks n) off in
+    let parts = or_false-both_false (n == task.number) (has_number tasks n) off in
     ((λ same. true≢false (sym (eq-eqb n task.number (sym same)) ∙ parts.0)), has_number-none tasks n parts.1)
 
 -- each entry is of one of the transfers
@@ -75,7 +75,7 @@ has_number-entry tasks entry h others = by_case (has_number tasks (txn_of entry.
     by_case true is = refl
     by_case false is =
         let none = others (txn_of entry.rec) (has_number-none tasks (txn_of entry.rec) is) in
-        let some = sym (of_transaction-same (txn_of entry.rec) entry h refl) ∙ none in cc
+        let some = sym (of_transaction-first_own (txn_of entry.rec) entry h refl) ∙ none in cc
 
 pub weight_of-entry : (weight : Rec → ℕ) (n : ℕ) (entry : Placed) (h : List Placed)
     → weight_of weight (own_records_of n (entry ∷ h)) ≡ cond (txn_of entry.rec == n) (weight entry.rec) 0 + weight_of weight (own_records_of n h)
@@ -90,7 +90,7 @@ pub weight_of-tasks : (weight : Rec → ℕ) (tasks : List NumberedTransfer) (h 
     → weight_of weight (recs_of h) ≡ each_task (λ task. weight_of weight (own_records_of task.number h)) tasks
 weight_of-tasks weight tasks [] distinct others = sym (each_task-none tasks)
 weight_of-tasks weight tasks (entry ∷ h) distinct others =
-    let more = weight_of-tasks weight tasks h distinct (λ txn none. of_transaction-older txn (entry ∷ []) h (others txn none)) in
+    let more = weight_of-tasks weight tasks h distinct (λ txn none. of_transaction-front_none txn (entry ∷ []) h (others txn none)) in
     let at = each_task-at (weight entry.rec) (txn_of entry.rec) tasks distinct in
     let known : cond {A = ℕ} (has_number tasks (txn_of entry.rec)) (weight entry.rec) 0 ≡ weight entry.rec
     = ap (λ b. cond {A = ℕ} b (weight entry.rec) 0) (has_number-entry tasks entry h others) in

@@ -14,7 +14,7 @@ use Rattle.lock_core.specs.Alone.{IsAllowedTransfer}
 use Rattle.lock_core.specs.Serial.{numbered, HasNoOthers, IsSerialAfter}
 use Rattle.lock_core.specs.AnyOrder.{taken, given, legs_of, HasRoomFor}
 use Rattle.lock_core.specs.Witness.{genesis_log, transfer, transfer_history, snapshot, cut, behind_cut, again_behind_cut}
-use Rattle.lock_core.proofs.OneMore.{of_transaction-other}
+use Rattle.lock_core.proofs.OneMore.{of_transaction-first_other}
 
 in_range : AreInRange (base_state_of no_opening (history genesis_log)) transfer_history
 in_range zero inside = (70, omega arith, refl)
@@ -56,15 +56,15 @@ transfer-serial = record {
 
     others : HasNoOthers (numbered 1 (transfer ∷ [])) transfer_history
     others txn none =
-        of_transaction-other txn (record { end = 9; rec = Commit 1 1 }) rest none.0
-        ∙ of_transaction-other txn (record { end = 8; rec = Update 1 1 (pos 30) 0 }) (record { end = 6; rec = Update 1 0 (negsuc 29) 0 } ∷ []) none.0
-        ∙ of_transaction-other txn (record { end = 6; rec = Update 1 0 (negsuc 29) 0 }) [] none.0
+        of_transaction-first_other txn (record { end = 9; rec = Commit 1 1 }) rest none.0
+        ∙ of_transaction-first_other txn (record { end = 8; rec = Update 1 1 (pos 30) 0 }) (record { end = 6; rec = Update 1 0 (negsuc 29) 0 } ∷ []) none.0
+        ∙ of_transaction-first_other txn (record { end = 6; rec = Update 1 0 (negsuc 29) 0 }) [] none.0
 
 other : ◌≢◌ {A = ℕ} 1 0
 other same = absurd (omega (arith, same))
 
-pub transfer-apart : ShareNoTransaction transfer_history (history genesis_log)
-transfer-apart =
+pub transfer_history-share_none : ShareNoTransaction transfer_history (history genesis_log)
+transfer_history-share_none =
     ((other, (other, tt)), ((other, (other, tt)), ((other, (other, tt)), tt)))
 
 pub transfer-allowed : IsAllowedTransfer (base_with no_opening (history genesis_log)).accounts transfer
@@ -116,8 +116,8 @@ cut-lawful = (
   ),
 )
 
-pub cut-again : IsUnlawfulAt cut again_behind_cut 9 why.Ended
-cut-again = record {
+pub again_behind_cut-unlawful : IsUnlawfulAt cut again_behind_cut 9 why.Ended
+again_behind_cut-unlawful = record {
   later = [];
   entry = record { end = 11; rec = Update 1 1 (negsuc 29) 9 };
   front = [];

@@ -9,8 +9,8 @@ module _ {D : Type 0} (g : Ghosts D) where
   GrowsAtMostTo-same place old new same = omega (arith, ap length same)
 
   -- the place may be a later one
-  pub GrowsAtMostTo-more : (place later : ℕ) (old new : D) → place ≤ later → GrowsAtMostTo g place old new → GrowsAtMostTo g later old new
-  GrowsAtMostTo-more place later old new before grows = omega (arith, before, grows)
+  pub GrowsAtMostTo-weaken : (place later : ℕ) (old new : D) → place ≤ later → GrowsAtMostTo g place old new → GrowsAtMostTo g later old new
+  GrowsAtMostTo-weaken place later old new before grows = omega (arith, before, grows)
 
   -- one after another
   pub GrowsAtMostTo-trans : (place : ℕ) (old mid new : D) → GrowsAtMostTo g place old mid → GrowsAtMostTo g place mid new → GrowsAtMostTo g place old new

@@ -28,13 +28,13 @@ module _ {D : Type 0} (moment : D → ℕ) (images_since : D → ℕ → List �
 
     module _ (counts_now : (disk : D) (t : ℕ) (c : List ℕ) → t ≤ moment disk → images disk c → images_since disk t c) where
       -- one call that adds no image
-      pub Leaves-keep : (P : List ℕ → Type 0) (old new : D) → Elapses moment images images_since old new → ((c : List ℕ) → images new c → images old c) → Leaves moment images_since P old new
-      Leaves-keep P old new time none_new = record {
+      pub Leaves-no_new_image : (P : List ℕ → Type 0) (old new : D) → Elapses moment images images_since old new → ((c : List ℕ) → images new c → images old c) → Leaves moment images_since P old new
+      Leaves-no_new_image P old new time none_new = record {
         later = time.later;
         each = λ t c early since. ⊎_elim (λ was. inl was) (λ now. inl (counts_now old t c early (none_new c now))) (time.no_others t c early since);
       }
 
       -- what a crash may leave now is one of those images
-      pub Leaves-now : (P : List ℕ → Type 0) (old new : D) → ((disk : D) (c : List ℕ) → images_since disk (moment disk) c → images disk c)
+      pub Leaves-images_now : (P : List ℕ → Type 0) (old new : D) → ((disk : D) (c : List ℕ) → images_since disk (moment disk) c → images disk c)
           → ((c : List ℕ) → images old c → P c) → Leaves moment images_since P old new → (c : List ℕ) → images new c → P c
-      Leaves-now P old new only_now had run c now = ⊎_elim (λ since. had c (only_now old c since)) (λ has. has) (run.each (moment old) c (omega arith) (counts_now new (moment old) c run.later now))
+      Leaves-images_now P old new only_now had run c now = ⊎_elim (λ since. had c (only_now old c since)) (λ has. has) (run.each (moment old) c (omega arith) (counts_now new (moment old) c run.later now))

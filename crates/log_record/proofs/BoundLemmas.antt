@@ -8,14 +8,14 @@ use Rattle.log_record.specs.declared.rec.Rec.{Rec}
 use Rattle.log_record.specs.declared.rec.Rec.TheVariants.{Genesis, Update, Commit, Short, Over, Note}
 use Rattle.log_record.specs.Spelling.{spelling, units_for, units_from, padded, IsSpellable}
 use Rattle.log_record.proofs.Fronts.{parts_of, parts_of-fit, first_unit, spelling-parts_of}
-use Rattle.log_record.proofs.TextLemmas.{IsByte, small_at, padded-bytes}
+use Rattle.log_record.proofs.TextLemmas.{IsByte, get_or-below_256, padded-all_bytes}
 
 abbrev IsUnit : ℕ → Type 0
 IsUnit unit = unit < 2 ^ 64
 
 unit_value-lt : (bytes : List ℕ) → All IsByte bytes → unit_value bytes < 2 ^ 64
 unit_value-lt bytes small =
-    let at = small_at bytes small in
+    let at = get_or-below_256 bytes small in
     omega (arith, at 0, at 1, at 2, at 3, at 4, at 5, at 6, at 7)
 
 units_from-fit : (n : ℕ) (bytes : List ℕ) → All IsByte bytes → All IsUnit (units_from n bytes)
@@ -30,10 +30,10 @@ body-fits (Update txn account delta prev) ok = All-cons IsUnit (cast_unsigned w3
 body-fits (Commit txn legs) ok = All-nil IsUnit
 body-fits (Short txn leg) ok = All-nil IsUnit
 body-fits (Over txn leg) ok = All-nil IsUnit
-body-fits (Note txn text) ok = units_from-fit (units_for (length text)) (padded text) (padded-bytes text ok.1.2)
+body-fits (Note txn text) ok = units_from-fit (units_for (length text)) (padded text) (padded-all_bytes text ok.1.2)
 
-pub spelling-fits : (r : Rec) → IsSpellable r → All IsUnit (spelling r)
-spelling-fits r ok =
+pub spelling-all_units : (r : Rec) → IsSpellable r → All IsUnit (spelling r)
+spelling-all_units r ok =
     let p = parts_of r in let fits = parts_of-fit r ok in
     rw (spelling-parts_of r) (All-cons IsUnit (first_unit p) p.body (omega (arith, fits.kind, fits.count, fits.field, fits.txn)) (body-fits r ok))
 

@@ -60,9 +60,9 @@ pub header-injective : (k n f t l m g u : ℕ) → n < 256 → m < 256 → f < 2
 header-injective k n f t l m g u n_fits m_fits f_fits g_fits t_fits u_fits same = (omega arith, omega arith, omega arith, omega arith)
 
 -- the spelling at the front of some units has the kind and the length that the first of them says
-pub parts_of-front : (r : Rec) (k n f t first : ℕ) (rest more : List ℕ) → IsSpellable r → n < 256 → f < 2 ^ 16 → t < 2 ^ 32
+pub front_header-kind_and_length : (r : Rec) (k n f t first : ℕ) (rest more : List ℕ) → IsSpellable r → n < 256 → f < 2 ^ 16 → t < 2 ^ 32
     → first ≡ header k n f t → first ∷ rest ≡ spelling r ++ more → ((parts_of r).kind ≡ k) × (length (spelling r) ≡ n)
-parts_of-front r k n f t first rest more ok n_fits f_fits t_fits parts is =
+front_header-kind_and_length r k n f t first rest more ok n_fits f_fits t_fits parts is =
     let p : Parts = parts_of r in
     let fits = parts_of-fit r ok in
     let joined : first ∷ rest ≡ first_unit p ∷ p.body ++ more = is ∙ ap (λ units. units ++ more) (spelling-parts_of r) in
@@ -71,15 +71,15 @@ parts_of-front r k n f t first rest more ok n_fits f_fits t_fits parts is =
     (found.0, omega (arith, ap length (spelling-parts_of r), found.1))
 
 -- as many of the units as the spelling has are the spelling
-pub front_whole : (first n : ℕ) (rest spelled more : List ℕ) → length spelled ≡ suc n → first ∷ rest ≡ spelled ++ more → spelled ≡ first ∷ take n rest
-front_whole first n rest spelled more len is =
+pub spelled-front_units : (first n : ℕ) (rest spelled more : List ℕ) → length spelled ≡ suc n → first ∷ rest ≡ spelled ++ more → spelled ≡ first ∷ take n rest
+spelled-front_units first n rest spelled more len is =
     sym (take-append_seam spelled more) ∙ ap (λ k. take k (spelled ++ more)) len ∙ ap (take (suc n)) (sym is)
 
 -- what begins with a record's spelling has it for header and further units
-pub spelling-front : (r : Rec) (k n f t : ℕ) (body rest more : List ℕ) → IsSpellable r → n < 256 → f < 2 ^ 16 → t < 2 ^ 32
+pub spelling-header_body : (r : Rec) (k n f t : ℕ) (body rest more : List ℕ) → IsSpellable r → n < 256 → f < 2 ^ 16 → t < 2 ^ 32
     → n ≡ 1 + length body → header k n f t ∷ body ++ rest ≡ spelling r ++ more → spelling r ≡ header k n f t ∷ body
-spelling-front r k n f t body rest more ok n_fits f_fits t_fits count is =
-    let found = parts_of-front r k n f t (header k n f t) (body ++ rest) more ok n_fits f_fits t_fits refl is in
+spelling-header_body r k n f t body rest more ok n_fits f_fits t_fits count is =
+    let found = front_header-kind_and_length r k n f t (header k n f t) (body ++ rest) more ok n_fits f_fits t_fits refl is in
     let len : length (spelling r) ≡ suc (length body) = omega arith in
-    front_whole (header k n f t) (length body) (body ++ rest) (spelling r) more len is
+    spelled-front_units (header k n f t) (length body) (body ++ rest) (spelling r) more len is
     ∙ ap (λ units. header k n f t ∷ units) (take-append_seam body rest)

@@ -10,8 +10,8 @@ use Rattle.log_record.specs.declared.rec.Rec.{Rec}
 use Rattle.log_record.specs.declared.rec.Rec.TheVariants.{Genesis, Update, Commit, Short, Over, Note}
 use Rattle.log_record.specs.LogList.{units_of}
 use Rattle.log_record.specs.Spelling.{spelling, text_units, IsDelta, IsNoteText, IsSpellable}
-use Rattle.log_record.proofs.Fronts.{parts_of, parts_of-fit, parts_of-front, first_unit, spelling-parts_of, header-injective}
-use Rattle.log_record.proofs.TextLemmas.{text-front}
+use Rattle.log_record.proofs.Fronts.{parts_of, parts_of-fit, front_header-kind_and_length, first_unit, spelling-parts_of, header-injective}
+use Rattle.log_record.proofs.TextLemmas.{unit_bytes-text_and_zeros}
 
 -- parts whose first units are the same are the same but for their bodies
 first_unit-injective : (r s : Rec) → IsSpellable r → IsSpellable s → first_unit (parts_of r) ≡ first_unit (parts_of s)
@@ -29,9 +29,9 @@ cast_unsigned-injective d e d_ok e_ok same =
 text_units-injective : (text other : List ℕ) → IsNoteText text → IsNoteText other
     → length text ≡ length other → text_units text ≡ text_units other → text ≡ other
 text_units-injective text other ok other_ok len same =
-    sym (text-front (text_units text) text ok.2 refl).0
+    sym (unit_bytes-text_and_zeros (text_units text) text ok.2 refl).0
     ∙ ap₂ (λ n units. take n (flat_map unit_bytes units)) len same
-    ∙ (text-front (text_units other) other other_ok.2 refl).0
+    ∙ (unit_bytes-text_and_zeros (text_units other) other other_ok.2 refl).0
 
 -- records of one kind with the same spelling are the same
 spelling-injective : (r s : Rec) → IsSpellable r → IsSpellable s → (parts_of r).kind ≡ (parts_of s).kind
@@ -60,7 +60,7 @@ pub spelling-append-injective : (r s : Rec) (x y : List ℕ) → IsSpellable r �
 spelling-append-injective r s x y r_ok s_ok same =
     let q = parts_of s in let fits = parts_of-fit s s_ok in
     let front : first_unit q ∷ q.body ++ y ≡ spelling r ++ x = ap (λ units. units ++ y) (sym (spelling-parts_of s)) ∙ sym same in
-    let found = parts_of-front r q.kind (1 + length q.body) q.field q.txn (first_unit q) (q.body ++ y) x r_ok
+    let found = front_header-kind_and_length r q.kind (1 + length q.body) q.field q.txn (first_unit q) (q.body ++ y) x r_ok
     (omega (arith, fits.count)) fits.field fits.txn refl front in
     let len : length (spelling r) ≡ length (spelling s) = omega (arith, ap length (spelling-parts_of s)) in
     let split = append-injective (spelling r) x (spelling s) y len same in

@@ -12,10 +12,10 @@ use Rattle.log_record.specs.Spelling.{units_for, units_from, padded, text_units,
 abbrev pub IsByte : ℕ → Type 0
 IsByte byte = byte < 256
 
-pub small_at : (bytes : List ℕ) → All IsByte bytes → (i : ℕ) → get_or bytes i 0 < 256
-small_at [] small i = lit< tt
-small_at (b ∷ bytes) small zero = small 0 0 (omega arith)
-small_at (b ∷ bytes) small (suc i) = small_at bytes (All-drop IsByte 1 (b ∷ bytes) small) i
+pub get_or-below_256 : (bytes : List ℕ) → All IsByte bytes → (i : ℕ) → get_or bytes i 0 < 256
+get_or-below_256 [] small i = lit< tt
+get_or-below_256 (b ∷ bytes) small zero = small 0 0 (omega arith)
+get_or-below_256 (b ∷ bytes) small (suc i) = get_or-below_256 bytes (All-drop IsByte 1 (b ∷ bytes) small) i
 
 -- units are read back from their bytes
 pub units_from-unit_bytes : (units : List ℕ) → All (λ unit. unit < 2 ^ 64) units
@@ -34,7 +34,7 @@ unit_bytes-units_from (suc n) bytes len small =
     let first : length (take 8 bytes) ≡ 8 = length-take-le 8 bytes (omega arith) in
     let rest : length (drop 8 bytes) ≡ 8 * n = omega (arith, length-drop 8 bytes) in
     let front : unit_bytes (unit_value (take 8 bytes)) ≡ take 8 bytes =
-    be_bytes_8 (take 8 bytes) _ first (small_at (take 8 bytes) (All-take IsByte 8 bytes small)) refl in
+    be_bytes_8 (take 8 bytes) _ first (get_or-below_256 (take 8 bytes) (All-take IsByte 8 bytes small)) refl in
     ap (λ xs. xs ++ flat_map unit_bytes (units_from n (drop 8 bytes))) front
     ∙ ap (λ ys. take 8 bytes ++ ys) (unit_bytes-units_from n (drop 8 bytes) rest (All-drop IsByte 8 bytes small))
     ∙ take-append-drop 8 bytes
@@ -45,10 +45,10 @@ map-first_chunks zero bytes = refl
 map-first_chunks (suc n) bytes = ap (λ us. unit_value (take 8 bytes) ∷ us) (map-first_chunks n (drop 8 bytes))
 
 -- zeros are told by their number
-pub all_zero : (xs : List ℕ) → All (λ x. x ≡ 0) xs → xs ≡ replicate (length xs) 0
-all_zero [] each = refl
-all_zero (x ∷ xs) each =
-    ap (λ y. y ∷ xs) (each 0 0 (omega arith)) ∙ ap (λ ys. 0 ∷ ys) (all_zero xs (All-drop (λ y. y ≡ 0) 1 (x ∷ xs) each))
+pub all_zero-replicate : (xs : List ℕ) → All (λ x. x ≡ 0) xs → xs ≡ replicate (length xs) 0
+all_zero-replicate [] each = refl
+all_zero-replicate (x ∷ xs) each =
+    ap (λ y. y ∷ xs) (each 0 0 (omega arith)) ∙ ap (λ ys. 0 ∷ ys) (all_zero-replicate xs (All-drop (λ y. y ≡ 0) 1 (x ∷ xs) each))
 
 length-padded : (text : List ℕ) → length (padded text) ≡ 8 * units_for (length text)
 length-padded text = omega (arith, length-append {A = ℕ}, length-replicate {A = ℕ})
@@ -72,18 +72,18 @@ text_units-first_chunks text bytes chunks short front cut =
     ap (map unit_value) cut ∙ map-first_chunks (length bytes / 8) bytes
     ∙ ap (λ n. units_from n bytes) count ∙ ap (units_from (units_for (length text))) same
 
-pub padded-bytes : (text : List ℕ) → All IsPrintable text → All IsByte (padded text)
-padded-bytes text printable = All-append IsByte text _ (λ k d lt. omega (arith, printable k d lt)) (All-replicate IsByte _ 0 (lit< tt))
+pub padded-all_bytes : (text : List ℕ) → All IsPrintable text → All IsByte (padded text)
+padded-all_bytes text printable = All-append IsByte text _ (λ k d lt. omega (arith, printable k d lt)) (All-replicate IsByte _ 0 (lit< tt))
 
 -- the bytes of a text's units
 pub unit_bytes-text_units : (text : List ℕ) → All IsPrintable text → flat_map unit_bytes (text_units text) ≡ padded text
 unit_bytes-text_units text printable =
-    unit_bytes-units_from (units_for (length text)) (padded text) (length-padded text) (padded-bytes text printable)
+    unit_bytes-units_from (units_for (length text)) (padded text) (length-padded text) (padded-all_bytes text printable)
 
 -- a text is the front of its units' bytes, and zeros follow
-pub text-front : (units text : List ℕ) → All IsPrintable text → units ≡ text_units text
+pub unit_bytes-text_and_zeros : (units text : List ℕ) → All IsPrintable text → units ≡ text_units text
     → (take (length text) (flat_map unit_bytes units) ≡ text) × All (λ byte. byte ≡ 0) (drop (length text) (flat_map unit_bytes units))
-text-front units text printable is =
+unit_bytes-text_and_zeros units text printable is =
     let bytes = ap (flat_map unit_bytes) is ∙ unit_bytes-text_units text printable in
     rw bytes (
       take-append_seam text _,
@@ -91,12 +91,12 @@ text-front units text printable is =
     )
 
 -- bytes that are a text and zeros give the text's units
-pub text_units-front : (units text padding : List ℕ) → All (λ unit. unit < 2 ^ 64) units → length units ≡ units_for (length text)
+pub text_and_zeros-text_units : (units text padding : List ℕ) → All (λ unit. unit < 2 ^ 64) units → length units ≡ units_for (length text)
     → flat_map unit_bytes units ≡ text ++ padding → length (flat_map unit_bytes units) ≡ 8 * length units → All (λ byte. byte ≡ 0) padding
     → units ≡ text_units text
-text_units-front units text padding below count is len zeros =
+text_and_zeros-text_units units text padding below count is len zeros =
     let rest : length padding ≡ 8 * units_for (length text) - length text = omega (arith, ap length is, length-append text padding) in
     let whole : flat_map unit_bytes units ≡ padded text =
-    is ∙ ap (λ xs. text ++ xs) (all_zero padding zeros) ∙ ap (λ n. text ++ replicate n 0) rest in
+    is ∙ ap (λ xs. text ++ xs) (all_zero-replicate padding zeros) ∙ ap (λ n. text ++ replicate n 0) rest in
     sym (units_from-unit_bytes units below) ∙ ap (λ n. units_from n (flat_map unit_bytes units)) count
     ∙ ap (units_from (units_for (length text))) whole

@@ -16,7 +16,7 @@ use Rattle.lock_core.specs.Faults.{IsFirstFailing, IsUnlawfulAt}
 use Rattle.log_record.specs.declared.rec.Rec.TheVariants.{Genesis, Update, Commit, Short, Over, Note}
 use Rattle.log_record.proofs.SpellingLemmas.{spelling-append-injective, units_of-injective}
 use Rattle.segment_file.specs.Log.{Log, HoldsLog}
-use Rattle.segment_file.proofs.OneReading.{one_reading-log, one_reading-begins, one_reading-snapshot, one_reading-bad, one_reading-one, one_reading-place, bad-begins}
+use Rattle.segment_file.proofs.OneReading.{one_reading-log, HoldsLog-begins_as_log, HoldsLog-no_bad_snapshot, HoldsLog-no_bad_batch, bad_snapshot-no_bad_batch, bad_batch-unique, bad_batch-begins_as_log}
 use Rattle.log_recovery.specs.declared.recovery.RecoverFault.{RecoverFault}
 use Rattle.log_recovery.specs.declared.recovery.RecoverFault.TheVariants as fault
 use Rattle.log_recovery.specs.ListedRecords.{IsBadRecAt}
@@ -90,13 +90,13 @@ one-unlawful opening h x y s t first second =
     (first.place ∙ ap (end_from opening.state.end) both.0 ∙ sym second.place, both.1)
 
 -- a record has a unit
-pub some_unit : (rec : Rec) (x : List ℕ) → spelling rec ++ x ≡ [] → ⊥
-some_unit (Genesis account balance) x same = cc
-some_unit (Update txn account delta prev) x same = cc
-some_unit (Commit txn legs) x same = cc
-some_unit (Short txn leg) x same = cc
-some_unit (Over txn leg) x same = cc
-some_unit (Note txn text) x same = cc
+pub spelling_append-not_none : (rec : Rec) (x : List ℕ) → spelling rec ++ x ≡ [] → ⊥
+spelling_append-not_none (Genesis account balance) x same = cc
+spelling_append-not_none (Update txn account delta prev) x same = cc
+spelling_append-not_none (Commit txn legs) x same = cc
+spelling_append-not_none (Short txn leg) x same = cc
+spelling_append-not_none (Over txn leg) x same = cc
+spelling_append-not_none (Note txn text) x same = cc
 
 abbrev BeginsWithNone : List ℕ → Type 0
 BeginsWithNone units = (rec : Rec) → BeginsWith units rec → ⊥
@@ -120,7 +120,7 @@ none-listed : (xs ys : List Rec) (u : List ℕ) → AllByRecursion IsSpellable x
     → units_of xs ++ u ≡ units_of ys → ⊥
 none-listed [] [] u is_xs is_ys none some same = let empty = ap length same in absurd (omega arith)
 none-listed [] (s ∷ ys) u is_xs is_ys none some same = none s (is_ys.0, units_of ys, same)
-none-listed (r ∷ xs) [] u is_xs is_ys none some same = some_unit r (units_of xs ++ u) (sym (append_assoc (spelling r) (units_of xs) u) ∙ same)
+none-listed (r ∷ xs) [] u is_xs is_ys none some same = spelling_append-not_none r (units_of xs ++ u) (sym (append_assoc (spelling r) (units_of xs) u) ∙ same)
 none-listed (r ∷ xs) (s ∷ ys) u is_xs is_ys none some same =
     let head = spelling-append-injective r s (units_of xs ++ u) (units_of ys) is_xs.0 is_ys.0 (sym (append_assoc (spelling r) (units_of xs) u) ∙ same) in
     none-listed xs ys u is_xs.1 is_ys.1 none some head.1
@@ -148,22 +148,22 @@ unlawful-same : (bytes : List ℕ) (a b : OpenedList) (lsn : ℕ) (test : Why) �
     → IsUnlawfulAt (opening_of a.opening) (placed a) lsn test → IsUnlawfulAt (opening_of b.opening) (placed b) lsn test
 unlawful-same bytes a b lsn test first second = subst (λ (list : OpenedList). IsUnlawfulAt (opening_of list.opening) (placed list) lsn test) (one-list bytes a b first second)
 
-pub listed-fault : (bytes : List ℕ) (list : OpenedList) (f : RecoverFault) → HoldsList bytes list → IsListedFaultOf bytes f → f ≡ fault.NoMemory
-listed-fault bytes list fault.NotALog held is = absurd (is (one_reading-begins bytes (log_of list) held.holds))
-listed-fault bytes list fault.BadSnapshot held is = absurd (one_reading-snapshot bytes (log_of list) held.holds is)
-listed-fault bytes list (fault.BadBatch offset) held is = absurd (one_reading-bad bytes (log_of list) offset held.holds is)
-listed-fault bytes list (fault.BadRec lsn) held is = absurd (bad-rec-listed bytes is.0 lsn list is.1 is.2 held)
-listed-fault bytes list (fault.Unlawful lsn test) held is = absurd is
-listed-fault bytes list fault.NoMemory held is = refl
+pub HoldsList-fault_no_memory : (bytes : List ℕ) (list : OpenedList) (f : RecoverFault) → HoldsList bytes list → IsListedFaultOf bytes f → f ≡ fault.NoMemory
+HoldsList-fault_no_memory bytes list fault.NotALog held is = absurd (is (HoldsLog-begins_as_log bytes (log_of list) held.holds))
+HoldsList-fault_no_memory bytes list fault.BadSnapshot held is = absurd (HoldsLog-no_bad_snapshot bytes (log_of list) held.holds is)
+HoldsList-fault_no_memory bytes list (fault.BadBatch offset) held is = absurd (HoldsLog-no_bad_batch bytes (log_of list) offset held.holds is)
+HoldsList-fault_no_memory bytes list (fault.BadRec lsn) held is = absurd (bad-rec-listed bytes is.0 lsn list is.1 is.2 held)
+HoldsList-fault_no_memory bytes list (fault.Unlawful lsn test) held is = absurd is
+HoldsList-fault_no_memory bytes list fault.NoMemory held is = refl
 
-pub lawful-fault : (bytes : List ℕ) (list : OpenedList) (f : RecoverFault) → HoldsLawful bytes list → IsFaultOf bytes f → f ≡ fault.NoMemory
-lawful-fault bytes list fault.NotALog held is = listed-fault bytes list fault.NotALog held.list is
-lawful-fault bytes list fault.BadSnapshot held is = listed-fault bytes list fault.BadSnapshot held.list is
-lawful-fault bytes list (fault.BadBatch offset) held is = listed-fault bytes list (fault.BadBatch offset) held.list is
-lawful-fault bytes list (fault.BadRec lsn) held is = listed-fault bytes list (fault.BadRec lsn) held.list is
-lawful-fault bytes list (fault.Unlawful lsn test) held is =
+pub HoldsLawful-fault_no_memory : (bytes : List ℕ) (list : OpenedList) (f : RecoverFault) → HoldsLawful bytes list → IsFaultOf bytes f → f ≡ fault.NoMemory
+HoldsLawful-fault_no_memory bytes list fault.NotALog held is = HoldsList-fault_no_memory bytes list fault.NotALog held.list is
+HoldsLawful-fault_no_memory bytes list fault.BadSnapshot held is = HoldsList-fault_no_memory bytes list fault.BadSnapshot held.list is
+HoldsLawful-fault_no_memory bytes list (fault.BadBatch offset) held is = HoldsList-fault_no_memory bytes list (fault.BadBatch offset) held.list is
+HoldsLawful-fault_no_memory bytes list (fault.BadRec lsn) held is = HoldsList-fault_no_memory bytes list (fault.BadRec lsn) held.list is
+HoldsLawful-fault_no_memory bytes list (fault.Unlawful lsn test) held is =
     absurd (lawful-unlawful (opening_of list.opening) (placed list) lsn test held.lawful (unlawful-same bytes is.0 list lsn test is.1 held.list is.2))
-lawful-fault bytes list fault.NoMemory held is = refl
+HoldsLawful-fault_no_memory bytes list fault.NoMemory held is = refl
 
 abbrev pub IsSameOrNoMemory : RecoverFault → RecoverFault → Type 0
 IsSameOrNoMemory f g = (f ≡ g) ⊎ (f ≡ fault.NoMemory) ⊎ (g ≡ fault.NoMemory)
@@ -177,28 +177,28 @@ one-fault bytes fault.NoMemory g is also = inr (inl refl)
 one-fault bytes f fault.NoMemory is also = inr (inr refl)
 one-fault bytes fault.NotALog fault.NotALog is also = inl refl
 one-fault bytes fault.NotALog fault.BadSnapshot is also = absurd (is (inr also.second))
-one-fault bytes fault.NotALog (fault.BadBatch offset) is also = absurd (is (bad-begins bytes offset also))
-one-fault bytes fault.NotALog (fault.BadRec lsn) is also = absurd (is (one_reading-begins bytes also.0 also.1))
-one-fault bytes fault.NotALog (fault.Unlawful lsn test) is also = absurd (is (one_reading-begins bytes (log_of also.0) also.1.holds))
+one-fault bytes fault.NotALog (fault.BadBatch offset) is also = absurd (is (bad_batch-begins_as_log bytes offset also))
+one-fault bytes fault.NotALog (fault.BadRec lsn) is also = absurd (is (HoldsLog-begins_as_log bytes also.0 also.1))
+one-fault bytes fault.NotALog (fault.Unlawful lsn test) is also = absurd (is (HoldsLog-begins_as_log bytes (log_of also.0) also.1.holds))
 one-fault bytes fault.BadSnapshot fault.NotALog is also = absurd (also (inr is.second))
 one-fault bytes fault.BadSnapshot fault.BadSnapshot is also = inl refl
-one-fault bytes fault.BadSnapshot (fault.BadBatch offset) is also = absurd (one_reading-one bytes offset is also)
-one-fault bytes fault.BadSnapshot (fault.BadRec lsn) is also = absurd (one_reading-snapshot bytes also.0 also.1 is)
-one-fault bytes fault.BadSnapshot (fault.Unlawful lsn test) is also = absurd (one_reading-snapshot bytes (log_of also.0) also.1.holds is)
-one-fault bytes (fault.BadBatch offset) fault.NotALog is also = absurd (also (bad-begins bytes offset is))
-one-fault bytes (fault.BadBatch offset) fault.BadSnapshot is also = absurd (one_reading-one bytes offset also is)
-one-fault bytes (fault.BadBatch offset) (fault.BadBatch other) is also = inl (ap fault.BadBatch (one_reading-place bytes offset other is also))
-one-fault bytes (fault.BadBatch offset) (fault.BadRec lsn) is also = absurd (one_reading-bad bytes also.0 offset also.1 is)
-one-fault bytes (fault.BadBatch offset) (fault.Unlawful lsn test) is also = absurd (one_reading-bad bytes (log_of also.0) offset also.1.holds is)
-one-fault bytes (fault.BadRec lsn) fault.NotALog is also = absurd (also (one_reading-begins bytes is.0 is.1))
-one-fault bytes (fault.BadRec lsn) fault.BadSnapshot is also = absurd (one_reading-snapshot bytes is.0 is.1 also)
-one-fault bytes (fault.BadRec lsn) (fault.BadBatch offset) is also = absurd (one_reading-bad bytes is.0 offset is.1 also)
+one-fault bytes fault.BadSnapshot (fault.BadBatch offset) is also = absurd (bad_snapshot-no_bad_batch bytes offset is also)
+one-fault bytes fault.BadSnapshot (fault.BadRec lsn) is also = absurd (HoldsLog-no_bad_snapshot bytes also.0 also.1 is)
+one-fault bytes fault.BadSnapshot (fault.Unlawful lsn test) is also = absurd (HoldsLog-no_bad_snapshot bytes (log_of also.0) also.1.holds is)
+one-fault bytes (fault.BadBatch offset) fault.NotALog is also = absurd (also (bad_batch-begins_as_log bytes offset is))
+one-fault bytes (fault.BadBatch offset) fault.BadSnapshot is also = absurd (bad_snapshot-no_bad_batch bytes offset also is)
+one-fault bytes (fault.BadBatch offset) (fault.BadBatch other) is also = inl (ap fault.BadBatch (bad_batch-unique bytes offset other is also))
+one-fault bytes (fault.BadBatch offset) (fault.BadRec lsn) is also = absurd (HoldsLog-no_bad_batch bytes also.0 offset also.1 is)
+one-fault bytes (fault.BadBatch offset) (fault.Unlawful lsn test) is also = absurd (HoldsLog-no_bad_batch bytes (log_of also.0) offset also.1.holds is)
+one-fault bytes (fault.BadRec lsn) fault.NotALog is also = absurd (also (HoldsLog-begins_as_log bytes is.0 is.1))
+one-fault bytes (fault.BadRec lsn) fault.BadSnapshot is also = absurd (HoldsLog-no_bad_snapshot bytes is.0 is.1 also)
+one-fault bytes (fault.BadRec lsn) (fault.BadBatch offset) is also = absurd (HoldsLog-no_bad_batch bytes is.0 offset is.1 also)
 one-fault bytes (fault.BadRec lsn) (fault.BadRec other) is also =
     inl (ap fault.BadRec (one-bad-rec also.0.opening.lsn also.0.units lsn other (bad-rec-same bytes is.0 also.0 lsn is.1 also.1 is.2) also.2))
 one-fault bytes (fault.BadRec lsn) (fault.Unlawful other test) is also = absurd (bad-rec-listed bytes is.0 lsn also.0 is.1 is.2 also.1)
-one-fault bytes (fault.Unlawful lsn test) fault.NotALog is also = absurd (also (one_reading-begins bytes (log_of is.0) is.1.holds))
-one-fault bytes (fault.Unlawful lsn test) fault.BadSnapshot is also = absurd (one_reading-snapshot bytes (log_of is.0) is.1.holds also)
-one-fault bytes (fault.Unlawful lsn test) (fault.BadBatch offset) is also = absurd (one_reading-bad bytes (log_of is.0) offset is.1.holds also)
+one-fault bytes (fault.Unlawful lsn test) fault.NotALog is also = absurd (also (HoldsLog-begins_as_log bytes (log_of is.0) is.1.holds))
+one-fault bytes (fault.Unlawful lsn test) fault.BadSnapshot is also = absurd (HoldsLog-no_bad_snapshot bytes (log_of is.0) is.1.holds also)
+one-fault bytes (fault.Unlawful lsn test) (fault.BadBatch offset) is also = absurd (HoldsLog-no_bad_batch bytes (log_of is.0) offset is.1.holds also)
 one-fault bytes (fault.Unlawful lsn test) (fault.BadRec other) is also = absurd (bad-rec-listed bytes also.0 other is.0 also.1 also.2 is.1)
 one-fault bytes (fault.Unlawful lsn test) (fault.Unlawful other test') is also =
     let both = one-unlawful (opening_of also.0.opening) (placed also.0) lsn other test test' (unlawful-same bytes is.0 also.0 lsn test is.1 also.1 is.2) also.2 in

@@ -9,7 +9,7 @@ use Rattle.log_record.proofs.LogListLemmas.{end_of-cons, boundary_is_front, fron
 use Rattle.log_record.proofs.SpellingLemmas.{spelling-append-injective, units_of-injective}
 use Rattle.lock_core.proofs.ListLemmas.{all-split}
 use Rattle.log_recovery.specs.Boundaries.{GoesOnAt}
-use Rattle.log_recovery.proofs.AnswerLemmas.{some_unit}
+use Rattle.log_recovery.proofs.AnswerLemmas.{spelling_append-not_none}
 use Rattle.log_recovery.proofs.ListingLemmas.{units_of-append}
 
 -- a front of a list ends no later than a record in it starts, or no sooner than it ends
@@ -40,9 +40,9 @@ drop-front [] ys = refl
 drop-front (x ∷ xs) ys = drop-front xs ys
 
 -- from the list's beginning on, or from a boundary that isn't behind what is sought
-pub seeks-begun : (begin : ℕ) (units : List ℕ) (known lsn : ℕ) (records : List Rec) → AreUnitsOf units records → (passed : ℕ) → known ≡ begin + passed
+pub seeks-from_boundary : (begin : ℕ) (units : List ℕ) (known lsn : ℕ) (records : List Rec) → AreUnitsOf units records → (passed : ℕ) → known ≡ begin + passed
     → IsBoundary records passed → (known ≡ begin) ⊎ (known ≤ lsn) → Seeks begin units (drop passed units) known lsn
-seeks-begun begin units known lsn records list passed place is below =
+seeks-from_boundary begin units known lsn records list passed place is below =
     let found = boundary_is_front records passed is in
     let parts = list.units_are ∙ ap units_of found.2 ∙ units_of-append found.0 found.1 in record {
       done = found.0;
@@ -57,8 +57,8 @@ seeks-begun begin units known lsn records list passed place is below =
     }
 
 -- a boundary lies within the units
-pub passed-within : (units : List ℕ) (records : List Rec) (passed : ℕ) → AreUnitsOf units records → IsBoundary records passed → passed ≤ length units
-passed-within units records passed list is =
+pub boundary-within : (units : List ℕ) (records : List Rec) (passed : ℕ) → AreUnitsOf units records → IsBoundary records passed → passed ≤ length units
+boundary-within units records passed list is =
     let found = boundary_is_front records passed is in
     let parts = ap length (list.units_are ∙ ap units_of found.2 ∙ units_of-append found.0 found.1) ∙ length-append (units_of found.0) (units_of found.1) in
     omega (arith, parts, found.3)
@@ -78,8 +78,8 @@ module _ (begin : ℕ) (units rest : List ℕ) (at lsn : ℕ) (seeks : Seeks beg
       omega (arith, ap length seeks.list.units_are, parts, ap length seeks.left)
 
   -- the rest lies within the units
-  pub seeks-within : at + length rest ≡ begin + length units
-  seeks-within = omega (arith, left-length, seeks.place)
+  pub seeks-rest_reaches_end : at + length rest ≡ begin + length units
+  seeks-rest_reaches_end = omega (arith, left-length, seeks.place)
 
   spellable-left : AllByRecursion IsSpellable seeks.more
   spellable-left = (all-split IsSpellable seeks.done seeks.more seeks.list.spellable).1
@@ -91,17 +91,17 @@ module _ (begin : ℕ) (units rest : List ℕ) (at lsn : ℕ) (seeks : Seeks beg
       absurd (none rec ((subst (AllByRecursion IsSpellable) is spellable-left).0, units_of more, seeks.left ∙ ap units_of is))
 
   -- beyond the LSN that is sought there is no boundary at it
-  pub seeks-beyond : lsn < at → (records : List Rec) → AreUnitsOf units records → (there : ℕ) → lsn ≡ begin + there → IsBoundary records there → ⊥
-  seeks-beyond beyond records list there place is =
+  pub seeks_beyond-no_boundary : lsn < at → (records : List Rec) → AreUnitsOf units records → (there : ℕ) → lsn ≡ begin + there → IsBoundary records there → ⊥
+  seeks_beyond-no_boundary beyond records list there place is =
       let found = boundary_is_front records there is in
       let whole = one-list units (seeks.done ++ seeks.more) records seeks.list list ∙ found.2 in
       let below = seeks.below found.0 found.1 whole (omega (arith, place, found.3, seeks.place, beyond)) in
       omega (arith, below, place, found.3)
 
   -- before it, at the list's end, neither
-  pub seeks-ended : at < lsn → ((rec : Rec) → BeginsWith rest rec → ⊥) → (records : List Rec) → AreUnitsOf units records
+  pub seeks_ended-no_boundary : at < lsn → ((rec : Rec) → BeginsWith rest rec → ⊥) → (records : List Rec) → AreUnitsOf units records
       → (there : ℕ) → lsn ≡ begin + there → IsBoundary records there → ⊥
-  seeks-ended before none records list there place is =
+  seeks_ended-no_boundary before none records list there place is =
       let found = boundary_is_front records there is in
       let done : seeks.done ≡ found.0 ++ found.1 =
       sym (append-nil seeks.done) ∙ ap (λ l. seeks.done ++ l) (sym (ended seeks.more refl none))
@@ -110,8 +110,8 @@ module _ (begin : ℕ) (units rest : List ℕ) (at lsn : ℕ) (seeks : Seeks beg
       omega (arith, longer, place, found.3, seeks.place, before)
 
   -- at it the list goes on
-  pub seeks-found : at ≡ lsn → (records : List Rec) → AreUnitsOf units records → GoesOnAt begin records lsn rest
-  seeks-found here records list = record {
+  pub seeks_found-goes_on_at : at ≡ lsn → (records : List Rec) → AreUnitsOf units records → GoesOnAt begin records lsn rest
+  seeks_found-goes_on_at here records list = record {
     front = seeks.done;
     later = seeks.more;
     whole = sym (one-list units (seeks.done ++ seeks.more) records seeks.list list);
@@ -122,7 +122,7 @@ module _ (begin : ℕ) (units rest : List ℕ) (at lsn : ℕ) (seeks : Seeks beg
   -- the next record is passed
   module _ (rec : Rec) (begun : BeginsWith rest rec) (before : at < lsn) where
     parted : (more : List Rec) → seeks.more ≡ more → (later : List Rec) × (seeks.more ≡ rec ∷ later) × (begun.1 ≡ units_of later)
-    parted [] is = absurd (some_unit rec begun.1 (sym begun.2 ∙ seeks.left ∙ ap units_of is))
+    parted [] is = absurd (spelling_append-not_none rec begun.1 (sym begun.2 ∙ seeks.left ∙ ap units_of is))
     parted (first ∷ later) is =
         let same = spelling-append-injective rec first begun.1 (units_of later) begun.0 (subst (AllByRecursion IsSpellable) is spellable-left).0
         (sym begun.2 ∙ seeks.left ∙ ap units_of is) in
@@ -146,8 +146,8 @@ module _ (begin : ℕ) (units rest : List ℕ) (at lsn : ℕ) (seeks : Seeks beg
           | inr behind ↦ absurd (omega (arith, behind, less, longer))
         ]
 
-    pub seeks-next : (after : List ℕ) (at' : ℕ) → after ≡ drop (length (spelling rec)) rest → at' ≡ at + length (spelling rec) → Seeks begin units after at' lsn
-    seeks-next after at' dropped on = record {
+    pub seeks-step : (after : List ℕ) (at' : ℕ) → after ≡ drop (length (spelling rec)) rest → at' ≡ at + length (spelling rec) → Seeks begin units after at' lsn
+    seeks-step after at' dropped on = record {
       done = seeks.done ++ rec ∷ [];
       more = later;
       list = subst (AreUnitsOf units) whole seeks.list;

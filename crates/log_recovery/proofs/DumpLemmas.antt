@@ -4,7 +4,7 @@ use Rattle.std.specs.List.{AllByRecursion}
 use Rattle.std.proofs.lemmas.List.{append-nil}
 use Rattle.std.proofs.lemmas.List.Elements.{All-from_recursion}
 use Rattle.log_disk.specs.Streams.{AppendsPart, AppendsBut}
-use Rattle.log_disk.proofs.Blocks.{AppendsBut-more, AppendsBut-part, AppendsPart-first}
+use Rattle.log_disk.proofs.Blocks.{AppendsBut-trans, AppendsBut-trans_part_of_piece, AppendsPart-append}
 use Rattle.log_record.specs.declared.rec.Rec.{Rec}
 use Rattle.log_record.specs.declared.rec.Rec.TheVariants.{Genesis, Update, Commit, Short, Over, Note}
 use Rattle.log_record.specs.LogList.{AreUnitsOf, units_of, end_of, size_of}
@@ -15,8 +15,8 @@ use Rattle.lsn_space.specs.Opening.{Opening}
 use Rattle.log_recovery.specs.Dump.{record_line, record_lines, opening_lines, dump_text}
 use Rattle.log_recovery.specs.ListedRecords.{IsFront}
 use Rattle.log_recovery.specs.Text.{lsn_line}
-use Rattle.log_recovery.proofs.AnswerLemmas.{some_unit}
-use Rattle.log_recovery.proofs.ListingLemmas.{front-end, units_of-append}
+use Rattle.log_recovery.proofs.AnswerLemmas.{spelling_append-not_none}
+use Rattle.log_recovery.proofs.ListingLemmas.{front_and_rest-length, units_of-append}
 
 record_lines-append : (at : ℕ) (xs ys : List Rec) → record_lines at (xs ++ ys) ≡ record_lines at xs ++ record_lines (at + end_of xs) ys
 record_lines-append at [] ys = let same : at ≡ at + 0 = omega arith in ap (λ n. record_lines n ys) same
@@ -39,8 +39,8 @@ some-units (Over txn leg) = omega arith
 some-units (Note txn text) = omega arith
 
 -- what is behind a record is shorter
-pub dumps-less : (rest after : List ℕ) (rec : Rec) → (length rest ≡ 0 → ⊥) → after ≡ drop (length (spelling rec)) rest → length after < length rest
-dumps-less rest after rec some behind =
+pub drop_spelling-shorter : (rest after : List ℕ) (rec : Rec) → (length rest ≡ 0 → ⊥) → after ≡ drop (length (spelling rec)) rest → length after < length rest
+drop_spelling-shorter rest after rec some behind =
     let less = ap length behind ∙ length-drop (length (spelling rec)) rest in let units = some-units rec in omega (arith, some)
 
 -- the lines before these records, and theirs
@@ -84,15 +84,15 @@ module _ (opening : Opening) (units rest waiting : List ℕ) (old mid : Option (
   begins-with : (first : Rec) (later : List Rec) → before.more ≡ first ∷ later → BeginsWith rest first
   begins-with first later is = ((subst (AllByRecursion IsSpellable) is each.1).0, units_of later, before.left ∙ ap units_of is)
 
-  pub dumps-some : (length rest ≡ 0 → ⊥) → ((rec : Rec) → BeginsWith rest rec → ⊥) → ⊥
-  dumps-some some none = let parts = begins before.more refl some in none parts.0 (begins-with parts.0 parts.1 parts.2)
+  pub dumps-rest_begins_with : (length rest ≡ 0 → ⊥) → ((rec : Rec) → BeginsWith rest rec → ⊥) → ⊥
+  dumps-rest_begins_with some none = let parts = begins before.more refl some in none parts.0 (begins-with parts.0 parts.1 parts.2)
 
   front-length : end_of before.done + length rest ≡ length units
   unfolding dumps-front
-  front-length = front-end units before.done rest dumps-front.whole
+  front-length = front_and_rest-length units before.done rest dumps-front.whole
 
-  pub dumps-fits : (end : ℕ) → end ≡ opening.lsn + length units → length rest ≤ end
-  dumps-fits end is = let lengths = front-length in omega arith
+  pub dumps-rest_le_end : (end : ℕ) → end ≡ opening.lsn + length units → length rest ≤ end
+  dumps-rest_le_end end is = let lengths = front-length in omega arith
 
   -- the place of the rest
   dumps-place : (start : ℕ) → start + length rest ≡ opening.lsn + length units → start ≡ opening.lsn + end_of before.done
@@ -127,7 +127,7 @@ module _ (opening : Opening) (units rest waiting : List ℕ) (old mid : Option (
       list = subst (AreUnitsOf units) (ap (λ l. before.done ++ l) more-is ∙ sym (append_assoc before.done (rec ∷ []) parts.1)) before.list;
       left = dropped ∙ ap (drop (length (spelling rec))) begun.2 ∙ drop-front (spelling rec) begun.1 ∙ same.1;
       written = subst (λ bytes. AppendsBut old new bytes waiting') (sym lines-more)
-          (AppendsBut-more old mid new _ waiting before.written (record_line start rec) waiting' line);
+          (AppendsBut-trans old mid new _ waiting before.written (record_line start rec) waiting' line);
     }
       where
         drop-front : (xs ys : List ℕ) → drop (length xs) (xs ++ ys) ≡ ys
@@ -148,17 +148,17 @@ module _ (opening : Opening) (units rest waiting : List ℕ) (old mid : Option (
         ∙ append_assoc (lines_to opening before.done ++ record_line start rec) later _
 
     -- of the lines with one more a part is written
-    pub dumps-cut : (new : Option (List ℕ)) (records : List Rec) → AreUnitsOf units records → AppendsPart mid new (waiting ++ record_line start rec)
+    pub record_line_cut-dump_part : (new : Option (List ℕ)) (records : List Rec) → AreUnitsOf units records → AppendsPart mid new (waiting ++ record_line start rec)
         → AppendsPart old new (dump_text (record { opening = opening; records = records }))
-    dumps-cut new records list cut =
+    record_line_cut-dump_part new records list cut =
         subst (λ l. AppendsPart old new (dump_text (record { opening = opening; records = l }))) (one-list_of units (before.done ++ before.more) records before.list list)
-        (AppendsPart-first old new _ _ _ (AppendsBut-part old mid new _ waiting before.written (record_line start rec) cut) whole-text)
+        (AppendsPart-append old new _ _ _ (AppendsBut-trans_part_of_piece old mid new _ waiting before.written (record_line start rec) cut) whole-text)
 
   -- the whole is written
   module _ (empty : rest ≡ []) (records : List Rec) (list : AreUnitsOf units records) where
     none-left : (more : List Rec) → before.more ≡ more → more ≡ []
     none-left [] is = refl
-    none-left (rec ∷ more) is = absurd (some_unit rec (units_of more) (sym (ap units_of is) ∙ sym before.left ∙ empty))
+    none-left (rec ∷ more) is = absurd (spelling_append-not_none rec (units_of more) (sym (ap units_of is) ∙ sym before.left ∙ empty))
 
     done-is : before.done ≡ records
     done-is = sym (append-nil before.done) ∙ ap (λ l. before.done ++ l) (sym (none-left before.more refl))
@@ -169,12 +169,12 @@ module _ (opening : Opening) (units rest waiting : List ℕ) (old mid : Option (
         ∙ ap (λ n. lines_to opening before.done ++ lsn_line n) (sym end)
 
     -- the end is put
-    pub dumps-end : (new : Option (List ℕ)) (waiting' : List ℕ) (lsn : ℕ) → lsn ≡ opening.lsn + end_of records → AppendsBut mid new (waiting ++ lsn_line lsn) waiting'
+    pub lsn_line_put-dump_whole : (new : Option (List ℕ)) (waiting' : List ℕ) (lsn : ℕ) → lsn ≡ opening.lsn + end_of records → AppendsBut mid new (waiting ++ lsn_line lsn) waiting'
         → AppendsBut old new (dump_text (record { opening = opening; records = records })) waiting'
-    dumps-end new waiting' lsn end line =
-        subst (λ bytes. AppendsBut old new bytes waiting') (sym (whole lsn end)) (AppendsBut-more old mid new _ waiting before.written (lsn_line lsn) waiting' line)
+    lsn_line_put-dump_whole new waiting' lsn end line =
+        subst (λ bytes. AppendsBut old new bytes waiting') (sym (whole lsn end)) (AppendsBut-trans old mid new _ waiting before.written (lsn_line lsn) waiting' line)
 
-    pub dumps-end_cut : (new : Option (List ℕ)) (lsn : ℕ) → lsn ≡ opening.lsn + end_of records → AppendsPart mid new (waiting ++ lsn_line lsn)
+    pub lsn_line_cut-dump_part : (new : Option (List ℕ)) (lsn : ℕ) → lsn ≡ opening.lsn + end_of records → AppendsPart mid new (waiting ++ lsn_line lsn)
         → AppendsPart old new (dump_text (record { opening = opening; records = records }))
-    dumps-end_cut new lsn end cut =
-        subst (AppendsPart old new) (sym (whole lsn end)) (AppendsBut-part old mid new _ waiting before.written (lsn_line lsn) cut)
+    lsn_line_cut-dump_part new lsn end cut =
+        subst (AppendsPart old new) (sym (whole lsn end)) (AppendsBut-trans_part_of_piece old mid new _ waiting before.written (lsn_line lsn) cut)

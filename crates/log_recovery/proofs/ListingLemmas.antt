@@ -25,9 +25,9 @@ pub front-none : (units : List ℕ) → IsFront units units
 front-none units = record { records = []; each = tt; whole = refl }
 
 -- one record further
-pub front-more : (units : List ℕ) (records : List Rec) (rest after : List ℕ) (rec : Rec) → AllByRecursion IsSpellable records → units ≡ units_of records ++ rest
+pub front_records-push : (units : List ℕ) (records : List Rec) (rest after : List ℕ) (rec : Rec) → AllByRecursion IsSpellable records → units ≡ units_of records ++ rest
     → BeginsWith rest rec → after ≡ drop (length (spelling rec)) rest → AllByRecursion IsSpellable (records ++ rec ∷ []) × (units ≡ units_of (records ++ rec ∷ []) ++ after)
-front-more units records rest after rec each before begins dropped =
+front_records-push units records rest after rec each before begins dropped =
     let behind : List ℕ = begins.1 in
     let is : after ≡ behind = dropped ∙ ap (drop (length (spelling rec))) begins.2 ∙ drop-front (spelling rec) behind in (
       all-append IsSpellable records (rec ∷ []) each (begins.0, tt),
@@ -42,11 +42,11 @@ front-more units records rest after rec each before begins dropped =
     drop-front (x ∷ xs) ys = drop-front xs ys
 
 -- the end of the records before a rest
-pub front-end : (units : List ℕ) (records : List Rec) (rest : List ℕ) → units ≡ units_of records ++ rest → end_of records + length rest ≡ length units
-front-end units records rest whole = let lengths = ap length whole in let parts = length-append (units_of records) rest in omega arith
+pub front_and_rest-length : (units : List ℕ) (records : List Rec) (rest : List ℕ) → units ≡ units_of records ++ rest → end_of records + length rest ≡ length units
+front_and_rest-length units records rest whole = let lengths = ap length whole in let parts = length-append (units_of records) rest in omega arith
 
-pub bad-front : (begin : ℕ) (units : List ℕ) (rest : List ℕ) (lsn : ℕ) → IsFront units rest → 0 < length rest
+pub front-IsBadRecAt : (begin : ℕ) (units : List ℕ) (rest : List ℕ) (lsn : ℕ) → IsFront units rest → 0 < length rest
     → lsn + length rest ≡ begin + length units → ((rec : Rec) → BeginsWith rest rec → ⊥) → IsBadRecAt begin units lsn
-bad-front begin units rest lsn before some place none =
+front-IsBadRecAt begin units rest lsn before some place none =
     let lengths = ap length before.whole in let parts = length-append (units_of before.records) rest in
     record { front = before.records; each = before.each; rest = rest; whole = before.whole; place = omega arith; some = some; none = none }

@@ -21,17 +21,17 @@ use Rattle.lock_core.specs.AccountRows.{row}
 use Rattle.lock_core.specs.Sums.{BaseState, Opening, BeginsInRange, ShowsAccounts, balance_of, last_commit_of}
 use Rattle.lock_core.specs.Tests.{OpensLedger}
 use Rattle.lock_core.specs.Transactions.{touches, updates_of}
-use Rattle.lock_core.proofs.KindLemmas.{accounts-genesis}
+use Rattle.lock_core.proofs.KindLemmas.{all_genesis-accounts_count}
 use Rattle.lock_core.proofs.LastCommits.{base_with-last_commit}
-use Rattle.lock_core.proofs.Ranging.{balance_of-is, in_range-lawful}
-use Rattle.lock_core.proofs.SoundLemmas.{base_state-past}
-use Rattle.lock_core.proofs.TakingLemmas.{accounts-some, begins-few, begins-rows}
+use Rattle.lock_core.proofs.Ranging.{is_balance-equals_balance_of, lawful-in_range}
+use Rattle.lock_core.proofs.SoundLemmas.{base_state_of-past_accounts_same}
+use Rattle.lock_core.proofs.TakingLemmas.{accounts-some, empty_or_snapshot-few_accounts, empty_or_snapshot-rows_in_range}
 use Rattle.segment_file.specs.File.{joined}
 use Rattle.segment_file.specs.Log.{IsFront, first_format, second_format, HoldsLog}
 use Rattle.log_recovery.specs.Opened.{OpenedList, log_of, list_end, placed, with_records, opening_before, base_in, base_left}
 use Rattle.log_recovery.specs.Recovery.{HoldsLawful}
 use Rattle.log_recovery.proofs.ListingLemmas.{units_of-append, end_from-history}
-use Rattle.log_recovery.proofs.RecoveryLemmas.{log-opening}
+use Rattle.log_recovery.proofs.RecoveryLemmas.{log_opening-none_or_snapshot}
 
 -- ---- where it ends
 
@@ -72,8 +72,8 @@ some-units [] some = absurd (omega arith)
 some-units (rec ∷ records) some = omega arith
 
 -- a file holds some account or some record
-pub some-held : (bytes : List ℕ) (list : OpenedList) → HoldsLog bytes (log_of list) → 0 < (opening_before list).state.accounts + length (placed list)
-some-held bytes list held = by_format held.reads.begins
+pub held-some_account_or_record : (bytes : List ℕ) (list : OpenedList) → HoldsLog bytes (log_of list) → 0 < (opening_before list).state.accounts + length (placed list)
+held-some_account_or_record bytes list held = by_format held.reads.begins
   where
     by_format : IsFront held.reads.front list.opening held.reads.first → 0 < (opening_before list).state.accounts + length (placed list)
     by_format (first_format nothing counted is) =
@@ -84,8 +84,8 @@ some-held bytes list held = by_format held.reads.begins
 -- ---- what stands before it
 
 -- the accounts there have balances in their range
-pub list-range : (bytes : List ℕ) (list : OpenedList) → HoldsLog bytes (log_of list) → BeginsInRange (opening_before list).state
-list-range bytes list held = begins-rows list.opening (log-opening bytes (log_of list) held)
+pub held-begins_in_range : (bytes : List ℕ) (list : OpenedList) → HoldsLog bytes (log_of list) → BeginsInRange (opening_before list).state
+held-begins_in_range bytes list held = empty_or_snapshot-rows_in_range list.opening (log_opening-none_or_snapshot bytes (log_of list) held)
 
 rows-marks : (lsn : ℕ) (rows : List (ℕ × ℕ)) → AllByRecursion (IsRow lsn) rows → (account : ℕ) → (row rows account).1 ≤ lsn
 rows-marks lsn [] each account = omega arith
@@ -97,9 +97,9 @@ opening-marks opening (inl none) account = subst (λ rows. (row rows account).1 
 opening-marks opening (inr is) account = rows-marks opening.lsn opening.accounts is.each account
 
 -- no account is lost
-pub accounts-least : (opening : Opening) (h : List Placed) → opening.state.accounts ≤ (base_with opening h).accounts
-accounts-least opening [] = omega arith
-accounts-least opening (entry ∷ h) = by_kind entry.rec (accounts-least opening h)
+pub accounts-le_base_with : (opening : Opening) (h : List Placed) → opening.state.accounts ≤ (base_with opening h).accounts
+accounts-le_base_with opening [] = omega arith
+accounts-le_base_with opening (entry ∷ h) = by_kind entry.rec (accounts-le_base_with opening h)
   where
     by_kind : (rec : Rec) → opening.state.accounts ≤ (base_with opening h).accounts
         → opening.state.accounts ≤ (with_genesis rec (base_with opening h)).accounts
@@ -119,7 +119,7 @@ few-lawful opening (entry ∷ h) first spelled lawful = by_kind entry.rec spelle
   where
     by_kind : (rec : Rec) → IsSpellable rec → OpensLedger opening h rec → (base_with opening h).accounts ≤ MOST_ACCOUNTS
         → (with_genesis rec (base_with opening h)).accounts ≤ MOST_ACCOUNTS
-    by_kind (Genesis account balance) own opens before = omega (arith, own.0, opens.0, opens.2, accounts-genesis opening h opens.1)
+    by_kind (Genesis account balance) own opens before = omega (arith, own.0, opens.0, opens.2, all_genesis-accounts_count opening h opens.1)
     by_kind (Update txn account delta prev) own opens before = before
     by_kind (Commit txn legs) own opens before = before
     by_kind (Short txn leg) own opens before = before
@@ -142,12 +142,12 @@ module _ (list : OpenedList) (begins : (list.opening.accounts ≡ []) ⊎ IsSnap
   spelled = spelled-history list.opening.lsn [] list.records tt each
 
   few-of : (base_in list).accounts ≤ MOST_ACCOUNTS
-  few-of = few-lawful (opening_before list) (placed list) (begins-few list.opening begins) spelled lawful
+  few-of = few-lawful (opening_before list) (placed list) (empty_or_snapshot-few_accounts list.opening begins) spelled lawful
 
   balance-in : (account : ℕ) → account < (base_in list).accounts → IsBalance (balance_of (base_in list) (placed list) account)
   balance-in account below =
-      let found = in_range-lawful (opening_before list) (placed list) (begins-rows list.opening begins) spelled lawful account below in
-      subst IsBalance (sym (balance_of-is (base_in list) (placed list) account found.0 found.2)) found.1
+      let found = lawful-in_range (opening_before list) (placed list) (empty_or_snapshot-rows_in_range list.opening begins) spelled lawful account below in
+      subst IsBalance (sym (is_balance-equals_balance_of (base_in list) (placed list) account found.0 found.2)) found.1
 
   last-in : (account : ℕ) → last_commit_of (base_in list) (placed list) account ≤ list_end list
   last-in account =
@@ -173,25 +173,25 @@ module _ (list : OpenedList) (begins : (list.opening.accounts ≡ []) ⊎ IsSnap
 -- and of one that a file holds: some accounts, and the same
 module _ (bytes : List ℕ) (list : OpenedList) (held : HoldsLawful bytes list) where
   begins : (list.opening.accounts ≡ []) ⊎ IsSnapshot list.opening
-  begins = log-opening bytes (log_of list) held.list.holds
+  begins = log_opening-none_or_snapshot bytes (log_of list) held.list.holds
 
-  pub some-accounts : 0 < (base_in list).accounts
-  some-accounts = accounts-some (opening_before list) (placed list) held.lawful (some-held bytes list held.list.holds)
+  pub held-some_accounts : 0 < (base_in list).accounts
+  held-some_accounts = accounts-some (opening_before list) (placed list) held.lawful (held-some_account_or_record bytes list held.list.holds)
 
-  pub few-held : (base_in list).accounts ≤ MOST_ACCOUNTS
-  few-held = few-of list begins held.list.each held.lawful
+  pub held-accounts_le_most : (base_in list).accounts ≤ MOST_ACCOUNTS
+  held-accounts_le_most = few-of list begins held.list.each held.lawful
 
-  pub balance-held : (account : ℕ) → account < (base_in list).accounts → IsBalance (balance_of (base_in list) (placed list) account)
-  balance-held = balance-in list begins held.list.each held.lawful
+  pub held-balance_in_range : (account : ℕ) → account < (base_in list).accounts → IsBalance (balance_of (base_in list) (placed list) account)
+  held-balance_in_range = balance-in list begins held.list.each held.lawful
 
-  pub last-held : (account : ℕ) → last_commit_of (base_in list) (placed list) account ≤ list_end list
-  last-held = last-in list begins held.list.each held.lawful
+  pub held-last_commit_le_end : (account : ℕ) → last_commit_of (base_in list) (placed list) account ≤ list_end list
+  held-last_commit_le_end = last-in list begins held.list.each held.lawful
 
-  pub held-snapshot : (rows : List (ℕ × ℕ)) (lsn txn : ℕ) → ShowsAccounts rows (base_in list) (placed list) → lsn ≡ list_end list → txn < 2 ^ 32
+  pub held_shown-snapshot : (rows : List (ℕ × ℕ)) (lsn txn : ℕ) → ShowsAccounts rows (base_in list) (placed list) → lsn ≡ list_end list → txn < 2 ^ 32
       → IsSnapshot (record { lsn = lsn; txn = txn; accounts = rows })
-  held-snapshot rows lsn txn shows end small =
+  held_shown-snapshot rows lsn txn shows end small =
       let fits : list_end list ≤ LAST = omega (arith, held.list.holds.reads.total) in
-      shown-snapshot list begins held.list.each held.lawful rows lsn txn shows end fits small some-accounts
+      shown-snapshot list begins held.list.each held.lawful rows lsn txn shows end fits small held-some_accounts
 
 -- ---- what it leaves
 
@@ -208,9 +208,9 @@ state_with end rows =
     record { end = end; accounts = length rows; balance = λ account. (row rows account).0; last_commit = λ account. (row rows account).1 }
 
 -- rows that show its accounts are the state that it leaves
-pub rows-left : (list : OpenedList) (end : ℕ) (rows : List (ℕ × ℕ)) → IsLawful (opening_before list) (placed list) → end ≡ list_end list
+pub state_with-base_left : (list : OpenedList) (end : ℕ) (rows : List (ℕ × ℕ)) → IsLawful (opening_before list) (placed list) → end ≡ list_end list
     → ShowsAccounts rows (base_in list) (placed list) → state_with end rows ≡ base_left list
-rows-left list end rows lawful ends shows = λ i. record {
+state_with-base_left list end rows lawful ends shows = λ i. record {
   end = (ends ∙ sym (end-left list)) i;
   accounts = shows.count i;
   balance = λ account. each-balance account i;
@@ -222,7 +222,7 @@ rows-left list end rows lawful ends shows = λ i. record {
 
     before-past : (account : ℕ) → (base_in list).accounts ≤ account → row list.opening.accounts account ≡ (0, 0)
     before-past account past =
-        get_or_past list.opening.accounts account (0, 0) (omega (arith, past, accounts-least (opening_before list) (placed list)))
+        get_or_past list.opening.accounts account (0, 0) (omega (arith, past, accounts-le_base_with (opening_before list) (placed list)))
 
     shown : (account : ℕ) → account < (base_in list).accounts
         → row rows account ≡ (balance_of (base_in list) (placed list) account, last_commit_of (base_in list) (placed list) account)
@@ -232,10 +232,10 @@ rows-left list end rows lawful ends shows = λ i. record {
     each-balance account = dite (dec_lt account (base_in list).accounts)
         (λ below. ap (λ (r : ℕ × ℕ). r.0) (shown account below))
         (λ past. ap (λ (r : ℕ × ℕ). r.0) (rows-past account (omega arith) ∙ sym (before-past account (omega arith)))
-        ∙ sym (base_state-past (opening_before list) (placed list) account lawful (omega arith)).0)
+        ∙ sym (base_state_of-past_accounts_same (opening_before list) (placed list) account lawful (omega arith)).0)
 
     each-commit : (account : ℕ) → (row rows account).1 ≡ (base_left list).last_commit account
     each-commit account = dite (dec_lt account (base_in list).accounts)
         (λ below. ap (λ (r : ℕ × ℕ). r.1) (shown account below))
         (λ past. ap (λ (r : ℕ × ℕ). r.1) (rows-past account (omega arith) ∙ sym (before-past account (omega arith)))
-        ∙ sym (base_state-past (opening_before list) (placed list) account lawful (omega arith)).1)
+        ∙ sym (base_state_of-past_accounts_same (opening_before list) (placed list) account lawful (omega arith)).1)

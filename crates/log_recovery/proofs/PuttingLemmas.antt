@@ -5,16 +5,16 @@ use Rattle.std.proofs.lemmas.Result.{on_ok_weaker, on_err_weaker}
 use Rattle.log_disk.specs.Faults.{HasCause}
 use Rattle.log_disk.specs.Streams.{AppendsPart, AppendsBut}
 use Rattle.log_disk.specs.declared.sink.Sink.{Ghosts}
-use Rattle.log_disk.proofs.Blocks.{AppendsBut-none, AppendsBut-more, AppendsBut-part, AppendsPart-first}
+use Rattle.log_disk.proofs.Blocks.{AppendsBut-none, AppendsBut-trans, AppendsBut-trans_part_of_piece, AppendsPart-append}
 use Rattle.log_disk.specs.Blocks.{PutsPiece}
 
 -- where no fault was counted until then
-pub cause-since : {T E : Type 0} (first before now : ℕ) (result : Result T E) → before ≡ first → HasCause before now result → HasCause first now result
-cause-since first before now result same cause = subst (λ count. HasCause count now result) same cause
+pub HasCause-same_before : {T E : Type 0} (first before now : ℕ) (result : Result T E) → before ≡ first → HasCause before now result → HasCause first now result
+HasCause-same_before first before now result same cause = subst (λ count. HasCause count now result) same cause
 
 -- where none was counted at all
-pub cause-none : {T E : Type 0} (first now : ℕ) (value : T) → now ≡ first → HasCause {T = T} {E = E} first now (Ok value)
-cause-none first now value same = record { later = subst (λ count. first ≤ count) (sym same) (le_refl first); fine = same; failed = tt }
+pub HasCause-ok : {T E : Type 0} (first now : ℕ) (value : T) → now ≡ first → HasCause {T = T} {E = E} first now (Ok value)
+HasCause-ok first now value same = record { later = subst (λ count. first ≤ count) (sym same) (le_refl first); fine = same; failed = tt }
 
 module _ {K : Type 0} (g : Ghosts K) where
   -- nothing is put
@@ -23,40 +23,40 @@ module _ {K : Type 0} (g : Ghosts K) where
     all = subst (λ bytes. AppendsBut (g.held_bytes k) (g.held_bytes k) bytes waits) (sym (append-nil waits))
         (AppendsBut-none (g.held_bytes k) waits);
     prefix = tt;
-    cause = cause-none (g.faults k) (g.faults k) value refl;
+    cause = HasCause-ok (g.faults k) (g.faults k) value refl;
   }
 
   -- the piece that is put is this text
-  pub puts-piece : {T E : Type 0} (piece text : List ℕ) (old new : K) (waits waits' : List ℕ) (result : Result T E) → piece ≡ text
+  pub puts-same_text : {T E : Type 0} (piece text : List ℕ) (old new : K) (waits waits' : List ℕ) (result : Result T E) → piece ≡ text
       → OnOk result (AppendsBut (g.held_bytes old) (g.held_bytes new) (waits ++ piece) waits')
       → OnErr result (AppendsPart (g.held_bytes old) (g.held_bytes new) (waits ++ piece))
       → HasCause (g.faults old) (g.faults new) result → PutsPiece g text old new waits waits' result
-  puts-piece piece text old new waits waits' result is all prefix cause =
+  puts-same_text piece text old new waits waits' result is all prefix cause =
       subst (λ bytes. PutsPiece g bytes old new waits waits' result) is record { all = all; prefix = prefix; cause = cause }
 
   -- two pieces, one behind the other
   module _ (first second : List ℕ) (old mid : K) (waits : List ℕ) where
-    pub puts-then : {T E : Type 0} (new : K) (between after : List ℕ) (result : Result T E)
+    pub puts-append : {T E : Type 0} (new : K) (between after : List ℕ) (result : Result T E)
         → AppendsBut (g.held_bytes old) (g.held_bytes mid) (waits ++ first) between → g.faults mid ≡ g.faults old
         → PutsPiece g second mid new between after result → PutsPiece g (first ++ second) old new waits after result
-    puts-then new between after result put same rest =
+    puts-append new between after result put same rest =
         let from = g.held_bytes old in let to = g.held_bytes new in
         record {
           all = on_ok_weaker result (λ more. subst (λ bytes. AppendsBut from to bytes after) (append_assoc waits first second)
-              (AppendsBut-more from (g.held_bytes mid) to (waits ++ first) between put second after more)) rest.all;
+              (AppendsBut-trans from (g.held_bytes mid) to (waits ++ first) between put second after more)) rest.all;
           prefix = on_err_weaker result (λ cut. subst (AppendsPart from to) (append_assoc waits first second)
-              (AppendsBut-part from (g.held_bytes mid) to (waits ++ first) between put second cut)) rest.prefix;
-          cause = cause-since (g.faults old) (g.faults mid) (g.faults new) result same rest.cause;
+              (AppendsBut-trans_part_of_piece from (g.held_bytes mid) to (waits ++ first) between put second cut)) rest.prefix;
+          cause = HasCause-same_before (g.faults old) (g.faults mid) (g.faults new) result same rest.cause;
         }
 
     -- the first of them fails
-    pub puts-cut : {T U E : Type 0} (after : List ℕ) (error : E)
+    pub puts-append_first_failed : {T U E : Type 0} (after : List ℕ) (error : E)
         → AppendsPart (g.held_bytes old) (g.held_bytes mid) (waits ++ first)
         → HasCause {T = U} {E = E} (g.faults old) (g.faults mid) (Err error)
         → PutsPiece {T = T} {E = E} g (first ++ second) old mid waits after (Err error)
-    puts-cut after error cut cause = record {
+    puts-append_first_failed after error cut cause = record {
       all = tt;
-      prefix = AppendsPart-first (g.held_bytes old) (g.held_bytes mid) _ (waits ++ first) second cut
+      prefix = AppendsPart-append (g.held_bytes old) (g.held_bytes mid) _ (waits ++ first) second cut
           (sym (append_assoc waits first second));
       cause = record { later = cause.later; fine = tt; failed = cause.failed };
     }

@@ -18,18 +18,18 @@ use Rattle.log_recovery.specs.ListedRecords.{IsRecords}
 use Rattle.log_recovery.specs.Recovery.{HoldsList, ListsBytes, TakesBytes, list_of}
 
 -- what a log begins with has no account, or is a snapshot
-pub log-opening : (bytes : List ℕ) (log : Log) → HoldsLog bytes log → (log.opening.accounts ≡ []) ⊎ IsSnapshot log.opening
-log-opening bytes log held = by_format held.reads.begins
+pub log_opening-none_or_snapshot : (bytes : List ℕ) (log : Log) → HoldsLog bytes log → (log.opening.accounts ≡ []) ⊎ IsSnapshot log.opening
+log_opening-none_or_snapshot bytes log held = by_format held.reads.begins
   where
     by_format : IsFront held.reads.front log.opening held.reads.first → (log.opening.accounts ≡ []) ⊎ IsSnapshot log.opening
     by_format (first_format nothing counted is) = inl (ap (λ (o : Opening). o.accounts) nothing)
     by_format (second_format snapshot none is) = inr snapshot
 
-pub scan-opening : (scan : Scan) (bytes : List ℕ) → Scans scan bytes → (scan.opening.accounts ≡ []) ⊎ IsSnapshot scan.opening
-scan-opening scan bytes scans = log-opening bytes (scanned_log scan) scans.held
+pub scan_opening-none_or_snapshot : (scan : Scan) (bytes : List ℕ) → Scans scan bytes → (scan.opening.accounts ≡ []) ⊎ IsSnapshot scan.opening
+scan_opening-none_or_snapshot scan bytes scans = log_opening-none_or_snapshot bytes (scanned_log scan) scans.held
 
-pub scan-fits : (scan : Scan) (bytes units : List ℕ) → Scans scan bytes → units ≡ scan.units → scan.opening.lsn + length units ≤ LAST
-scan-fits scan bytes units scans is = omega (arith, scans.held.reads.total, ap length is)
+pub scan_end-within_last : (scan : Scan) (bytes units : List ℕ) → Scans scan bytes → units ≡ scan.units → scan.opening.lsn + length units ≤ LAST
+scan_end-within_last scan bytes units scans is = omega (arith, scans.held.reads.total, ap length is)
 
 -- the log that was scanned, in records
 module _ (scan : Scan) (bytes units : List ℕ) (scans : Scans scan bytes) (is : units ≡ scan.units) where
@@ -47,9 +47,9 @@ module _ (scan : Scan) (bytes units : List ℕ) (scans : Scans scan bytes) (is :
     list-stands = subst (λ log. LogStandsAt scan.tail log bytes) same-log scans
 
 -- the answer for a list that is lawful or not
-pub lists : (listed : Listed) (scan : Scan) (bytes units : List ℕ) (list : IsRecords units) → Scans scan bytes → units ≡ scan.units → listed.opening ≡ scan.opening
+pub scan-ListsBytes : (listed : Listed) (scan : Scan) (bytes units : List ℕ) (list : IsRecords units) → Scans scan bytes → units ≡ scan.units → listed.opening ≡ scan.opening
     → listed.units ≡ scan.units → listed.tail ≡ scan.tail → ListsBytes listed bytes
-lists listed scan bytes units list scans is opening same tail =
+scan-ListsBytes listed scan bytes units list scans is opening same tail =
     let held = list-held scan bytes units scans is (list_of listed list.0) (sym opening) list.1 in
     let stands = list-stands scan bytes units scans is (list_of listed list.0) (sym opening) list.1 in
     record {
@@ -67,10 +67,10 @@ pub takes : {T : Type 0} (HasTaken : sums.Opening → T → List Placed → Type
     → ((opening : sums.Opening) (taker : T) (h : List Placed) → HasTaken opening taker h → IsLawful opening h) → Scans scan bytes → units ≡ scan.units
     → listed.opening ≡ scan.opening → listed.units ≡ scan.units → listed.tail ≡ scan.tail → HasTakenUnits HasTaken scan.opening units taker
     → TakesBytes HasTaken taker listed bytes
-unfolding lists
+unfolding scan-ListsBytes
 takes HasTaken taker listed scan bytes units lawful scans is opening same tail taken =
     let own = subst (λ (o : Opening). HasTakenUnits HasTaken o units taker) (sym opening) taken in
-    let list = lists listed scan bytes units (own.records, own.list) scans is opening same tail in
+    let list = scan-ListsBytes listed scan bytes units (own.records, own.list) scans is opening same tail in
     record {
       records = own.records;
       held = record { list = list.held; lawful = lawful _ taker _ own.taken };

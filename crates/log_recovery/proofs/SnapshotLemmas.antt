@@ -5,7 +5,7 @@ use Rattle.std.proofs.lemmas.List.{append-nil, drop_all}
 use Rattle.std.proofs.lemmas.Option.{slice_get_within}
 use Rattle.lsn_space.specs.Opening.{Opening}
 use Rattle.log_disk.specs.Streams.{AppendsPart, AppendsBut}
-use Rattle.log_disk.proofs.Blocks.{AppendsBut-none, AppendsBut-more, AppendsBut-part, AppendsPart-first}
+use Rattle.log_disk.proofs.Blocks.{AppendsBut-none, AppendsBut-trans, AppendsBut-trans_part_of_piece, AppendsPart-append}
 use Rattle.log_recovery.specs.Dump.{row_line, row_lines, snapshot_line, snapshot_lines, opening_lines}
 
 -- from this row on
@@ -39,21 +39,21 @@ module _ (rows : List (ℕ × ℕ)) (account : ℕ) (row : ℕ × ℕ) (first wa
     done = before.done ++ row_line account row;
     whole = split;
     written = subst (λ bytes. AppendsBut old new bytes waiting') (append_assoc first before.done (row_line account row))
-        (AppendsBut-more old mid new _ waiting before.written (row_line account row) waiting' line);
+        (AppendsBut-trans old mid new _ waiting before.written (row_line account row) waiting' line);
   }
 
   -- of the lines with one more a part is written
-  pub rows-cut : (new : Option (List ℕ)) → AppendsPart mid new (waiting ++ row_line account row) → AppendsPart old new (first ++ row_lines 0 rows)
-  rows-cut new cut =
+  pub row_line_cut-rows_part : (new : Option (List ℕ)) → AppendsPart mid new (waiting ++ row_line account row) → AppendsPart old new (first ++ row_lines 0 rows)
+  row_line_cut-rows_part new cut =
       let rest : List ℕ = row_lines (account + 1) (drop (account + 1) rows) in
-      AppendsPart-first old new _ _ rest (AppendsBut-part old mid new _ waiting before.written (row_line account row) cut)
+      AppendsPart-append old new _ _ rest (AppendsBut-trans_part_of_piece old mid new _ waiting before.written (row_line account row) cut)
       (ap (λ list. first ++ list) split ∙ sym (append_assoc first (before.done ++ row_line account row) rest)
       ∙ ap (λ list. list ++ rest) (sym (append_assoc first before.done (row_line account row))))
 
 -- all lines are put
-pub rows-all : (rows : List (ℕ × ℕ)) (account : ℕ) (first waiting : List ℕ) (old new : Option (List ℕ)) → length rows ≤ account
+pub rows_front-all_lines_put : (rows : List (ℕ × ℕ)) (account : ℕ) (first waiting : List ℕ) (old new : Option (List ℕ)) → length rows ≤ account
     → RowsFront rows account first waiting old new → AppendsBut old new (first ++ row_lines 0 rows) waiting
-rows-all rows account first waiting old new past front =
+rows_front-all_lines_put rows account first waiting old new past front =
     let whole : row_lines 0 rows ≡ front.done =
     front.whole ∙ ap (λ list. front.done ++ row_lines account list) (drop_all account rows past) ∙ append-nil front.done in
     subst (λ bytes. AppendsBut old new (first ++ bytes) waiting) (sym whole) front.written
@@ -69,9 +69,9 @@ lines-some lsn txn [] some = absurd (some refl)
 lines-some lsn txn (row ∷ rows) some = refl
 
 -- an opening that is shown so has no line, or these
-pub opening-none : {opening shown : Opening} → opening ≡ shown → length opening.accounts ≡ 0 → opening_lines shown ≡ []
-opening-none {opening} is none = ap opening_lines (sym is) ∙ lines-none opening.lsn opening.txn opening.accounts none
+pub opening_lines-none : {opening shown : Opening} → opening ≡ shown → length opening.accounts ≡ 0 → opening_lines shown ≡ []
+opening_lines-none {opening} is none = ap opening_lines (sym is) ∙ lines-none opening.lsn opening.txn opening.accounts none
 
-pub opening-some : {opening shown : Opening} → opening ≡ shown → (length opening.accounts ≡ 0 → ⊥)
+pub opening_lines-some : {opening shown : Opening} → opening ≡ shown → (length opening.accounts ≡ 0 → ⊥)
     → opening_lines shown ≡ snapshot_line opening.lsn opening.txn ++ row_lines 0 opening.accounts
-opening-some {opening} is some = ap opening_lines (sym is) ∙ lines-some opening.lsn opening.txn opening.accounts some
+opening_lines-some {opening} is some = ap opening_lines (sym is) ∙ lines-some opening.lsn opening.txn opening.accounts some

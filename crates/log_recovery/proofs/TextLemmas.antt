@@ -7,7 +7,7 @@ use Rattle.std.proofs.Math.Nat.{eq-or-lt_of_le}
 use Rattle.std.specs.Io.KnownBytes.{Appends}
 use Rattle.std.proofs.KnownBytes.{Appends-trans}
 use Rattle.log_disk.specs.Streams.{AppendsPrefix, AppendsPart, AppendsBut}
-use Rattle.log_disk.proofs.Blocks.{AppendsBut-more, AppendsBut-part, AppendsPart-first, longer}
+use Rattle.log_disk.proofs.Blocks.{AppendsBut-trans, AppendsBut-trans_part_of_piece, AppendsPart-append, positive_length-append}
 use Rattle.lsn_space.specs.Number.{number_text}
 use Rattle.lock_core.specs.Lawful.{base_with}
 use Rattle.lock_core.specs.Sums.{ShowsAccounts, balance_of, last_commit_of}
@@ -30,26 +30,26 @@ account_lines-split balance i (suc n) few = elim (eq-or-lt_of_le few) [
 ]
 
 -- a front of a text's first piece is a front of the text
-pub AppendsPrefix-first : (old new : Option (List ℕ)) (text piece more : List ℕ) → AppendsPrefix old new piece → text ≡ piece ++ more → AppendsPrefix old new text
-AppendsPrefix-first old new text piece more written whole =
+pub AppendsPrefix-append : (old new : Option (List ℕ)) (text piece more : List ℕ) → AppendsPrefix old new piece → text ≡ piece ++ more → AppendsPrefix old new text
+AppendsPrefix-append old new text piece more written whole =
     (written.0, written.1 ++ more, rw (whole, written.2) (append_assoc written.0 written.1 more), written.3)
 
 -- a front behind what was written whole
-pub AppendsPrefix-behind : (old middle new : Option (List ℕ)) (text done piece more : List ℕ) → Appends old middle done → AppendsPrefix middle new piece
+pub AppendsPrefix-after_Appends : (old middle new : Option (List ℕ)) (text done piece more : List ℕ) → Appends old middle done → AppendsPrefix middle new piece
     → text ≡ (done ++ piece) ++ more → AppendsPrefix old new text
-AppendsPrefix-behind old middle new text done piece more before cut whole =
+AppendsPrefix-after_Appends old middle new text done piece more before cut whole =
     (done ++ cut.0, cut.1 ++ more, rw (whole, cut.2) (simp append_assoc), Appends-trans old middle new done cut.0 before cut.3)
 
 -- likewise of a front that isn't all of the piece
-pub AppendsPart-behind : (old middle new : Option (List ℕ)) (text done piece more : List ℕ) → Appends old middle done → AppendsPart middle new piece
+pub AppendsPart-after_Appends : (old middle new : Option (List ℕ)) (text done piece more : List ℕ) → Appends old middle done → AppendsPart middle new piece
     → text ≡ (done ++ piece) ++ more → AppendsPart old new text
-AppendsPart-behind old middle new text done piece more before cut whole =
-    (done ++ cut.0, cut.1 ++ more, rw (whole, cut.2) (simp append_assoc), Appends-trans old middle new done cut.0 before cut.3, longer cut.1 more cut.4)
+AppendsPart-after_Appends old middle new text done piece more before cut whole =
+    (done ++ cut.0, cut.1 ++ more, rw (whole, cut.2) (simp append_assoc), Appends-trans old middle new done cut.0 before cut.3, positive_length-append cut.1 more cut.4)
 
 -- the line that the accounts text begins with
 pub lsn_line-some : (lsn : ℕ) → 0 < length (lsn_line lsn)
 unfolding lsn_line
-lsn_line-some lsn = longer (codes "lsn ") (number_text lsn ++ codes "\n") (omega arith)
+lsn_line-some lsn = positive_length-append (codes "lsn ") (number_text lsn ++ codes "\n") (omega arith)
 
 -- the balance that is kept of an account
 abbrev pub balance_in : List (ℕ × ℕ) → ℕ → ℕ
@@ -69,7 +69,7 @@ module _ (old middle new : Option (List ℕ)) (start : List ℕ) (rows : List (�
   pub AppendsBut-line : (waiting' : List ℕ) → AppendsBut middle new (waiting ++ account_line account row.0) waiting'
       → AppendsBut old new (start ++ account_lines (balance_in rows) (account + 1)) waiting'
   AppendsBut-line waiting' line =
-      subst (λ bytes. AppendsBut old new bytes waiting') (sym line-added) (AppendsBut-more old middle new _ waiting before (account_line account row.0) waiting' line)
+      subst (λ bytes. AppendsBut old new bytes waiting') (sym line-added) (AppendsBut-trans old middle new _ waiting before (account_line account row.0) waiting' line)
 
   -- of the lines with one more a part is written
   pub AppendsPart-line : account < length rows → AppendsPart middle new (waiting ++ account_line account row.0)
@@ -79,7 +79,7 @@ module _ (old middle new : Option (List ℕ)) (start : List ℕ) (rows : List (�
       let lines = account_lines (balance_in rows) (account + 1) in
       let whole : start ++ account_lines (balance_in rows) (length rows) ≡ ((start ++ account_lines (balance_in rows) account) ++ account_line account row.0) ++ split.0 =
       rw (split.1, ← append_assoc start lines split.0, line-added) refl in
-      AppendsPart-first old new _ _ split.0 (AppendsBut-part old middle new _ waiting before (account_line account row.0) cut) whole
+      AppendsPart-append old new _ _ split.0 (AppendsBut-trans_part_of_piece old middle new _ waiting before (account_line account row.0) cut) whole
 
 pub account_lines-same : (one other : ℕ → ℕ) (n : ℕ) → ((account : ℕ) → account < n → one account ≡ other account) → account_lines one n ≡ account_lines other n
 account_lines-same one other zero same = refl

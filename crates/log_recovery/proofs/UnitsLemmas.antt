@@ -13,19 +13,19 @@ use Rattle.lock_core.specs.History.{end_from, entry_at, history_from}
 use Rattle.lock_core.specs.Lawful.{Passes, IsLawful}
 use Rattle.lock_core.specs.Faults.{IsFirstFailing, IsUnlawfulAt}
 use Rattle.lock_core.specs.Sums as sums
-use Rattle.lock_core.proofs.Fronts.{history_from-append, history_from-onto}
+use Rattle.lock_core.proofs.Fronts.{history_from-append, history_from-extends}
 use Rattle.log_recovery.specs.ListedRecords.{IsFront, IsRecords}
 use Rattle.log_recovery.specs.JudgedUnits.{HasTakenFront, HasTakenUnits, FailsBefore}
 use Rattle.lock_core.proofs.ListLemmas.{all-append}
-use Rattle.log_recovery.proofs.ListingLemmas.{units_of-append, end_from-history, front-more, front-end}
+use Rattle.log_recovery.proofs.ListingLemmas.{units_of-append, end_from-history, front_records-push, front_and_rest-length}
 
-pub front-next : (units rest after : List ℕ) (rec : Rec) → IsFront units rest → BeginsWith rest rec → after ≡ drop (length (spelling rec)) rest → IsFront units after
-front-next units rest after rec front begins dropped =
-    let more = front-more units front.records rest after rec front.each front.whole begins dropped in
+pub IsFront-step : (units rest after : List ℕ) (rec : Rec) → IsFront units rest → BeginsWith rest rec → after ≡ drop (length (spelling rec)) rest → IsFront units after
+IsFront-step units rest after rec front begins dropped =
+    let more = front_records-push units front.records rest after rec front.each front.whole begins dropped in
     record { records = front.records ++ rec ∷ []; each = more.0; whole = more.1 }
 
-pub front-all : (units rest : List ℕ) → rest ≡ [] → IsFront units rest → IsRecords units
-front-all units rest empty front =
+pub IsFront-IsRecords : (units rest : List ℕ) → rest ≡ [] → IsFront units rest → IsRecords units
+IsFront-IsRecords units rest empty front =
     (front.records, record { spellable = front.each; units_are = front.whole ∙ ap (λ l. units_of front.records ++ l) empty ∙ append-nil (units_of front.records) })
 
 -- what is taken of the units by what has taken lists so
@@ -33,12 +33,12 @@ module _ {T : Type 0} (HasTaken : sums.Opening → T → List Placed → Type 0)
   pub taken-none : (opening : Opening) (units : List ℕ) (taker : T) → HasTaken (opening_of opening) taker [] → HasTakenFront HasTaken opening units units taker
   taken-none opening units taker taken = record { records = []; each = tt; whole = refl; taken = taken }
 
-  pub taken-front : (opening : Opening) (units rest : List ℕ) (taker : T) → HasTakenFront HasTaken opening units rest taker → IsFront units rest
-  taken-front opening units rest taker front = record { records = front.records; each = front.each; whole = front.whole }
+  pub taken_front-IsFront : (opening : Opening) (units rest : List ℕ) (taker : T) → HasTakenFront HasTaken opening units rest taker → IsFront units rest
+  taken_front-IsFront opening units rest taker front = record { records = front.records; each = front.each; whole = front.whole }
 
-  pub taken-all : (opening : Opening) (units rest : List ℕ) (taker : T) → rest ≡ [] → HasTakenFront HasTaken opening units rest taker
+  pub taken_front-HasTakenUnits : (opening : Opening) (units rest : List ℕ) (taker : T) → rest ≡ [] → HasTakenFront HasTaken opening units rest taker
       → HasTakenUnits HasTaken opening units taker
-  taken-all opening units rest taker empty front = record {
+  taken_front-HasTakenUnits opening units rest taker empty front = record {
     records = front.records;
     list = record { spellable = front.each; units_are = front.whole ∙ ap (λ l. units_of front.records ++ l) empty ∙ append-nil (units_of front.records) };
     taken = front.taken;
@@ -51,29 +51,29 @@ module _ {T : Type 0} (HasTaken : sums.Opening → T → List Placed → Type 0)
   so_far = history_from opening.lsn [] before.records
 
   pub taken-place : lsn ≡ end_from opening.lsn so_far
-  taken-place = let end = front-end units before.records rest before.whole in let start = end_from-history opening.lsn [] before.records in omega arith
+  taken-place = let end = front_and_rest-length units before.records rest before.whole in let start = end_from-history opening.lsn [] before.records in omega arith
 
-  pub taken-fits : (rec : Rec) (last : ℕ) → BeginsWith rest rec → opening.lsn + length units ≤ last → lsn + length (spelling rec) ≤ last
-  taken-fits rec last begins fits = let longer = ap length begins.2 in let parts = length-append (spelling rec) begins.1 in omega arith
+  pub next_record-within_last : (rec : Rec) (last : ℕ) → BeginsWith rest rec → opening.lsn + length units ≤ last → lsn + length (spelling rec) ≤ last
+  next_record-within_last rec last begins fits = let longer = ap length begins.2 in let parts = length-append (spelling rec) begins.1 in omega arith
 
   module _ (rec : Rec) (after : List ℕ) (begins : BeginsWith rest rec) (dropped : after ≡ drop (length (spelling rec)) rest) where
     next : AllByRecursion IsSpellable (before.records ++ rec ∷ []) × (units ≡ units_of (before.records ++ rec ∷ []) ++ after)
-    next = front-more units before.records rest after rec before.each before.whole begins dropped
+    next = front_records-push units before.records rest after rec before.each before.whole begins dropped
 
     history-next : history_from opening.lsn [] (before.records ++ rec ∷ []) ≡ entry_at lsn rec ∷ so_far
     history-next = history_from-append opening.lsn [] before.records (rec ∷ []) ∙ ap (λ start. entry_at start rec ∷ so_far) (sym taken-place)
 
-    pub taken-next : (later : T) → HasTaken (opening_of opening) later (entry_at lsn rec ∷ so_far) → HasTakenFront HasTaken opening units after later
-    taken-next later taken = record {
+    pub taken-step : (later : T) → HasTaken (opening_of opening) later (entry_at lsn rec ∷ so_far) → HasTakenFront HasTaken opening units after later
+    taken-step later taken = record {
       records = before.records ++ rec ∷ [];
       each = next.0;
       whole = next.1;
       taken = subst (HasTaken (opening_of opening) later) (sym history-next) taken;
     }
 
-    pub fails-next : (why : Why) → IsLawful (opening_of opening) so_far → IsFirstFailing (Passes (opening_of opening) so_far (entry_at lsn rec)) why
+    pub failing_record-FailsBefore : (why : Why) → IsLawful (opening_of opening) so_far → IsFirstFailing (Passes (opening_of opening) so_far (entry_at lsn rec)) why
         → FailsBefore opening units after lsn why
-    fails-next why lawful first = record {
+    failing_record-FailsBefore why lawful first = record {
       front = before.records;
       rec = rec;
       each = next.0;
@@ -84,12 +84,12 @@ module _ {T : Type 0} (HasTaken : sums.Opening → T → List Placed → Type 0)
     }
 
 -- a record that fails, and then the rest of a list
-pub unlawful-list : (opening : Opening) (units rest : List ℕ) (lsn : ℕ) (why : Why) → FailsBefore opening units rest lsn why → IsRecords rest
+pub FailsBefore-IsUnlawfulAt : (opening : Opening) (units rest : List ℕ) (lsn : ℕ) (why : Why) → FailsBefore opening units rest lsn why → IsRecords rest
     → (records : List Rec) × AreUnitsOf units records × IsUnlawfulAt (opening_of opening) (history_from opening.lsn [] records) lsn why
-unlawful-list opening units rest lsn why fails more =
+FailsBefore-IsUnlawfulAt opening units rest lsn why fails more =
     let all : List Rec = (fails.front ++ fails.rec ∷ []) ++ more.0 in
     let front : List Placed = history_from opening.lsn [] fails.front in
-    let onto = history_from-onto opening.lsn (history_from opening.lsn [] (fails.front ++ fails.rec ∷ [])) more.0 in (
+    let onto = history_from-extends opening.lsn (history_from opening.lsn [] (fails.front ++ fails.rec ∷ [])) more.0 in (
       all,
       record {
         spellable = all-append IsSpellable (fails.front ++ fails.rec ∷ []) more.0 fails.each more.1.spellable;

@@ -20,7 +20,7 @@ pub use list_result::Listed;
 pub use listing::listed;
 pub use lock_core::Why;
 pub use recovery::{
-    RecoverFault, Recovered, judged, one_answer, recover, recover_list, recover_owned, taken,
-    taken_owned,
+    RecoverFault, Recovered, judged, one_answer, recover, recover_list, recover_owned,
+    recovered_of, scan_fault, taken, taken_owned,
 };
 pub use texts::{put_accounts, put_end};

@@ -53,7 +53,8 @@ pub enum RecoverFault {
     NoMemory,
 }
 
-pub(crate) fn scan_fault(fault: ScanFault) -> RecoverFault
+/// The fault of recovery that a fault of a scan is.
+pub fn scan_fault(fault: ScanFault) -> RecoverFault
     ensures fault { (bytes : List ℕ) → IsScanFaultOf bytes fault → IsFaultOf bytes result }
     ensures listed { (bytes : List ℕ) → IsScanFaultOf bytes fault → IsListedFaultOf bytes result }
 {
@@ -178,7 +179,7 @@ pub fn recover_list(alloc: Global, bytes: Vec<u8>) -> Result<(Recovered, Listed)
 }
 
 /// What a judge tells of the list that it has taken, and where the file goes on.
-fn recovered_of(judge: Judge, tail: Tail) -> Recovered
+pub fn recovered_of(judge: Judge, tail: Tail) -> Recovered
     ensures found { (bytes : List ℕ) → JudgesBytes judge tail bytes → Recovers result bytes }
     ensures number { result.next_txn ≤ 2 ^ 32 }
 {

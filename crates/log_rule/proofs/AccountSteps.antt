@@ -35,14 +35,14 @@ use Rattle.log_rule.specs.Roles.{is_active, may_own}
 use Rattle.log_rule.specs.AccountViews.{took_job, seen_account, saw_account, held_as, took_account, after_account, given_as, gave_account}
 use Rattle.log_rule.specs.Views.{counted}
 use Rattle.log_rule.specs.Words.{Words, put}
-use Rattle.log_rule.proofs.Bookings.{found}
+use Rattle.log_rule.proofs.Bookings.{times_held-found}
 use Rattle.log_rule.proofs.Lifting.{Tells}
-use Rattle.log_rule.proofs.Loads.{sees-word}
-use Rattle.log_rule.proofs.Members.{KeepsSeen, steps-on, loads-stay, keeps-view}
-use Rattle.log_rule.proofs.Roles.{crew-same, quiet-moves, restands}
-use Rattle.log_rule.proofs.ViewChanges.{each_set}
-use Rattle.log_rule.proofs.Taking.{takes-job, takes-account}
-use Rattle.log_rule.proofs.Giving.{gives}
+use Rattle.log_rule.proofs.Loads.{see_word-leads}
+use Rattle.log_rule.proofs.Members.{KeepsSeen, one_step_more-keeps_seen, keeps_seen-loads_for_group, keeps-view}
+use Rattle.log_rule.proofs.Roles.{crew-set_same, rests_if_quiet-set, change_standing-leads}
+use Rattle.log_rule.proofs.ViewChanges.{each_view-set}
+use Rattle.log_rule.proofs.Taking.{take_job-keeps_accounts, take_account-keeps_accounts}
+use Rattle.log_rule.proofs.Giving.{give_back-keeps_accounts}
 use Rattle.log_rule.proofs.AccountsKept.{books-at, books-set, history-end}
 use Rattle.log_rule.proofs.MemberBooks.{held-books_in}
 
@@ -56,13 +56,13 @@ module _ (key : Start) (words : Words) (account : ℕ → ℕ) (views : List Vie
 
   books-change : HoldsIfActive new → KeepsAccounts (base_of key) account (history_in key log.parts) (set (map (books_of log.groups) views) me books)
       → Leads key words (record words { account = account }) views (set views me new) log none
-  books-change unheld accounts = restands key words words.stop words.crew account views me v new log s at refl refl sees (s.constants me v at)
-      (s.resting me v at) (s.entries me v at) (crew-same words.crew views me v new s.roles at refl) (s.sends me v at)
-      (each_set (λ _ z. StoresStop words.stop z) views me new s.stops (s.stops me v at))
-      (each_set (λ _ z. HasReadStop words.stop z) views me new s.read_stop read)
-      (quiet-moves views me v new s.quiet at (λ _ _ _ h. h) (λ _ h. h)) (s.looked me v at) unheld
+  books-change unheld accounts = change_standing-leads key words words.stop words.crew account views me v new log s at refl refl sees (s.constants me v at)
+      (s.resting me v at) (s.entries me v at) (crew-set_same words.crew views me v new s.roles at refl) (s.sends me v at)
+      (each_view-set (λ _ z. StoresStop words.stop z) views me new s.stops (s.stops me v at))
+      (each_view-set (λ _ z. HasReadStop words.stop z) views me new s.read_stop read)
+      (rests_if_quiet-set views me v new s.quiet at (λ _ _ _ h. h) (λ _ h. h)) (s.looked me v at) unheld
       (subst (KeepsAccounts (base_of key) account (history_in key log.parts)) (sym (books-set log.groups views me new idle)) accounts)
-      (keeps-view key words views me v log s at new refl keeps (loads-stay key words views me v log s at seen keeps)
+      (keeps-view key words views me v log s at new refl keeps (keeps_seen-loads_for_group key words views me v log s at seen keeps)
       (subst (λ call. AwaitsPlace call books) (sym idle) tt))
 
 -- one step more, and no LSN seen
@@ -102,27 +102,27 @@ module _ (key : Start) (me : ℕ) (v : View) where
         (books-change key words words.account views me v log (record v.seen { steps = v.seen.steps + 1; stop = words.stop }) (taking_job taken v.books) s at
         may.rests.idle
         (sees-same key.start words.tail words.exposed words.durable log v.seen _ (s.seen me v at) refl refl refl refl) (inr refl)
-        (steps-on log.groups v.seen _ refl refl refl refl refl refl refl)
+        (one_step_more-keeps_seen log.groups v.seen _ refl refl refl refl refl refl refl)
         ((λ _. may.none_held), (λ off. absurd (true≢false (sym (ap may_own may.rests.active) ∙ off))))
-        (takes-job (base_of key) words.account (history_in key log.parts) (map (books_of log.groups) views) me v.books
+        (take_job-keeps_accounts (base_of key) words.account (history_in key log.parts) (map (books_of log.groups) views) me v.books
         (books-at log.groups views me v may.rests.idle at) taken
         (subst (λ c. MayBeTaken c taken) (sym same) may.allowed) may.above may.none_held s.accounts));
   }
 
-  pub account-looks : (account n : ℕ) → IsStep key me (Account account) n n v (saw_account account n v) none
-  account-looks account n = record {
+  pub saw_account-step : (account n : ℕ) → IsStep key me (Account account) n n v (saw_account account n v) none
+  saw_account-step account n = record {
     leads = λ words views log s at is.
         subst (λ (f : ℕ → ℕ). Leads key words (record words { account = f }) views (set views me (saw_account account n v)) log none)
-        (λ i k. sym (Rattle.log_rule.proofs.Reading.put-same words.account account n k is) i)
-        (sees-word key words views me v log (seen_account account n v.seen) s at
+        (λ i k. sym (Rattle.log_rule.proofs.Reading.put-same_value words.account account n k is) i)
+        (see_word-leads key words views me v log (seen_account account n v.seen) s at
         (sees-same key.start words.tail words.exposed words.durable log v.seen _ (s.seen me v at) refl refl refl refl) (s.read_stop me v at)
-        (steps-on log.groups v.seen _ refl refl refl refl refl refl refl));
+        (one_step_more-keeps_seen log.groups v.seen _ refl refl refl refl refl refl refl));
   }
 
   -- the word of an account that the seat holds is its own
-  pub account-tells : (account : ℕ) → Tells key me (Account account) v (λ n. IsOwnWord account n v.books)
-  account-tells account words views log s at has =
-      let own = found (IsAsTaken (base_of key).accounts words.account) account v.books.held has
+  pub account-tells_own_word : (account : ℕ) → Tells key me (Account account) v (λ n. IsOwnWord account n v.books)
+  account-tells_own_word account words views log s at has =
+      let own = times_held-found (IsAsTaken (base_of key).accounts words.account) account v.books.held has
       (subst (AllByRecursion (IsAsTaken (base_of key).accounts words.account)) (held-books_in log.groups v.call v.books)
       (s.accounts.holder.taken me (books_of log.groups v) (at_map (books_of log.groups) views me v at))) in
       let is = sym own.is in (
@@ -131,17 +131,17 @@ module _ (key : Start) (me : ℕ) (v : View) where
         ap (λ a. last_commit_in (words.account a)) is ∙ (own.known.last_commit ∙ sym own.last_commit),
       )
 
-  pub account-takes : (accounts account : ℕ) → length key.accounts.rows ≡ accounts → account < accounts → (from to : AccountWord) → FitsWord from → FitsWord to → MayTake account from to v
+  pub took_account-step : (accounts account : ℕ) → length key.accounts.rows ≡ accounts → account < accounts → (from to : AccountWord) → FitsWord from → FitsWord to → MayTake account from to v
       → IsStep key me (Account account) (word_of from) (word_of to) v (took_account account (word_of from) v) none
-  account-takes accounts account same below from to from-fits to-fits may = record {
+  took_account-step accounts account same below from to from-fits to-fits may = record {
     leads = λ words views log s at is.
         let free : held_in (words.account account) ≡ false = ap held_in is ∙ (held_back from.held from.balance from.mark from-fits.0 from-fits.1 ∙ may.free) in
         books-change key words (put words.account account (word_of to)) views me v log (seen_account account (word_of from) v.seen)
         (taking (held_as account (word_of from)) v.books) s at may.rests.idle
         (sees-same key.start words.tail words.exposed words.durable log v.seen _ (s.seen me v at) refl refl refl refl) (s.read_stop me v at)
-        (steps-on log.groups v.seen _ refl refl refl refl refl refl refl)
+        (one_step_more-keeps_seen log.groups v.seen _ refl refl refl refl refl refl refl)
         ((λ off. absurd (true≢false (sym (ap is_active may.rests.active) ∙ off))), (λ off. absurd (true≢false (sym (ap may_own may.rests.active) ∙ off))))
-        (takes-account (base_of key) words.account (history_in key log.parts) (map (books_of log.groups) views) me v.books
+        (take_account-keeps_accounts (base_of key) words.account (history_in key log.parts) (map (books_of log.groups) views) me v.books
         (books-at log.groups views me v may.rests.idle at)
         (held_as account (word_of from)) (word_of to) (subst (λ c. account < c) (sym same) below) free (ap balance_in is) (ap last_commit_in is)
         (held_back to.held to.balance to.mark to-fits.0 to-fits.1 ∙ may.taken)
@@ -150,15 +150,15 @@ module _ (key : Start) (me : ℕ) (v : View) where
         (only_note-uncommitted v.books.placed may.begins.only_note) s.accounts);
   }
 
-  pub account-step : (accounts account : ℕ) → length key.accounts.rows ≡ accounts → account < accounts → (from to : AccountWord) → FitsWord from → FitsWord to → MayTake account from to v → (n : ℕ)
+  pub after_account-step : (accounts account : ℕ) → length key.accounts.rows ≡ accounts → account < accounts → (from to : AccountWord) → FitsWord from → FitsWord to → MayTake account from to v → (n : ℕ)
       → IsStep key me (Account account) n (either (eqb n (word_of from)) (word_of to) n) v (after_account account (word_of from) n v) none
-  account-step accounts account same below from to from-fits to-fits may n = dite (ℕ_discrete n (word_of from))
+  after_account-step accounts account same below from to from-fits to-fits may n = dite (ℕ_discrete n (word_of from))
       (λ is. subst (λ (b : Bool). IsStep key me (Account account) n (either b (word_of to) n) v
       (cond b (took_account account (word_of from) v) (saw_account account n v)) none) (sym (eq-eqb n (word_of from) is))
       (subst (λ k. IsStep key me (Account account) k (word_of to) v (took_account account (word_of from) v) none) (sym is)
-      (account-takes accounts account same below from to from-fits to-fits may)))
+      (took_account-step accounts account same below from to from-fits to-fits may)))
       (λ differ. subst (λ (b : Bool). IsStep key me (Account account) n (either b (word_of to) n) v
-      (cond b (took_account account (word_of from) v) (saw_account account n v)) none) (sym (ne_eqb n (word_of from) differ)) (account-looks account n))
+      (cond b (took_account account (word_of from) v) (saw_account account n v)) none) (sym (ne_eqb n (word_of from) differ)) (saw_account-step account n))
 
   -- the tail as the seat saw it is at or below the end of the list
   sees-front : (words : Words) (views : List View) (log : Log) → IsSound key words views log → get_elem? views me ≡ some v
@@ -173,19 +173,19 @@ module _ (key : Start) (me : ℕ) (v : View) where
         books-change key words (put words.account account (word_of word)) views me v log (counted v.seen) (giving (given_as account v) v.books) s at
         may.rests.idle
         (sees-same key.start words.tail words.exposed words.durable log v.seen _ (s.seen me v at) refl refl refl refl) (s.read_stop me v at)
-        (steps-on log.groups v.seen _ refl refl refl refl refl refl refl)
+        (one_step_more-keeps_seen log.groups v.seen _ refl refl refl refl refl refl refl)
         ((λ off. absurd (true≢false (sym (ap is_active may.rests.active) ∙ off))), (λ off. absurd (true≢false (sym (ap may_own may.rests.active) ∙ off))))
-        (gives (base_of key) words.account (history_in key log.parts) (map (books_of log.groups) views) me v.books
+        (give_back-keeps_accounts (base_of key) words.account (history_in key log.parts) (map (books_of log.groups) views) me v.books
         (books-at log.groups views me v may.rests.idle at) s.accounts.holder
         (given_as account v) record { balance = refl; committed = refl; tail = sees-front words views log s at }
         (word_of word) (held_back word.held word.balance word.mark word-fits.0 word-fits.1 ∙ may.free) may.gives s.accounts);
   }
 
 -- what holds whatever the answer is
-pub on_ok : {A : Type 0} {E : Type 0} (answer : Result A E) (P : Type 0) → P → OnOk answer P
-on_ok (Ok x) P holds = holds
-on_ok (Err e) P holds = tt
+pub on_ok-if_holds : {A : Type 0} {E : Type 0} (answer : Result A E) (P : Type 0) → P → OnOk answer P
+on_ok-if_holds (Ok x) P holds = holds
+on_ok-if_holds (Err e) P holds = tt
 
-pub if_err : {A : Type 0} {E : Type 0} (answer : Result A E) (P : E → Type 0) → ((e : E) → P e) → IfErr answer P
-if_err (Ok x) P holds = tt
-if_err (Err e) P holds = holds e
+pub if_err-if_all_hold : {A : Type 0} {E : Type 0} (answer : Result A E) (P : E → Type 0) → ((e : E) → P e) → IfErr answer P
+if_err-if_all_hold (Ok x) P holds = tt
+if_err-if_all_hold (Err e) P holds = holds e

@@ -18,11 +18,11 @@ use Rattle.atomic_table.proofs.Lists.{at_map}
 use Rattle.std.proofs.lemmas.List.{map-set}
 use Rattle.log_rule.proofs.Bookings.{map-set_same}
 
-pub accounts-stay : (key : Start) (words : ℕ → ℕ) (parts : List Part) (groups : ℕ → Group) (views : List View) (me : ℕ) (v new : View)
+pub same_books-keeps_accounts : (key : Start) (words : ℕ → ℕ) (parts : List Part) (groups : ℕ → Group) (views : List View) (me : ℕ) (v new : View)
     → get_elem? views me ≡ some v → books_of groups new ≡ books_of groups v
     → KeepsAccounts (base_of key) words (history_in key parts) (map (books_of groups) views)
     → KeepsAccounts (base_of key) words (history_in key parts) (map (books_of groups) (set views me new))
-accounts-stay key words parts groups views me v new at same =
+same_books-keeps_accounts key words parts groups views me v new at same =
     subst (KeepsAccounts (base_of key) words (history_in key parts)) (sym (map-set_same (books_of groups) views me v new at same))
 
 -- a seat that has nothing under way has its own books
@@ -34,10 +34,10 @@ module _ (groups : ℕ → Group) (views : List View) (me : ℕ) (v : View) (idl
   books-set = map-set (books_of groups) views me v ∙ ap (λ call. set (map (books_of groups) views) me (books_in groups call v.books)) idle
 
 -- the records of parts of which one changes, but not its record
-pub records-mid : (before behind : List Part) (old new : Part) → new.entry.rec ≡ old.entry.rec
+pub records-mid_replaced : (before behind : List Part) (old new : Part) → new.entry.rec ≡ old.entry.rec
     → records_in (before ++ new ∷ behind) ≡ records_in (before ++ old ∷ behind)
-records-mid [] behind old new same = ap (λ rec. rec ∷ records_in behind) same
-records-mid (part ∷ before) behind old new same = ap (λ records. part.entry.rec ∷ records) (records-mid before behind old new same)
+records-mid_replaced [] behind old new same = ap (λ rec. rec ∷ records_in behind) same
+records-mid_replaced (part ∷ before) behind old new same = ap (λ records. part.entry.rec ∷ records) (records-mid_replaced before behind old new same)
 
 pub records-push : (parts : List Part) (part : Part) → records_in (parts ++ part ∷ []) ≡ records_in parts ++ part.entry.rec ∷ []
 records-push [] part = refl

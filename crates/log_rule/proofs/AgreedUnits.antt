@@ -11,8 +11,8 @@ use Rattle.log_rule.specs.declared.view.Entry.{Entry}
 use Rattle.log_rule.specs.Log.{Part, Laid, IsFull, AgreesFrom, parts_of, units_in, SpellsRecord, IsSpelled}
 use Rattle.log_record.specs.Spelling.{spelling}
 use Rattle.log_rule.specs.Sends.{AreEntries}
-use Rattle.log_rule.proofs.Boundaries.{part_size, boundary-start, boundary-least}
-use Rattle.log_rule.proofs.Lists.{all-weaker}
+use Rattle.log_rule.proofs.Boundaries.{part_size, boundary-start, boundary-start_le}
+use Rattle.log_rule.proofs.Lists.{all-weaken}
 
 -- the units sent and those read behind them are one list
 pub agrees-append : (start : ℕ) (sent read : List ℕ) (p : Part) → AgreesFrom start sent p → AgreesFrom (start + length sent) read p
@@ -43,9 +43,9 @@ agrees-push base units unit p old last i lt lo hi =
     none at e = omega arith
 
 -- the first part's units are the first of the list
-pub first-units : (base : ℕ) (units : List ℕ) (p : Part) → AgreesFrom base units p → IsFull p.entry → p.entry.start ≡ base
+pub agrees-first_entry_units : (base : ℕ) (units : List ℕ) (p : Part) → AgreesFrom base units p → IsFull p.entry → p.entry.start ≡ base
     → p.entry.size ≤ length units → take p.entry.size units ≡ p.entry.units
-first-units base units p agrees full here fits =
+agrees-first_entry_units base units p agrees full here fits =
     ext_get_or 0 (take p.entry.size units) p.entry.units (length-take-le p.entry.size units fits ∙ sym full)
     (λ i lt. let below : i < p.entry.size = subst (λ (n : ℕ). i < n) (length-take-le p.entry.size units fits) lt in
     get_or-take p.entry.size units i 0 below
@@ -55,8 +55,8 @@ first-units base units p agrees full here fits =
     at-here i = omega (arith, here)
 
 -- the others agree with what is left of it
-pub rest-agrees : (base n : ℕ) (units : List ℕ) (q : Part) → n ≤ length units → AgreesFrom base units q → AgreesFrom (base + n) (drop n units) q
-rest-agrees base n units q fits agrees i lt lo hi =
+pub agrees-drop : (base n : ℕ) (units : List ℕ) (q : Part) → n ≤ length units → AgreesFrom base units q → AgreesFrom (base + n) (drop n units) q
+agrees-drop base n units q fits agrees i lt lo hi =
     get_or-drop n units (q.entry.start + i - (base + n)) 0
     ∙ (ap (λ k. get_or units k 0) (there (q.entry.start + i) lo)
     ∙ agrees i lt (omega (arith, lo)) (omega (arith, subst (λ (k : ℕ). q.entry.start + i < base + n + k) (length-drop n units) hi, fits)))
@@ -65,19 +65,19 @@ rest-agrees base n units q fits agrees i lt lo hi =
     there at le = omega arith
 
 -- a full part is its record whole
-pub whole-record : (part : Part) → SpellsRecord part → IsFull part.entry → IsSpelled part.entry
-whole-record part spells full = by_rest spells.rest spells.units (full ∙ spells.size)
+pub full_part-is_spelled : (part : Part) → SpellsRecord part → IsFull part.entry → IsSpelled part.entry
+full_part-is_spelled part spells full = by_rest spells.rest spells.units (full ∙ spells.size)
   where
     by_rest : (rest : List ℕ) → part.entry.units ++ rest ≡ spelling part.entry.rec → length part.entry.units ≡ length (spelling part.entry.rec) → IsSpelled part.entry
     by_rest [] is whole = record { spellable = spells.spellable; units = sym (append-nil part.entry.units) ∙ is }
     by_rest (unit ∷ rest) is whole = let count = length-append part.entry.units (unit ∷ rest) in let all = ap length is in absurd (omega arith)
 
 -- between two boundaries of full parts, the list is whole entries
-pub entries-from : (start to from until : ℕ) (parts : List Part) (units : List ℕ) → Laid start parts to → IsTilingBoundary part_size start parts from
+pub between_boundaries-are_entries : (start to from until : ℕ) (parts : List Part) (units : List ℕ) → Laid start parts to → IsTilingBoundary part_size start parts from
     → IsTilingBoundary part_size start parts until → from + length units ≡ until
     → AllByRecursion (λ (p : Part). p.entry.start < until → IsFull p.entry) parts → AllByRecursion SpellsRecord parts
     → AllByRecursion (AgreesFrom from units) parts → AreEntries from until units
-entries-from start to from until [] units laid a b size full spells agrees = record {
+between_boundaries-are_entries start to from until [] units laid a b size full spells agrees = record {
   entries = [];
   tiles = a ∙ sym b;
   some_units = tt;
@@ -85,15 +85,15 @@ entries-from start to from until [] units laid a b size full spells agrees = rec
   spelled = tt;
   units_are = sym (nil_from_length units (omega (arith, a, b, size)));
 }
-entries-from start to from until (p ∷ ps) units laid a b size full spells agrees = ⊎_elim
+between_boundaries-are_entries start to from until (p ∷ ps) units laid a b size full spells agrees = ⊎_elim
     (λ (here : from ≡ start). ⊎_elim
     (λ (end : until ≡ start). none here end)
     (λ (later : IsTilingBoundary part_size (start + p.entry.size) ps until). some' here later
-    (λ from' us a' size' agrees'. entries-from (start + p.entry.size) to from' until ps us laid.2 a' later size' full.1 spells.1 agrees')) b)
+    (λ from' us a' size' agrees'. between_boundaries-are_entries (start + p.entry.size) to from' until ps us laid.2 a' later size' full.1 spells.1 agrees')) b)
     (λ (behind : IsTilingBoundary part_size (start + p.entry.size) ps from). ⊎_elim
-    (λ (end : until ≡ start). absurd (omega (arith, end, size, laid.1, boundary-least part_size (start + p.entry.size) from ps behind)))
+    (λ (end : until ≡ start). absurd (omega (arith, end, size, laid.1, boundary-start_le part_size (start + p.entry.size) from ps behind)))
     (λ (later : IsTilingBoundary part_size (start + p.entry.size) ps until).
-    entries-from (start + p.entry.size) to from until ps units laid.2 behind later size full.1 spells.1 agrees.1) b) a
+    between_boundaries-are_entries (start + p.entry.size) to from until ps units laid.2 behind later size full.1 spells.1 agrees.1) b) a
   where
     none : from ≡ start → until ≡ start → AreEntries from until units
     none here end = record {
@@ -110,20 +110,20 @@ entries-from start to from until (p ∷ ps) units laid a b size full spells agre
         → AllByRecursion (AgreesFrom from' us) ps → AreEntries from' until us)
         → AreEntries from until units
     some' here later go =
-        let end = boundary-least part_size (start + p.entry.size) until ps later in
+        let end = boundary-start_le part_size (start + p.entry.size) until ps later in
         let is : IsFull p.entry = full.0 (omega (arith, laid.0, laid.1, end)) in
         let fits : p.entry.size ≤ length units = omega (arith, here, end, size) in
         let rest = go (from + p.entry.size) (drop p.entry.size units)
         (subst (λ n. IsTilingBoundary part_size (start + p.entry.size) ps (n + p.entry.size)) (sym here)
         (boundary-start part_size (start + p.entry.size) ps)) (omega (arith, length-drop p.entry.size units, fits, size))
-        (all-weaker (AgreesFrom from units) (AgreesFrom (from + p.entry.size) (drop p.entry.size units)) ps
-        (λ q. rest-agrees from p.entry.size units q fits) agrees.1) in record {
+        (all-weaken (AgreesFrom from units) (AgreesFrom (from + p.entry.size) (drop p.entry.size units)) ps
+        (λ q. agrees-drop from p.entry.size units q fits) agrees.1) in record {
           entries = p.entry ∷ rest.entries;
           tiles = (laid.0 ∙ sym here, rest.tiles);
           some_units = (laid.1, rest.some_units);
           full = (is, rest.full);
-          spelled = (whole-record p spells.0 is, rest.spelled);
-          units_are = (λ i. sym (first-units from units p agrees.0 is (laid.0 ∙ sym here) fits) i ++ rest.units_are i)
+          spelled = (full_part-is_spelled p spells.0 is, rest.spelled);
+          units_are = (λ i. sym (agrees-first_entry_units from units p agrees.0 is (laid.0 ∙ sym here) fits) i ++ rest.units_are i)
               ∙ take-append-drop p.entry.size units;
         }
 
@@ -147,13 +147,13 @@ pub record IsFront (units whole : List ℕ) : Type 0 where
   pub ahead : List ℕ
   pub is : whole ≡ units ++ ahead
 
-pub front : (start to : ℕ) (parts : List Part) (units : List ℕ) → Laid start parts to → AllByRecursion (λ (p : Part). IsFull p.entry) parts
+pub agrees-front_of_joined : (start to : ℕ) (parts : List Part) (units : List ℕ) → Laid start parts to → AllByRecursion (λ (p : Part). IsFull p.entry) parts
     → AllByRecursion (AgreesFrom start units) parts → start + length units ≤ to → IsFront units (joined parts)
-front start to [] units laid full agrees fits =
+agrees-front_of_joined start to [] units laid full agrees fits =
     record { ahead = []; is = sym (ap (λ l. l ++ []) (nil_from_length units (omega (arith, laid, fits)))) }
-front start to (p ∷ ps) units laid full agrees fits = elim (dec_le p.entry.size (length units)) [
+agrees-front_of_joined start to (p ∷ ps) units laid full agrees fits = elim (dec_le p.entry.size (length units)) [
   | yes le ↦ longer le
-      (λ us agrees' fits'. front (start + p.entry.size) to ps us laid.2 full.1 agrees' fits')
+      (λ us agrees' fits'. agrees-front_of_joined (start + p.entry.size) to ps us laid.2 full.1 agrees' fits')
   | no gt ↦ within (omega arith)
 ]
   where
@@ -162,10 +162,10 @@ front start to (p ∷ ps) units laid full agrees fits = elim (dec_le p.entry.siz
         → IsFront units (p.entry.units ++ joined ps)
     longer le go =
         let rest = go (drop p.entry.size units)
-        (all-weaker (AgreesFrom start units) (AgreesFrom (start + p.entry.size) (drop p.entry.size units)) ps
-        (λ q. rest-agrees start p.entry.size units q le) agrees.1) (omega (arith, length-drop p.entry.size units, le, fits)) in record {
+        (all-weaken (AgreesFrom start units) (AgreesFrom (start + p.entry.size) (drop p.entry.size units)) ps
+        (λ q. agrees-drop start p.entry.size units q le) agrees.1) (omega (arith, length-drop p.entry.size units, le, fits)) in record {
           ahead = rest.ahead;
-          is = (λ i. sym (first-units start units p agrees.0 full.0 laid.0 le) i ++ rest.is i)
+          is = (λ i. sym (agrees-first_entry_units start units p agrees.0 full.0 laid.0 le) i ++ rest.is i)
               ∙ (sym (append_assoc (take p.entry.size units) (drop p.entry.size units) rest.ahead)
               ∙ ap (λ l. l ++ rest.ahead) (take-append-drop p.entry.size units));
         }
@@ -188,7 +188,7 @@ front start to (p ∷ ps) units laid full agrees fits = elim (dec_le p.entry.siz
         at-here : (i : ℕ) → p.entry.start + i - start ≡ i
         at-here i = omega (arith, laid.0)
 
--- a front as long as the whole is the whole
-pub front-whole : (units whole : List ℕ) → IsFront units whole → length units ≡ length whole → whole ≡ units
-front-whole units whole f same = f.is ∙ (ap (λ l. units ++ l) (nil_from_length f.ahead
+-- a agrees-front_of_joined as long as the whole is the whole
+pub front-equal_if_as_long : (units whole : List ℕ) → IsFront units whole → length units ≡ length whole → whole ≡ units
+front-equal_if_as_long units whole f same = f.is ∙ (ap (λ l. units ++ l) (nil_from_length f.ahead
     (let e : length whole ≡ length (units ++ f.ahead) = ap length f.is in omega (arith, e, length-append units f.ahead, same))) ∙ append-nil units)

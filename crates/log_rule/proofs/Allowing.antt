@@ -24,45 +24,45 @@ use Rattle.log_rule.specs.MarkViews.{marked, saw_mark, after_raise}
 use Rattle.log_rule.specs.AccountViews.{took_job, saw_account, after_account, gave_account}
 use Rattle.log_rule.specs.CrewViews.{enrolled, retired}
 use Rattle.log_rule.specs.Words.{with_word}
-use Rattle.log_rule.proofs.Crewing.{enroll-adds, leave-subtracts}
-use Rattle.log_rule.proofs.Exposing.{exposed-looks, look-step, mark-tells}
+use Rattle.log_rule.proofs.Crewing.{enroll-step_modulo, leave-step_modulo}
+use Rattle.log_rule.proofs.Exposing.{saw_exposed-step, look-step, mark-tells_le_last}
 use Rattle.log_rule.proofs.LeaderPlacing.{place-exchange}
 use Rattle.log_rule.proofs.PieceFilling.{fill-step}
 use Rattle.log_rule.proofs.Lifting.{allowed-if_step, allowed-if_told}
-use Rattle.log_rule.proofs.Loads.{tail-looks, durable-looks, stop-looks, stop-keeps, tail-tells, exposed-tells, durable-tells}
+use Rattle.log_rule.proofs.Loads.{saw_tail-step, saw_durable-step, saw_stop-step, stop-tells_unchanged, tail-tells_at_least_seen, exposed-tells_at_least_seen, durable-tells_at_least_seen}
 use Rattle.log_rule.proofs.Flushing.{send-step}
-use Rattle.log_rule.proofs.Reading.{read-step, read-tells}
+use Rattle.log_rule.proofs.Reading.{read-step, read-tells_whole_entries}
 use Rattle.log_rule.proofs.GroupMarking.{mark-step}
-use Rattle.log_rule.proofs.Raising.{raise-step, raise-tells}
-use Rattle.log_rule.proofs.Stopping.{stop-stays, stop-tells, stop-step, crew-looks}
-use Rattle.log_rule.proofs.Reserving.{reserve-exchange}
+use Rattle.log_rule.proofs.Raising.{raise-step, raise-tells_bounds}
+use Rattle.log_rule.proofs.Stopping.{stop_unchanged-step, stop-tells_read_stop, stop-step, saw_crew-step}
+use Rattle.log_rule.proofs.Reserving.{reserve_exchange-step}
 use Rattle.log_rule.proofs.WordPlaces.{Fits, shared_tail, shared_exposed, shared_durable, shared_stop, shared_crew, in_ring, in_marks, of_account}
-use Rattle.log_rule.proofs.ViewChanges.{at_below}
-use Rattle.log_rule.proofs.AccountSteps.{FitsWord, job-step, account-looks, account-tells, account-step, give-step}
+use Rattle.log_rule.proofs.ViewChanges.{get_elem-below_length}
+use Rattle.log_rule.proofs.AccountSteps.{FitsWord, job-step, saw_account-step, account-tells_own_word, after_account-step, give-step}
 
 module _ (key : Start) (slots seat : ℕ) (me : Me (Unit {0}) View) where
   pub load_tail-allowed : Allows (Ruled key) slots seat me TAIL (λ n. n)
       (λ n new. (new ≡ (saw_tail n me.0, me.1)) × ((me.0.seen.tail ≤ n) × (n ≤ LAST)))
   load_tail-allowed = allowed-if_step key slots seat me Tail shared_tail (λ n. n) (λ n. saw_tail n me.0) (λ _. none)
-      (λ n. (me.0.seen.tail ≤ n) × (n ≤ LAST)) (tail-tells key seat me.0) (λ n _. tail-looks key seat me.0 n)
+      (λ n. (me.0.seen.tail ≤ n) × (n ≤ LAST)) (tail-tells_at_least_seen key seat me.0) (λ n _. saw_tail-step key seat me.0 n)
 
   pub load_exposed-allowed : Allows (Ruled key) slots seat me EXPOSED (λ n. n)
       (λ n new. (new ≡ (saw_exposed n me.0, me.1)) × ((me.0.seen.exposed ≤ n) × (n ≤ LAST) × IsExposedToFlusher me.0 n))
   load_exposed-allowed =
       allowed-if_step key slots seat me Exposed shared_exposed (λ n. n) (λ n. saw_exposed n me.0) (λ _. look_event seat me.0.call)
-      (λ n. (me.0.seen.exposed ≤ n) × (n ≤ LAST) × IsExposedToFlusher me.0 n) (exposed-tells key seat me.0) (λ n _. exposed-looks key seat me.0 n)
+      (λ n. (me.0.seen.exposed ≤ n) × (n ≤ LAST) × IsExposedToFlusher me.0 n) (exposed-tells_at_least_seen key seat me.0) (λ n _. saw_exposed-step key seat me.0 n)
 
   pub load_durable-allowed : Allows (Ruled key) slots seat me DURABLE (λ n. n)
       (λ n new. (new ≡ (saw_durable n me.0, me.1)) × ((me.0.seen.durable ≤ n) × (n ≤ LAST) × IsDurableToFlusher me.0 n))
   load_durable-allowed =
       allowed-if_step key slots seat me Durable shared_durable (λ n. n) (λ n. saw_durable n me.0) (λ _. none)
-      (λ n. (me.0.seen.durable ≤ n) × (n ≤ LAST) × IsDurableToFlusher me.0 n) (durable-tells key seat me.0) (λ n _. durable-looks key seat me.0 n)
+      (λ n. (me.0.seen.durable ≤ n) × (n ≤ LAST) × IsDurableToFlusher me.0 n) (durable-tells_at_least_seen key seat me.0) (λ n _. saw_durable-step key seat me.0 n)
 
   pub exchange_tail-allowed : (from to : ℕ) → MayExchangeTail from to me.0
       → Allows (Ruled key) slots seat me TAIL (λ n. either (eqb n from) to n)
       (λ n new. (new ≡ (after_exchange from to n me.0, me.1)) × ((me.0.seen.tail ≤ n) × (n ≤ LAST)))
   exchange_tail-allowed from to may = ⊎_elim
-      (λ (alone : MayReserve from to me.0). by (λ n. cond (n == from) (reserves seat (to - from)) none) (reserve-exchange key seat me.0 from to alone))
+      (λ (alone : MayReserve from to me.0). by (λ n. cond (n == from) (reserves seat (to - from)) none) (reserve_exchange-step key seat me.0 from to alone))
       (λ (group : MayPlaceGroup from to me.0).
       by (λ n. cond (n == from) (places seat from me.0.seen.durable) none) (place-exchange key seat me.0 from to group)) may
     where
@@ -70,18 +70,18 @@ module _ (key : Start) (slots seat : ℕ) (me : Me (Unit {0}) View) where
           → Allows (Ruled key) slots seat me TAIL (λ n. either (eqb n from) to n)
           (λ n new. (new ≡ (after_exchange from to n me.0, me.1)) × ((me.0.seen.tail ≤ n) × (n ≤ LAST)))
       by event step = allowed-if_step key slots seat me Tail shared_tail (λ n. either (eqb n from) to n) (λ n. after_exchange from to n me.0)
-          event (λ n. (me.0.seen.tail ≤ n) × (n ≤ LAST)) (tail-tells key seat me.0) (λ n _. step n)
+          event (λ n. (me.0.seen.tail ≤ n) × (n ≤ LAST)) (tail-tells_at_least_seen key seat me.0) (λ n _. step n)
 
   pub enroll-allowed : me.0.standing.role ≡ Fresh
       → Allows (Ruled key) slots seat me CREW (λ n. (n + 1) % 2 ^ 64) (λ n new. (new ≡ (enrolled me.0, me.1)) × Unit {0})
   enroll-allowed fresh =
       allowed-if_step key slots seat me Crew shared_crew (λ n. (n + 1) % 2 ^ 64) (λ _. enrolled me.0) (λ _. none) (λ _. Unit {0})
-      (λ _ _ _ _ _. tt) (λ n _. enroll-adds key seat me.0 fresh n)
+      (λ _ _ _ _ _. tt) (λ n _. enroll-step_modulo key seat me.0 fresh n)
 
   pub leave-allowed : MayLeave me.0
       → Allows (Ruled key) slots seat me CREW (λ n. (n + (2 ^ 64 - 1)) % 2 ^ 64) (λ n new. (new ≡ (retired me.0, me.1)) × Unit {0})
   leave-allowed may = allowed-if_step key slots seat me Crew shared_crew (λ n. (n + (2 ^ 64 - 1)) % 2 ^ 64) (λ _. retired me.0) (λ _. none)
-      (λ _. Unit {0}) (λ _ _ _ _ _. tt) (λ n _. leave-subtracts key seat me.0 may n)
+      (λ _. Unit {0}) (λ _ _ _ _ _. tt) (λ n _. leave-step_modulo key seat me.0 may n)
 
   pub store_ring-allowed : (at ring number unit : ℕ) → key.ring ≡ ring → key.slots ≡ number → at % ring < ring → MayFill number at unit me.0
       → Allows (Ruled key) slots seat me (RING + at % ring) (λ _. unit) (λ _ new. (new ≡ (filled unit me.0, me.1)) × Unit {0})
@@ -94,7 +94,7 @@ module _ (key : Start) (slots seat : ℕ) (me : Me (Unit {0}) View) where
       (λ n new. (new ≡ (after_raise (cond (n == from) to n) me.0, me.1)) × ((from ≤ n) × (me.0.seen.exposed ≤ n) × (n ≤ LAST)))
   exchange_exposed-allowed from to may =
       allowed-if_step key slots seat me Exposed shared_exposed (λ n. either (eqb n from) to n) (λ n. after_raise (cond (n == from) to n) me.0)
-      (λ _. raises seat) (λ n. (from ≤ n) × (me.0.seen.exposed ≤ n) × (n ≤ LAST)) (raise-tells key seat me.0 from to may)
+      (λ _. raises seat) (λ n. (from ≤ n) × (me.0.seen.exposed ≤ n) × (n ≤ LAST)) (raise-tells_bounds key seat me.0 from to may)
       (λ n _. raise-step key seat me.0 from to may n)
 
   module _ (place ring base : ℕ) (at : place ≡ RING + ring + base % ring) (same : key.ring ≡ ring) (below : base % ring < ring) where
@@ -115,13 +115,13 @@ module _ (key : Start) (slots seat : ℕ) (me : Me (Unit {0}) View) where
         → Allows (Ruled key) slots seat me place (λ n. n) (λ n new. (new ≡ (saw_mark n me.0, me.1)) × (n ≤ LAST))
     load_mark-allowed may = at-mark (λ n. n) (λ n new. (new ≡ (saw_mark n me.0, me.1)) × (n ≤ LAST))
         (allowed-if_step key slots seat me (Mark (base % ring)) fits-mark (λ n. n) (λ n. saw_mark n me.0) (λ _. looks_mark seat) (λ n. n ≤ LAST)
-        (mark-tells key seat me.0 base ring same may) (λ n _. look-step key seat me.0 base ring same may n))
+        (mark-tells_le_last key seat me.0 base ring same may) (λ n _. look-step key seat me.0 base ring same may n))
 
   pub load_ring-allowed : (at ring : ℕ) → key.ring ≡ ring → at % ring < ring → MayRead at me.0
       → Allows (Ruled key) slots seat me (RING + at % ring) (λ n. n) (λ n new. (new ≡ (has_read n me.0, me.1)) × ReadsWholeEntries (has_read n me.0))
   load_ring-allowed at ring same below may =
       allowed-if_step key slots seat me (Ring (at % ring)) (in_ring (at % ring) (subst (λ r. at % ring < r) (sym same) below)) (λ n. n)
-      (λ n. has_read n me.0) (λ _. none) (λ n. ReadsWholeEntries (has_read n me.0)) (read-tells key seat me.0 at ring same may)
+      (λ n. has_read n me.0) (λ _. none) (λ n. ReadsWholeEntries (has_read n me.0)) (read-tells_whole_entries key seat me.0 at ring same may)
       (λ n _. read-step key seat me.0 at ring same may n)
 
   pub store_durable-allowed : (to : ℕ) → MaySend to me.0 → HasAccounts key
@@ -134,7 +134,7 @@ module _ (key : Start) (slots seat : ℕ) (me : Me (Unit {0}) View) where
         views = set views seat (has_sent to me.0);
         log = led.after;
         rule = led.sound;
-        own = set_here views seat (has_sent to me.0) (at_below views seat me.0 here);
+        own = set_here views seat (has_sent to me.0) (get_elem-below_length views seat me.0 here);
       })
       (λ n _. send-step key seat me.0 to may n)
 
@@ -147,20 +147,20 @@ module _ (key : Start) (slots seat : ℕ) (me : Me (Unit {0}) View) where
   pub tell_stop-allowed : Allows (Ruled key) slots seat me STOP (λ n. n)
       (λ n new. (new ≡ (me.0, me.1)) × (me.0.standing.role ≡ Flusher → HasReadStop me.0.sending.stop me.0))
   tell_stop-allowed = allowed-if_step key slots seat me Stop shared_stop (λ n. n) (λ _. me.0) (λ _. none)
-      (λ _. me.0.standing.role ≡ Flusher → HasReadStop me.0.sending.stop me.0) (stop-tells key seat me.0) (λ n _. stop-stays key seat me.0 n)
+      (λ _. me.0.standing.role ≡ Flusher → HasReadStop me.0.sending.stop me.0) (stop-tells_read_stop key seat me.0) (λ n _. stop_unchanged-step key seat me.0 n)
 
   pub look-allowed : HasAccounts key → Allows (Ruled key) slots seat me STOP (λ n. n) (λ n new. (new ≡ (me.0, me.1)) × HoldsAtOnce key seat me.0)
   look-allowed accounts = allowed-if_told key slots seat me Stop shared_stop (λ n. n) (λ _. me.0) (λ _. none) (λ _. HoldsAtOnce key seat me.0)
       (λ words views log s here n is led. record { accounts = accounts; words = words; views = views; log = log; rule = s; own = here })
-      (λ n _. stop-stays key seat me.0 n)
+      (λ n _. stop_unchanged-step key seat me.0 n)
 
   pub load_stop-allowed : Allows (Ruled key) slots seat me STOP (λ n. n) (λ n new. (new ≡ (saw_stop n me.0, me.1)) × (me.0.seen.stop ≢ 0 → n ≡ me.0.seen.stop))
   load_stop-allowed = allowed-if_step key slots seat me Stop shared_stop (λ n. n) (λ n. saw_stop n me.0) (λ _. none)
-      (λ n. me.0.seen.stop ≢ 0 → n ≡ me.0.seen.stop) (stop-keeps key seat me.0) (λ n _. stop-looks key seat me.0 n)
+      (λ n. me.0.seen.stop ≢ 0 → n ≡ me.0.seen.stop) (stop-tells_unchanged key seat me.0) (λ n _. saw_stop-step key seat me.0 n)
 
   pub load_crew-allowed : Allows (Ruled key) slots seat me CREW (λ n. n) (λ n new. (new ≡ (saw_crew n me.0, me.1)) × Unit {0})
   load_crew-allowed = allowed-if_step key slots seat me Crew shared_crew (λ n. n) (λ n. saw_crew n me.0) (λ _. none) (λ _. Unit {0})
-      (λ _ _ _ _ _. tt) (λ n _. crew-looks key seat me.0 n)
+      (λ _ _ _ _ _. tt) (λ n _. saw_crew-step key seat me.0 n)
 
   pub take_job-allowed : (accounts number picked : ℕ) (job picked_job : Job) → length key.accounts.rows ≡ accounts → picked ≡ number → picked_job ≡ job
       → MayTakeJob accounts number job me.0
@@ -169,7 +169,7 @@ module _ (key : Start) (slots seat : ℕ) (me : Me (Unit {0}) View) where
       subst (λ (p : ℕ × Job). Allows (Ruled key) slots seat me STOP (λ n. n) (λ n new. (new ≡ (took_job p.0 p.1 n me.0, me.1)) × (me.0.seen.stop ≢ 0 → n ≡ me.0.seen.stop)))
       (λ i. (sym is i, sym is_job i))
       (allowed-if_step key slots seat me Stop shared_stop (λ n. n) (λ n. took_job number job n me.0) (λ _. none)
-      (λ n. me.0.seen.stop ≢ 0 → n ≡ me.0.seen.stop) (stop-keeps key seat me.0) (λ n _. job-step key seat me.0 accounts number job same may n))
+      (λ n. me.0.seen.stop ≢ 0 → n ≡ me.0.seen.stop) (stop-tells_unchanged key seat me.0) (λ n _. job-step key seat me.0 accounts number job same may n))
 
   module _ (place ring number accounts account picked : ℕ) (at : place ≡ RING + ring + ring + STRIDE * (number + number + account)) (same : key.ring ≡ ring)
       (slotted : key.slots ≡ number)
@@ -190,8 +190,8 @@ module _ (key : Start) (slots seat : ℕ) (me : Me (Unit {0}) View) where
     pub load_account-allowed : Allows (Ruled key) slots seat me place (λ n. n) (λ n new. (new ≡ (saw_account picked n me.0, me.1)) × IsOwnWord picked n me.0.books)
     load_account-allowed = at-account (λ n. n) (λ p n new. (new ≡ (saw_account p n me.0, me.1)) × IsOwnWord p n me.0.books)
         (allowed-if_step key slots seat me (Account account) fits-account (λ n. n)
-        (λ n. saw_account account n me.0) (λ _. none) (λ n. IsOwnWord account n me.0.books) (account-tells key seat me.0 account)
-        (λ n _. account-looks key seat me.0 account n))
+        (λ n. saw_account account n me.0) (λ _. none) (λ n. IsOwnWord account n me.0.books) (account-tells_own_word key seat me.0 account)
+        (λ n _. saw_account-step key seat me.0 account n))
 
     pub exchange_account-allowed : (from to : AccountWord) (free held : ℕ) → free ≡ word_of from → held ≡ word_of to → FitsWord from → FitsWord to
         → MayTake account from to me.0
@@ -202,7 +202,7 @@ module _ (key : Start) (slots seat : ℕ) (me : Me (Unit {0}) View) where
         (at-account (λ n. either (eqb n (word_of from)) (word_of to) n) (λ p n new. (new ≡ (after_account p (word_of from) n me.0, me.1)) × IsOwnWord p n me.0.books)
         (allowed-if_step key slots seat me (Account account) fits-account
         (λ n. either (eqb n (word_of from)) (word_of to) n) (λ n. after_account account (word_of from) n me.0) (λ _. none)
-        (λ n. IsOwnWord account n me.0.books) (account-tells key seat me.0 account) (λ n _. account-step key seat me.0 accounts account counted below from to from-fits to-fits may n)))
+        (λ n. IsOwnWord account n me.0.books) (account-tells_own_word key seat me.0 account) (λ n _. after_account-step key seat me.0 accounts account counted below from to from-fits to-fits may n)))
 
     pub store_account-allowed : (word : AccountWord) (packed : ℕ) → packed ≡ word_of word → FitsWord word → MayGiveBack account word me.0
         → Allows (Ruled key) slots seat me place (λ _. packed) (λ _ new. (new ≡ (gave_account picked me.0, me.1)) × Unit {0})

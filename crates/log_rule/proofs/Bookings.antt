@@ -13,22 +13,22 @@ use Rattle.log_rule.specs.Books.{times_held, times_taken, balance_taken, last_co
 use Rattle.log_rule.specs.Accounts.{Everywhere, summed, HasDistinctJobs}
 
 module _ {A : Type 0} where
-  pub everywhere-moves : (P Q : A → Type 0) (list : List A) (me : ℕ) (new : A) → Everywhere P list → Q new
+  pub everywhere-set_weaken : (P Q : A → Type 0) (list : List A) (me : ℕ) (new : A) → Everywhere P list → Q new
       → ((j : ℕ) (x : A) → j ≢ me → get_elem? list j ≡ some x → P x → Q x) → Everywhere Q (set list me new)
-  everywhere-moves P Q list me new all mine others j x there = ⊎_elim
+  everywhere-set_weaken P Q list me new all mine others j x there = ⊎_elim
       (λ (t : (j ≡ me) × (new ≡ x)). subst Q t.1 mine)
       (λ (t : (j ≢ me) × (get_elem? list j ≡ some x)). others j x t.0 t.1 (all j x t.1))
       (at_set list me j new x there)
 
   pub everywhere-set : (P : A → Type 0) (list : List A) (me : ℕ) (new : A) → Everywhere P list → P new → Everywhere P (set list me new)
-  everywhere-set P list me new all mine = everywhere-moves P P list me new all mine (λ _ _ _ _ p. p)
+  everywhere-set P list me new all mine = everywhere-set_weaken P P list me new all mine (λ _ _ _ _ p. p)
 
   pub everywhere-push : (P : A → Type 0) (list : List A) (new : A) → Everywhere P list → P new → Everywhere P (list ++ new ∷ [])
   everywhere-push P list new all mine j x there = ⊎_elim (λ before. all j x before) (λ (same : new ≡ x). subst P same mine) (at_snoc list new x j there)
 
-  pub everywhere-one : (P : A → Type 0) (only : A) → P only → Everywhere P (only ∷ [])
-  everywhere-one P only mine zero x there = subst P (some-injective only x there) mine
-  everywhere-one P only mine (suc j) x there = absurd (some-ne-none x (sym there))
+  pub everywhere-singleton : (P : A → Type 0) (only : A) → P only → Everywhere P (only ∷ [])
+  everywhere-singleton P only mine zero x there = subst P (some-injective only x there) mine
+  everywhere-singleton P only mine (suc j) x there = absurd (some-ne-none x (sym there))
 
   pub summed-set : (amount : A → ℕ) (list : List A) (i : ℕ) (old new : A) → get_elem? list i ≡ some old
       → summed amount (set list i new) + amount old ≡ summed amount list + amount new
@@ -36,21 +36,21 @@ module _ {A : Type 0} where
   summed-set amount (x ∷ xs) zero old new there = let same : amount x ≡ amount old = ap amount (some-injective x old there) in omega arith
   summed-set amount (x ∷ xs) (suc i) old new there = omega (arith, summed-set amount xs i old new there)
 
-  pub summed-one : (amount : A → ℕ) (list : List A) (i : ℕ) (x : A) → get_elem? list i ≡ some x → amount x ≤ summed amount list
-  summed-one amount [] i x there = absurd (some-ne-none x (sym there))
-  summed-one amount (y ∷ ys) zero x there = let same : amount y ≡ amount x = ap amount (some-injective y x there) in omega arith
-  summed-one amount (y ∷ ys) (suc i) x there = omega (arith, summed-one amount ys i x there)
+  pub summed-member_le : (amount : A → ℕ) (list : List A) (i : ℕ) (x : A) → get_elem? list i ≡ some x → amount x ≤ summed amount list
+  summed-member_le amount [] i x there = absurd (some-ne-none x (sym there))
+  summed-member_le amount (y ∷ ys) zero x there = let same : amount y ≡ amount x = ap amount (some-injective y x there) in omega arith
+  summed-member_le amount (y ∷ ys) (suc i) x there = omega (arith, summed-member_le amount ys i x there)
 
   -- two of them
-  pub summed-two : (amount : A → ℕ) (list : List A) (i j : ℕ) (x y : A) → get_elem? list i ≡ some x → get_elem? list j ≡ some y → j ≢ i
+  pub summed-two_members_le : (amount : A → ℕ) (list : List A) (i j : ℕ) (x y : A) → get_elem? list i ≡ some x → get_elem? list j ≡ some y → j ≢ i
       → amount x + amount y ≤ summed amount list
-  summed-two amount [] i j x y here there differ = absurd (some-ne-none x (sym here))
-  summed-two amount (z ∷ zs) zero zero x y here there differ = absurd (differ refl)
-  summed-two amount (z ∷ zs) zero (suc j) x y here there differ =
-      let same : amount z ≡ amount x = ap amount (some-injective z x here) in omega (arith, summed-one amount zs j y there)
-  summed-two amount (z ∷ zs) (suc i) zero x y here there differ =
-      let same : amount z ≡ amount y = ap amount (some-injective z y there) in omega (arith, summed-one amount zs i x here)
-  summed-two amount (z ∷ zs) (suc i) (suc j) x y here there differ = omega (arith, summed-two amount zs i j x y here there (λ e. differ (ap suc e)))
+  summed-two_members_le amount [] i j x y here there differ = absurd (some-ne-none x (sym here))
+  summed-two_members_le amount (z ∷ zs) zero zero x y here there differ = absurd (differ refl)
+  summed-two_members_le amount (z ∷ zs) zero (suc j) x y here there differ =
+      let same : amount z ≡ amount x = ap amount (some-injective z x here) in omega (arith, summed-member_le amount zs j y there)
+  summed-two_members_le amount (z ∷ zs) (suc i) zero x y here there differ =
+      let same : amount z ≡ amount y = ap amount (some-injective z y there) in omega (arith, summed-member_le amount zs i x here)
+  summed-two_members_le amount (z ∷ zs) (suc i) (suc j) x y here there differ = omega (arith, summed-two_members_le amount zs i j x y here there (λ e. differ (ap suc e)))
 
   pub summed-push : (amount : A → ℕ) (list : List A) (x : A) → summed amount (list ++ x ∷ []) ≡ summed amount list + amount x
   summed-push amount [] x = omega arith
@@ -64,27 +64,27 @@ map-set_same tell (x ∷ xs) zero old new there same = let is : x ≡ old = some
 map-set_same tell (x ∷ xs) (suc me) old new there same = λ i. tell x ∷ map-set_same tell xs me old new there same i
 
 -- one or none
-pub one-if : (a b : ℕ) → a ≡ b → cond {A = ℕ} (a == b) 1 0 ≡ 1
-one-if a b same = ap (λ c. cond {A = ℕ} c 1 0) (eq-eqb a b same)
+pub cond-one_if_equal : (a b : ℕ) → a ≡ b → cond {A = ℕ} (a == b) 1 0 ≡ 1
+cond-one_if_equal a b same = ap (λ c. cond {A = ℕ} c 1 0) (eq-eqb a b same)
 
-pub none-if : (a b : ℕ) → a ≢ b → cond {A = ℕ} (a == b) 1 0 ≡ 0
-none-if a b differ = ap (λ c. cond {A = ℕ} c 1 0) (ne_eqb a b differ)
+pub cond-zero_if_unequal : (a b : ℕ) → a ≢ b → cond {A = ℕ} (a == b) 1 0 ≡ 0
+cond-zero_if_unequal a b differ = ap (λ c. cond {A = ℕ} c 1 0) (ne_eqb a b differ)
 
 -- each held account, which is then one that is held
-pub all-held : (P Q : Taken → Type 0) (list : List Taken) → AllByRecursion P list → ((held : Taken) → 1 ≤ times_held held.account list → P held → Q held)
+pub all-weaken_if_held : (P Q : Taken → Type 0) (list : List Taken) → AllByRecursion P list → ((held : Taken) → 1 ≤ times_held held.account list → P held → Q held)
     → AllByRecursion Q list
-all-held P Q [] all f = tt
-all-held P Q (x ∷ xs) all f = (
-  f x (let one = one-if x.account x.account refl in omega arith) all.0,
-  all-held P Q xs all.1 (λ held has. f held (omega arith)),
+all-weaken_if_held P Q [] all f = tt
+all-weaken_if_held P Q (x ∷ xs) all f = (
+  f x (let one = cond-one_if_equal x.account x.account refl in omega arith) all.0,
+  all-weaken_if_held P Q xs all.1 (λ held has. f held (omega arith)),
 )
 
-pub all-taken : (P Q : TakenJob → Type 0) (list : List TakenJob) → AllByRecursion P list
+pub all-weaken_if_taken : (P Q : TakenJob → Type 0) (list : List TakenJob) → AllByRecursion P list
     → ((taken : TakenJob) → 1 ≤ times_taken taken.number list → P taken → Q taken) → AllByRecursion Q list
-all-taken P Q [] all f = tt
-all-taken P Q (x ∷ xs) all f = (
-  f x (let one = one-if x.number x.number refl in omega arith) all.0,
-  all-taken P Q xs all.1 (λ taken has. f taken (omega arith)),
+all-weaken_if_taken P Q [] all f = tt
+all-weaken_if_taken P Q (x ∷ xs) all f = (
+  f x (let one = cond-one_if_equal x.number x.number refl in omega arith) all.0,
+  all-weaken_if_taken P Q xs all.1 (λ taken has. f taken (omega arith)),
 )
 
 -- a held account, its values as taken, and what is known of it
@@ -95,9 +95,9 @@ pub record Found (P : Taken → Type 0) (list : List Taken) (account : ℕ) : Ty
   pub balance : balance_taken list account ≡ held.balance
   pub last_commit : last_commit_taken list account ≡ held.last_commit
 
-pub found : (P : Taken → Type 0) (account : ℕ) (list : List Taken) → 1 ≤ times_held account list → AllByRecursion P list → Found P list account
-found P account [] has all = absurd (omega arith)
-found P account (x ∷ xs) has all = dite (ℕ_discrete x.account account)
+pub times_held-found : (P : Taken → Type 0) (account : ℕ) (list : List Taken) → 1 ≤ times_held account list → AllByRecursion P list → Found P list account
+times_held-found P account [] has all = absurd (omega arith)
+times_held-found P account (x ∷ xs) has all = dite (ℕ_discrete x.account account)
     (λ same. let here = eq-eqb x.account account same in record {
       held = x;
       is = same;
@@ -105,8 +105,8 @@ found P account (x ∷ xs) has all = dite (ℕ_discrete x.account account)
       balance = ap (λ b. cond b x.balance (balance_taken xs account)) here;
       last_commit = ap (λ b. cond b x.last_commit (last_commit_taken xs account)) here;
     })
-    (λ differ. let other = ne_eqb x.account account differ in let none = none-if x.account account differ in
-    let more = found P account xs (omega arith) all.1 in record {
+    (λ differ. let other = ne_eqb x.account account differ in let none = cond-zero_if_unequal x.account account differ in
+    let more = times_held-found P account xs (omega arith) all.1 in record {
       held = more.held;
       is = more.is;
       known = more.known;
@@ -117,7 +117,7 @@ found P account (x ∷ xs) has all = dite (ℕ_discrete x.account account)
 pub balance_taken-none : (account : ℕ) (list : List Taken) → times_held account list ≡ 0 → balance_taken list account ≡ 0
 balance_taken-none account [] none = refl
 balance_taken-none account (x ∷ xs) none = dite (ℕ_discrete x.account account)
-    (λ same. let one = one-if x.account account same in absurd (omega arith))
+    (λ same. let one = cond-one_if_equal x.account account same in absurd (omega arith))
     (λ differ. ap (λ b. cond b x.balance (balance_taken xs account)) (ne_eqb x.account account differ) ∙ balance_taken-none account xs (omega arith))
 
 -- a last_commit as taken, of whatever account, is one of them or 0
@@ -130,20 +130,20 @@ last_commit_taken-all P account (x ∷ xs) none all = by_test (x.account == acco
     by_test false more = more
 
 -- a job of one seat is no other's
-pub one-taker : (all : List Books) (i j : ℕ) (x y : Books) (n m : ℕ) → HasDistinctJobs all → get_elem? all i ≡ some x → get_elem? all j ≡ some y → j ≢ i
+pub distinct_jobs-numbers_differ : (all : List Books) (i j : ℕ) (x y : Books) (n m : ℕ) → HasDistinctJobs all → get_elem? all i ≡ some x → get_elem? all j ≡ some y → j ≢ i
     → 1 ≤ times_taken n x.jobs → 1 ≤ times_taken m y.jobs → n ≢ m
-one-taker all i j x y n m distinct here there differ mine theirs same =
-    let two = summed-two (λ (books : Books). times_taken n books.jobs) all i j x y here there differ in let one = distinct n in
+distinct_jobs-numbers_differ all i j x y n m distinct here there differ mine theirs same =
+    let two = summed-two_members_le (λ (books : Books). times_taken n books.jobs) all i j x y here there differ in let one = distinct n in
     let again : 1 ≤ times_taken n y.jobs = subst (λ z. 1 ≤ times_taken z y.jobs) (sym same) theirs in omega arith
 
 -- a list of held accounts without one of them
 pub times_held-without : (account : ℕ) (list : List Taken) → 1 ≤ times_held account list → times_held account (without account list) + 1 ≡ times_held account list
 times_held-without account [] has = absurd (omega arith)
 times_held-without account (x ∷ xs) has = dite (ℕ_discrete x.account account)
-    (λ same. let one = one-if x.account account same in
+    (λ same. let one = cond-one_if_equal x.account account same in
     let gone : times_held account (without account (x ∷ xs)) ≡ times_held account xs =
     ap (λ b. times_held account (cond b xs (x ∷ without account xs))) (eq-eqb x.account account same) in omega arith)
-    (λ differ. let none = none-if x.account account differ in
+    (λ differ. let none = cond-zero_if_unequal x.account account differ in
     let kept : times_held account (without account (x ∷ xs)) ≡ cond {A = ℕ} (x.account == account) 1 0 + times_held account (without account xs) =
     ap (λ b. times_held account (cond b xs (x ∷ without account xs))) (ne_eqb x.account account differ) in
     let more = times_held-without account xs (omega arith) in omega arith)
@@ -151,7 +151,7 @@ times_held-without account (x ∷ xs) has = dite (ℕ_discrete x.account account
 pub times_held-without_other : (account other : ℕ) (list : List Taken) → other ≢ account → times_held other (without account list) ≡ times_held other list
 times_held-without_other account other [] differ = refl
 times_held-without_other account other (x ∷ xs) differ = dite (ℕ_discrete x.account account)
-    (λ same. let none = none-if x.account other (λ e. differ (sym e ∙ same)) in
+    (λ same. let none = cond-zero_if_unequal x.account other (λ e. differ (sym e ∙ same)) in
     let gone : times_held other (without account (x ∷ xs)) ≡ times_held other xs =
     ap (λ b. times_held other (cond b xs (x ∷ without account xs))) (eq-eqb x.account account same) in omega arith)
     (λ apart. ap (λ b. times_held other (cond b xs (x ∷ without account xs))) (ne_eqb x.account account apart)
@@ -177,7 +177,7 @@ pub length-without : (account : ℕ) (list : List Taken) → 1 ≤ times_held ac
 length-without account [] has = absurd (omega arith)
 length-without account (x ∷ xs) has = dite (ℕ_discrete x.account account)
     (λ same. let gone = ap (λ b. length (cond b xs (x ∷ without account xs))) (eq-eqb x.account account same) in omega arith)
-    (λ apart. let none = none-if x.account account apart in let more = length-without account xs (omega arith) in
+    (λ apart. let none = cond-zero_if_unequal x.account account apart in let more = length-without account xs (omega arith) in
     let kept = ap (λ b. length (cond b xs (x ∷ without account xs))) (ne_eqb x.account account apart) in omega arith)
 
 pub all-without : (P : Taken → Type 0) (account : ℕ) (list : List Taken) → AllByRecursion P list → AllByRecursion P (without account list)

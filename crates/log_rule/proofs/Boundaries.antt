@@ -20,24 +20,24 @@ module _ {A : Type 0} (size : A → ℕ) where
   boundary-append start at [] ys b = subst (IsTilingBoundary size start ys) (sym b) (boundary-start start ys)
   boundary-append start at (x ∷ xs) ys b = ⊎_elim (λ here. inl here) (λ later. inr (boundary-append (start + size x) at xs ys later)) b
 
-  pub boundary-least : (start at : ℕ) (xs : List A) → IsTilingBoundary size start xs at → start ≤ at
-  boundary-least start at [] b = omega (arith, b)
-  boundary-least start at (x ∷ xs) b =
-      ⊎_elim (λ (here : at ≡ start). omega (arith, here)) (λ later. omega (arith, boundary-least (start + size x) at xs later)) b
+  pub boundary-start_le : (start at : ℕ) (xs : List A) → IsTilingBoundary size start xs at → start ≤ at
+  boundary-start_le start at [] b = omega (arith, b)
+  boundary-start_le start at (x ∷ xs) b =
+      ⊎_elim (λ (here : at ≡ start). omega (arith, here)) (λ later. omega (arith, boundary-start_le (start + size x) at xs later)) b
 
   -- one is exchanged for another of its size
-  pub boundary-mid : (start at : ℕ) (ls rs : List A) (x x' : A) → size x' ≡ size x → IsTilingBoundary size start (ls ++ x ∷ rs) at
+  pub boundary-mid_replaced : (start at : ℕ) (ls rs : List A) (x x' : A) → size x' ≡ size x → IsTilingBoundary size start (ls ++ x ∷ rs) at
       → IsTilingBoundary size start (ls ++ x' ∷ rs) at
-  boundary-mid start at [] rs x x' same b =
+  boundary-mid_replaced start at [] rs x x' same b =
       ⊎_elim (λ here. inl here) (λ later. inr (subst (λ n. IsTilingBoundary size (start + n) rs at) (sym same) later)) b
-  boundary-mid start at (l ∷ ls) rs x x' same b =
-      ⊎_elim (λ here. inl here) (λ later. inr (boundary-mid (start + size l) at ls rs x x' same later)) b
+  boundary-mid_replaced start at (l ∷ ls) rs x x' same b =
+      ⊎_elim (λ here. inl here) (λ later. inr (boundary-mid_replaced (start + size l) at ls rs x x' same later)) b
 
 -- where a tiling ends, a boundary of what follows is one of the whole
-pub boundary-behind : (most start from at : ℕ) (xs ys : List LogRange) → Tiles most start xs from → IsRangeBoundary from ys at
+pub boundary-prepend_tiling : (most start from at : ℕ) (xs ys : List LogRange) → Tiles most start xs from → IsRangeBoundary from ys at
     → IsRangeBoundary start (xs ++ ys) at
-boundary-behind most start from at [] ys t b = subst (λ z. IsRangeBoundary z ys at) (sym t) b
-boundary-behind most start from at (x ∷ xs) ys t b = inr (boundary-behind most (start + x.size) from at xs ys t.3 b)
+boundary-prepend_tiling most start from at [] ys t b = subst (λ z. IsRangeBoundary z ys at) (sym t) b
+boundary-prepend_tiling most start from at (x ∷ xs) ys t b = inr (boundary-prepend_tiling most (start + x.size) from at xs ys t.3 b)
 
 pub boundary-end : (most start to : ℕ) (ranges : List LogRange) → Tiles most start ranges to → IsRangeBoundary start ranges to
 boundary-end most start to [] t = sym t
@@ -48,13 +48,13 @@ laid-end start to [] l = sym l
 laid-end start to (p ∷ ps) l = inr (laid-end (start + p.entry.size) to ps l.2)
 
 -- a boundary of ranges that end with parts is one of the parts
-pub boundary-aligned : (most start from to at : ℕ) (parts : List Part) (ranges : List LogRange) → Tiles most from ranges to
+pub range_boundary-part_boundary : (most start from to at : ℕ) (parts : List Part) (ranges : List LogRange) → Tiles most from ranges to
     → AllByRecursion (EndsWithPart start parts) ranges → IsTilingBoundary part_size start parts from → IsRangeBoundary from ranges at
     → IsTilingBoundary part_size start parts at
-boundary-aligned most start from to at parts [] t ends here b = subst (IsTilingBoundary part_size start parts) (sym b) here
-boundary-aligned most start from to at parts (r ∷ rs) t ends here b = ⊎_elim
+range_boundary-part_boundary most start from to at parts [] t ends here b = subst (IsTilingBoundary part_size start parts) (sym b) here
+range_boundary-part_boundary most start from to at parts (r ∷ rs) t ends here b = ⊎_elim
     (λ same. subst (IsTilingBoundary part_size start parts) (sym same) here)
-    (λ later. boundary-aligned most start (from + r.size) to at parts rs t.3 ends.1
+    (λ later. range_boundary-part_boundary most start (from + r.size) to at parts rs t.3 ends.1
     (subst (λ n. IsTilingBoundary part_size start parts (n + r.size)) t.0 ends.0) later) b
 
 -- and of the entries that the parts are of
@@ -64,19 +64,19 @@ boundary-entries seat start at [] flag b = b
 boundary-entries seat start at (e ∷ es) flag b = ⊎_elim (λ here. inl here) (λ later. inr (boundary-entries seat (start + e.size) at es flag later)) b
 
 -- a boundary not before a tiling's end is one of what follows, and one not behind it is one of the tiling
-pub boundary-later : (most start from at : ℕ) (xs ys : List LogRange) → Tiles most start xs from → IsRangeBoundary start (xs ++ ys) at → from ≤ at
+pub boundary-split_right : (most start from at : ℕ) (xs ys : List LogRange) → Tiles most start xs from → IsRangeBoundary start (xs ++ ys) at → from ≤ at
     → IsRangeBoundary from ys at
-boundary-later most start from at [] ys t b le = subst (λ n. IsRangeBoundary n ys at) t b
-boundary-later most start from at (x ∷ xs) ys t b le = ⊎_elim
+boundary-split_right most start from at [] ys t b le = subst (λ n. IsRangeBoundary n ys at) t b
+boundary-split_right most start from at (x ∷ xs) ys t b le = ⊎_elim
     (λ (here : at ≡ start). absurd
-    (omega (arith, here, le, t.1, boundary-least range_size (start + x.size) from xs (boundary-end most (start + x.size) from xs t.3))))
-    (λ later. boundary-later most (start + x.size) from at xs ys t.3 later le) b
+    (omega (arith, here, le, t.1, boundary-start_le range_size (start + x.size) from xs (boundary-end most (start + x.size) from xs t.3))))
+    (λ later. boundary-split_right most (start + x.size) from at xs ys t.3 later le) b
 
-pub boundary-sooner : (most from to at : ℕ) (xs ys : List LogRange) → Tiles most from xs to → IsRangeBoundary from (xs ++ ys) at → at ≤ to
+pub boundary-split_left : (most from to at : ℕ) (xs ys : List LogRange) → Tiles most from xs to → IsRangeBoundary from (xs ++ ys) at → at ≤ to
     → IsRangeBoundary from xs at
-boundary-sooner most from to at [] ys t b le = omega (arith, le, t, boundary-least range_size from at ys b)
-boundary-sooner most from to at (x ∷ xs) ys t b le = ⊎_elim (λ here. inl here)
-    (λ later. inr (boundary-sooner most (from + x.size) to at xs ys t.3 later le)) b
+boundary-split_left most from to at [] ys t b le = omega (arith, le, t, boundary-start_le range_size from at ys b)
+boundary-split_left most from to at (x ∷ xs) ys t b le = ⊎_elim (λ here. inl here)
+    (λ later. inr (boundary-split_left most (from + x.size) to at xs ys t.3 later le)) b
 
 -- a tiling in two, at a boundary
 pub record Cut (most from at to : ℕ) (ranges : List LogRange) : Type 0 where
@@ -86,10 +86,10 @@ pub record Cut (most from at to : ℕ) (ranges : List LogRange) : Type 0 where
   pub first : Tiles most from before at
   pub second : Tiles most at behind to
 
-pub cut-at : (most from at to : ℕ) (ranges : List LogRange) → Tiles most from ranges to → IsRangeBoundary from ranges at → Cut most from at to ranges
-cut-at most from at to [] t b = record { before = []; behind = []; split = refl; first = sym b; second = b ∙ t }
-cut-at most from at to (r ∷ rs) t b = ⊎_elim (λ (here : at ≡ from). none here)
-    (λ later. more (cut-at most (from + r.size) at to rs t.3 later)) b
+pub tiles-cut_at_boundary : (most from at to : ℕ) (ranges : List LogRange) → Tiles most from ranges to → IsRangeBoundary from ranges at → Cut most from at to ranges
+tiles-cut_at_boundary most from at to [] t b = record { before = []; behind = []; split = refl; first = sym b; second = b ∙ t }
+tiles-cut_at_boundary most from at to (r ∷ rs) t b = ⊎_elim (λ (here : at ≡ from). none here)
+    (λ later. more (tiles-cut_at_boundary most (from + r.size) at to rs t.3 later)) b
   where
     none : at ≡ from → Cut most from at to (r ∷ rs)
     none here = record { before = []; behind = r ∷ rs; split = refl; first = sym here; second = subst (λ n. Tiles most n (r ∷ rs) to) (sym here) t }

@@ -11,15 +11,15 @@ use Rattle.log_rule.specs.SlotViews.{own_slot_of, is_joinable, contended_seeing}
 use Rattle.log_rule.specs.Views.{contended_alone}
 
 -- an exchange that was lost, without slots and with them
-pub contended-slotless : (view : View) → view.constants.slots ≡ 0 → contended_alone view ≡ view.contended
-contended-slotless view none = ap (λ n. cond (nat_lt 0 n) true view.contended) none
+pub contended_alone-slotless : (view : View) → view.constants.slots ≡ 0 → contended_alone view ≡ view.contended
+contended_alone-slotless view none = ap (λ n. cond (nat_lt 0 n) true view.contended) none
 
-pub contended-slotted : (view : View) → 0 < view.constants.slots → contended_alone view ≡ true
-contended-slotted view some = ap (λ b. cond b true view.contended) (lt-ltb 0 view.constants.slots some)
+pub contended_alone-slotted : (view : View) → 0 < view.constants.slots → contended_alone view ≡ true
+contended_alone-slotted view some = ap (λ b. cond b true view.contended) (lt-ltb 0 view.constants.slots some)
 
 -- a seat that isn't contended becomes so by no look at a slot
-pub contended-looked : (slot word : ℕ) (view : View) → view.contended ≡ false → contended_seeing slot word view ≡ false
-contended-looked slot word view alone = ap (λ b. b && cond (slot == own_slot_of view) (is_joinable word view) true) alone
+pub contended_seeing-uncontended : (slot word : ℕ) (view : View) → view.contended ≡ false → contended_seeing slot word view ≡ false
+contended_seeing-uncontended slot word view alone = ap (λ b. b && cond (slot == own_slot_of view) (is_joinable word view) true) alone
 
 -- where its own slot has a state by which it couldn't join, a seat isn't contended after the look
 module _ (word : ℕ) (view : View) where

@@ -12,19 +12,19 @@ use Rattle.log_rule.specs.Sound.{EachView, HasSoundRole, HasSoundRoles, HasSound
 use Rattle.log_rule.specs.Roles.{has_ended, is_active, is_worker, is_spent}
 use Rattle.log_rule.specs.Views.{nobody}
 use Rattle.log_rule.specs.CrewViews.{takes_in}
-use Rattle.log_rule.proofs.Roles.{unbound}
-use Rattle.log_rule.proofs.ViewChanges.{each_set, pairs_move, count-set}
+use Rattle.log_rule.proofs.Roles.{not_flusher_nor_worker-sound_roles}
+use Rattle.log_rule.proofs.ViewChanges.{each_view-set, each_pair-set, count-set}
 
 or-false : (a b : Bool) → a ≡ false → b ≡ false → (a || b) ≡ false
 or-false a b p q = ap (λ c. c || b) p ∙ q
 
-pub ended-rests : (role : Role) → has_ended role ≡ true → is_active role ≡ false
-ended-rests Flusher e = refl
-ended-rests Fresh e = refl
-ended-rests Active e = absurd (true≢false (sym e))
-ended-rests Ended e = refl
-ended-rests Note e = refl
-ended-rests Spent e = refl
+pub has_ended-not_active : (role : Role) → has_ended role ≡ true → is_active role ≡ false
+has_ended-not_active Flusher e = refl
+has_ended-not_active Fresh e = refl
+has_ended-not_active Active e = absurd (true≢false (sym e))
+has_ended-not_active Ended e = refl
+has_ended-not_active Note e = refl
+has_ended-not_active Spent e = refl
 
 pub ended-unspent : (role : Role) → has_ended role ≡ true → is_spent role ≡ false
 ended-unspent Flusher e = refl
@@ -47,7 +47,7 @@ at-without views me other v at apart = set_else views other me nobody (λ e. apa
 
 pub each-merged : (views : List View) (me other : ℕ) (new : View) (P : ℕ → View → Type 0) → EachView P views → P other nobody → P me new
     → EachView P (set (without views other) me new)
-each-merged views me other new P all none mine = each_set P (without views other) me new (each_set P views other nobody all none) mine
+each-merged views me other new P all none mine = each_view-set P (without views other) me new (each_view-set P views other nobody all none) mine
 
 module _ (crew : ℕ) (views : List View) (me other : ℕ) (v o : View) (roles : HasSoundCrew crew views) (at : get_elem? views me ≡ some v)
     (there : get_elem? views other ≡ some o) (apart : other ≢ me) (may : MayMerge v o) where
@@ -61,10 +61,10 @@ module _ (crew : ℕ) (views : List View) (me other : ℕ) (v o : View) (roles :
   no_worker e = absurd (true≢false (sym e ∙ ap is_worker may.flusher))
 
   pairs-without : Rattle.log_rule.specs.Sound.EachPair (λ i y j z. HasSoundRoles i y.standing j z.standing) (without views other)
-  pairs-without = pairs_move (λ i y j z. HasSoundRoles i y.standing j z.standing) views other o nobody there roles.pairs
-      (unbound other nobody.standing other nobody.standing refl (λ e. absurd (cc)))
+  pairs-without = each_pair-set (λ i y j z. HasSoundRoles i y.standing j z.standing) views other o nobody there roles.pairs
+      (not_flusher_nor_worker-sound_roles other nobody.standing other nobody.standing refl (λ e. absurd (cc)))
       (λ j z differ here. (
-        unbound other nobody.standing j z.standing refl (λ e. absurd (cc)),
+        not_flusher_nor_worker-sound_roles other nobody.standing j z.standing refl (λ e. absurd (cc)),
         record {
           apart = λ _ e. absurd (true≢false (sym e));
           made = λ _ e. absurd (true≢false (sym e));
@@ -119,21 +119,21 @@ module _ (crew : ℕ) (views : List View) (me other : ℕ) (v o : View) (roles :
       by_role false note knows = before knows
 
   -- the flusher's seat is the first
-  pub not-flusher : {A : Type 0} (j : ℕ) (z : View) → j ≢ me → get_elem? (without views other) j ≡ some z → z.standing.role ≡ Flusher → A
-  not-flusher j z differ here f = absurd (differ (each_set (λ seat y. y.standing.role ≡ Flusher → seat ≡ 0) views other nobody (λ i y h. (roles.each i y h).first)
+  pub other_seat-not_flusher : {A : Type 0} (j : ℕ) (z : View) → j ≢ me → get_elem? (without views other) j ≡ some z → z.standing.role ≡ Flusher → A
+  other_seat-not_flusher j z differ here f = absurd (differ (each_view-set (λ seat y. y.standing.role ≡ Flusher → seat ≡ 0) views other nobody (λ i y h. (roles.each i y h).first)
       (λ e. absurd (cc)) j z here f ∙ sym ((roles.each me v at).first may.flusher)))
 
-  pub crew-merges : HasSoundCrew crew (set (without views other) me new)
-  crew-merges = record {
+  pub merge-sound_crew : HasSoundCrew crew (set (without views other) me new)
+  merge-sound_crew = record {
     count = roles.count
-        ∙ sym (same _ _ _ _ _ (count-set is_active_view views other o nobody there) (ended-rests o.standing.role may.ended)
+        ∙ sym (same _ _ _ _ _ (count-set is_active_view views other o nobody there) (has_ended-not_active o.standing.role may.ended)
         (count-set is_active_view (without views other) me v new kept));
     each = each-merged views me other new (λ seat z. HasSoundRole seat z.standing) roles.each record {
       small = λ e. absurd (true≢false (sym e));
       first = λ e. absurd (cc);
     }
         record { small = (roles.each me v at).small; first = (roles.each me v at).first };
-    pairs = pairs_move (λ i y j z. HasSoundRoles i y.standing j z.standing) (without views other) me v new kept pairs-without
+    pairs = each_pair-set (λ i y j z. HasSoundRoles i y.standing j z.standing) (without views other) me v new kept pairs-without
         record {
           apart = λ _ _ _. refl;
           made = λ _ w. no_worker w;
@@ -154,8 +154,8 @@ module _ (crew : ℕ) (views : List View) (me other : ℕ) (v o : View) (roles :
           record {
             apart = λ _ w. no_worker w;
             made = λ _ w. no_worker w;
-            enrolled = λ f _ _. not-flusher j z differ here f;
-            merged = λ f _ _. not-flusher j z differ here f;
+            enrolled = λ f _ _. other_seat-not_flusher j z differ here f;
+            merged = λ f _ _. other_seat-not_flusher j z differ here f;
             fresh = λ f. fresh-lacks j z here f;
             unmerged = λ w. lacks-merged j z here w (by.unmerged w);
           },

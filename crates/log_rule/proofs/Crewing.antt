@@ -21,11 +21,11 @@ use Rattle.log_rule.specs.Roles.{is_active, is_worker, is_working, is_spent, may
 use Rattle.log_rule.specs.Views.{counted}
 use Rattle.log_rule.specs.CrewViews.{enrolled, retired}
 use Rattle.log_rule.specs.Words.{Words}
-use Rattle.log_rule.proofs.AccountsKept.{accounts-stay}
+use Rattle.log_rule.proofs.AccountsKept.{same_books-keeps_accounts}
 use Rattle.log_rule.proofs.Lists.{all-among}
-use Rattle.log_rule.proofs.Members.{KeepsSeen, steps-on, loads-stay, heard-moves}
-use Rattle.log_rule.proofs.Roles.{quiet-moves, restands}
-use Rattle.log_rule.proofs.ViewChanges.{each_set, pairs_move, count-set}
+use Rattle.log_rule.proofs.Members.{KeepsSeen, one_step_more-keeps_seen, keeps_seen-loads_for_group, heard_of_workers-set}
+use Rattle.log_rule.proofs.Roles.{rests_if_quiet-set, change_standing-leads}
+use Rattle.log_rule.proofs.ViewChanges.{each_view-set, each_pair-set, count-set}
 
 -- the numbers of the workers among these
 abbrev worker_numbers : List View → List ℕ
@@ -121,9 +121,9 @@ module _ (key : Start) (words : Words) (views : List View) (me : ℕ) (v : View)
   crew-turns = record {
     count = let was : cond {A = ℕ} (is_active v.standing.role) 1 0 ≡ cond {A = ℕ} (is_active old) 1 0 = ap (λ (r : Role). cond {A = ℕ} (is_active r) 1 0) was in
         omega (arith, count-set is_active_view views me v new at, s.roles.count, was, counts);
-    each = each_set (λ seat z. HasSoundRole seat z.standing) views me new s.roles.each
+    each = each_view-set (λ seat z. HasSoundRole seat z.standing) views me new s.roles.each
         record { small = λ _. (s.roles.each me v at).small worker; first = λ f. no-flusher f };
-    pairs = pairs_move (λ i y j z. HasSoundRoles i y.standing j z.standing) views me v new at s.roles.pairs
+    pairs = each_pair-set (λ i y j z. HasSoundRoles i y.standing j z.standing) views me v new at s.roles.pairs
         record {
           apart = λ _ _ _. refl;
           made = λ f. no-flusher f;
@@ -154,30 +154,30 @@ module _ (key : Start) (words : Words) (views : List View) (me : ℕ) (v : View)
   }
 
   turns : Leads key words (record words { crew = crew }) views (set views me new) log none
-  turns = restands key words words.stop crew words.account views me v new log s at refl refl
+  turns = change_standing-leads key words words.stop crew words.account views me v new log s at refl refl
       (let old = s.seen me v at in
       record { tail_seen = old.tail_seen; exposed_seen = old.exposed_seen; durable_seen = old.durable_seen; boundaries = old.boundaries })
       (λ _. s.constants me v at (ap is_spent was ∙ next.was_unspent)) (λ off. (rests off).0) (λ off. absurd (true≢false (sym next.owner ∙ off)))
-      crew-turns (λ f. no-flusher f) (each_set (λ _ z. StoresStop words.stop z) views me new s.stops (λ f. no-flusher f))
-      (each_set (λ _ z. HasReadStop words.stop z) views me new s.read_stop (s.read_stop me v at))
-      (quiet-moves views me v new s.quiet at (λ _ _ _ _ f. no-flusher f) (λ z h f q. next.works (sym (ap is_working was) ∙ h f q)))
+      crew-turns (λ f. no-flusher f) (each_view-set (λ _ z. StoresStop words.stop z) views me new s.stops (λ f. no-flusher f))
+      (each_view-set (λ _ z. HasReadStop words.stop z) views me new s.read_stop (s.read_stop me v at))
+      (rests_if_quiet-set views me v new s.quiet at (λ _ _ _ _ f. no-flusher f) (λ z h f q. next.works (sym (ap is_working was) ∙ h f q)))
       (λ f. no-flusher f) ((λ off. (rests off).1), (λ off. absurd (true≢false (sym next.owner ∙ off))))
-      (accounts-stay key words.account log.parts log.groups views me v new at refl s.accounts)
+      (same_books-keeps_accounts key words.account log.parts log.groups views me v new at refl s.accounts)
       record {
-        loads = loads-stay key words views me v log s at (counted v.seen) keeps;
+        loads = keeps_seen-loads_for_group key words views me v log s at (counted v.seen) keeps;
         awaits = s.awaits me v at;
         totals = λ slot f. no-flusher f;
-        heard = heard-moves views me v new s.heard at (λ z h f. no-flusher f) (λ z h. h);
+        heard = heard_of_workers-set views me v new s.heard at (λ z h f. no-flusher f) (λ z h. h);
         last = λ _. keeps.last (s.lasts me v at (ap is_spent was ∙ next.was_unspent));
       }
     where
       keeps : KeepsSeen log.groups v.seen (counted v.seen)
-      keeps = steps-on log.groups v.seen (counted v.seen) refl refl refl refl refl refl refl
+      keeps = one_step_more-keeps_seen log.groups v.seen (counted v.seen) refl refl refl refl refl refl refl
 
-pub enrolls : (key : Start) (words : Words) (views : List View) (me : ℕ) (v : View) (log : Log) → IsSound key words views log
+pub enrolled-leads : (key : Start) (words : Words) (views : List View) (me : ℕ) (v : View) (log : Log) → IsSound key words views log
     → get_elem? views me ≡ some v → v.standing.role ≡ Fresh
     → Leads key words (record words { crew = words.crew + 1 }) views (set views me (enrolled v)) log none
-enrolls key words views me v log s at fresh =
+enrolled-leads key words views me v log s at fresh =
     turns key words views me v log s at Fresh Active fresh
     record { was_worker = refl; was_unspent = refl; worker = refl; owner = refl; begun = λ f. absurd (cc); works = λ off. absurd (true≢false off) }
     (v.standing.worker ∷ v.standing.enrolled) (λ n knows. by_test n (eqb n v.standing.worker) refl knows)
@@ -188,9 +188,9 @@ enrolls key words views me v log s at fresh =
     by_test n true same is = inl (eqb-true n v.standing.worker same)
     by_test n false same is = inr is
 
-pub leaves : (key : Start) (words : Words) (views : List View) (me : ℕ) (v : View) (log : Log) → IsSound key words views log
+pub retired-leads : (key : Start) (words : Words) (views : List View) (me : ℕ) (v : View) (log : Log) → IsSound key words views log
     → get_elem? views me ≡ some v → MayLeave v → Leads key words (record words { crew = words.crew - 1 }) views (set views me (retired v)) log none
-leaves key words views me v log s at may =
+retired-leads key words views me v log s at may =
     turns key words views me v log s at Active Ended may.rests.active
     record { was_worker = refl; was_unspent = refl; worker = refl; owner = refl; begun = λ f. absurd (cc); works = λ _. refl }
     v.standing.enrolled (λ n knows. inr knows) (words.crew - 1)
@@ -203,26 +203,26 @@ module _ (key : Start) (me : ℕ) (v : View) where
       record {
         leads = λ words views log s at is. subst
             (λ x. Leads key words (record words { crew = x + 1 }) views (set views me (enrolled v)) log none) is
-            (enrolls key words views me v log s at fresh);
+            (enrolled-leads key words views me v log s at fresh);
       }
 
   pub leave-step : MayLeave v → (n : ℕ) → IsStep key me Crew n (n - 1) v (retired v) none
   leave-step may n = record {
     leads = λ words views log s at is. subst
         (λ x. Leads key words (record words { crew = x - 1 }) views (set views me (retired v)) log none) is
-        (leaves key words views me v log s at may);
+        (retired-leads key words views me v log s at may);
   }
 
   -- the machine's sum and difference of words are those of numbers
-  pub enroll-adds : v.standing.role ≡ Fresh → (n : ℕ) → IsStep key me Crew n ((n + 1) % 2 ^ 64) v (enrolled v) none
-  enroll-adds fresh n = record {
+  pub enroll-step_modulo : v.standing.role ≡ Fresh → (n : ℕ) → IsStep key me Crew n ((n + 1) % 2 ^ 64) v (enrolled v) none
+  enroll-step_modulo fresh n = record {
     leads = λ words views log s at is. let small = crew-small words.crew views s.roles in
         subst (λ x. Leads key words (record words { crew = x }) views (set views me (enrolled v)) log none) (sym (mod-eq_of_lt (omega arith)))
         ((enroll-step fresh n).leads words views log s at is);
   }
 
-  pub leave-subtracts : MayLeave v → (n : ℕ) → IsStep key me Crew n ((n + (2 ^ 64 - 1)) % 2 ^ 64) v (retired v) none
-  leave-subtracts may n = record {
+  pub leave-step_modulo : MayLeave v → (n : ℕ) → IsStep key me Crew n ((n + (2 ^ 64 - 1)) % 2 ^ 64) v (retired v) none
+  leave-step_modulo may n = record {
     leads = λ words views log s at is.
         let was : cond {A = ℕ} (is_active v.standing.role) 1 0 ≡ 1 = ap (λ (r : Role). cond {A = ℕ} (is_active r) 1 0) may.rests.active in
         let some : 1 ≤ n = omega (arith, count-set is_active_view views me v (retired v) at, s.roles.count, was, is) in

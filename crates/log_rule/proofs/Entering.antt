@@ -1,4 +1,4 @@
--- The next record of a seat's last job enters the log: each kind keeps the account part of the rule.
+-- The next record of a seat's last job may_enter-keeps_accounts the log: each kind keeps the account part of the rule.
 use Rattle.std.proofs.Common.{◌≡◌, ◌≢◌, ◌⊎◌, inl, inr, ◌&&◌, ◌||◌, ℕ, ◌+◌, ◌≤◌, ◌<◌, cond, ℤ, true, false, true≢false, List, [], ◌∷◌, length, set, Option, Some, None, IfSome, sym, refl, ap, ◌∙◌, subst, arith}
 use Rattle.std.specs.List.{AllByRecursion}
 use mathlib.Core.Logic.{dite}
@@ -18,9 +18,9 @@ use Rattle.lock_core.specs.Tests.{IsCurrent, IsGenesis}
 use Rattle.lock_core.specs.Alone.{with_note, IsAllowedLeg}
 use Rattle.lock_core.specs.Serial.{NumberedTransfer, IsRunWhole}
 use Rattle.lock_core.specs.Lawful.{tests, Passes}
-use Rattle.lock_core.proofs.GoingOn.{passes-behind}
+use Rattle.lock_core.proofs.GoingOn.{meets_opening_state-all_passed}
 use Rattle.lock_core.proofs.Meeting.{MeetsTests}
-use Rattle.lock_core.proofs.OneMore.{of_transaction-same, has_commit-unended, total-plain, total-commit, last_commit_of-plain, last_commit_of-commit}
+use Rattle.lock_core.proofs.OneMore.{of_transaction-first_own, has_commit-unended, total-uncommitted, total-commit, last_commit_of-no_commit, last_commit_of-commit}
 use Rattle.lock_core.proofs.Running.{AgreesOn, planned_from-agrees, planned_records-without_prev, planned_records-outcome, all_without_prev-in_order, no_commit}
 use Rattle.lock_core.proofs.SerialFronts.{IsRunPartly}
 use Rattle.lock_core.proofs.ChangesLemmas.{moved-untouched}
@@ -29,14 +29,14 @@ use Rattle.log_rule.specs.declared.view.Books.{Books}
 use Rattle.log_rule.specs.Books.{task_of, times_held, balance_taken, last_commit_taken, plan_of, IsNext, HoldsLeg, HoldsAccounts, IsNote, MayEnter, placing}
 use Rattle.lock_core.specs.Transfers.{note_of}
 use Rattle.log_rule.specs.Accounts.{IsAsTaken, HasOneHolder, HasDistinctJobs, moved_if_committed, Follows, AccountsFollowList, KeepsAccounts, MayBeTaken}
-use Rattle.log_rule.proofs.Bookings.{everywhere-set, summed-set, found, balance_taken-none, last_commit_taken-all}
-use Rattle.log_rule.proofs.Growing.{IsSameAt, grows}
-use Rattle.log_rule.proofs.Lists.{all-weaker, all-both}
-use Rattle.log_rule.proofs.Taking.{LastIsOne, distinct-before}
+use Rattle.log_rule.proofs.Bookings.{everywhere-set, summed-set, times_held-found, balance_taken-none, last_commit_taken-all}
+use Rattle.log_rule.proofs.Growing.{IsSameAt, enter_record-accounts_follow}
+use Rattle.log_rule.proofs.Lists.{all-weaken, all-weaken_both}
+use Rattle.log_rule.proofs.Taking.{LastIsOne, distinct_jobs-before_set}
 use Rattle.lsn_space.specs.declared.lsn.TheConstants.{LAST}
 use Rattle.slot_word.specs.AccountWord.{last_commit_in}
 use Rattle.log_rule.proofs.PlanFronts.{IsPlanned, IsSmallLeg, next-planned}
-use Rattle.log_rule.proofs.Planning.{Walk, walk-at, walk-plan, walk-last_commits, untouched, IsHeldLeg, NamesLastCommit, IsFront, Step}
+use Rattle.log_rule.proofs.Planning.{Walk, walk-in_order_rest, planned_records-walk, walk-last_commits, unheld-not_touched, IsHeldLeg, NamesLastCommit, IsFront, Step}
 
 module _ (base : BaseState) (words : ℕ → ℕ) (h : List Placed) (all : List Books) (me : ℕ) (mine : Books) (distinct : HasDistinctJobs all)
     (holder : HasOneHolder base.accounts words all) (s : AccountsFollowList base words h all) (at : get_elem? all me ≡ some mine)
@@ -65,10 +65,10 @@ module _ (base : BaseState) (words : ℕ → ℕ) (h : List Placed) (all : List 
   -- a record of the job that meets the tests passes them all, behind the table's base
   passes-all : (entry : Placed) → txn_of entry.rec ≡ mine.last.number → (IsGenesis entry.rec → ⊥) → MeetsTests base h entry
       → AllByRecursion (Passes (as_opening base) h entry) tests
-  passes-all entry own other meets = passes-behind (as_opening base) h entry some_account s.lawful other (omega arith) meets
+  passes-all entry own other meets = meets_opening_state-all_passed (as_opening base) h entry some_account s.lawful other (omega arith) meets
 
   known : (account : ℕ) → Mine account → account < base.accounts
-  known account has = let f = found (IsAsTaken base.accounts words) account mine.held has (holder.taken me mine at) in
+  known account has = let f = times_held-found (IsAsTaken base.accounts words) account mine.held has (holder.taken me mine at) in
       subst (λ a. a < base.accounts) f.is f.known.known
 
   tied : own_records_of mine.last.number h ≡ before
@@ -87,7 +87,7 @@ module _ (base : BaseState) (words : ℕ → ℕ) (h : List Placed) (all : List 
     -- until the job is committed, the balance as taken is the list's, and so is the last Commit
     balance-taken : (account : ℕ) → Mine account → balance_taken mine.held account + total loss account h ≡ base.balance account + total gain account h
     balance-taken account has =
-        let f = found (Follows base h mine.placed) account mine.held has (s.held me mine at) in
+        let f = times_held-found (Follows base h mine.placed) account mine.held has (s.held me mine at) in
         let old : Follows base h mine.placed f.held = f.known in
         let is : f.held.balance + moved_if_committed gain account mine.placed + total loss account h
         ≡ base.balance account + total gain account h + moved_if_committed loss account mine.placed =
@@ -96,7 +96,7 @@ module _ (base : BaseState) (words : ℕ → ℕ) (h : List Placed) (all : List 
 
     last_commit-taken : (account : ℕ) → Mine account → last_commit_taken mine.held account ≡ last_commit_of base h account
     last_commit-taken account has =
-        let f = found (Follows base h mine.placed) account mine.held has (s.held me mine at) in
+        let f = times_held-found (Follows base h mine.placed) account mine.held has (s.held me mine at) in
         let old : Follows base h mine.placed f.held = f.known in
         f.last_commit ∙ (sym (ap (λ b. cond (b && touches f.held.account (changes_in before)) (end_from 0 mine.placed) f.held.last_commit) uncommitted)
         ∙ (sym old.last_commit ∙ ap (last_commit_of base h) f.is))
@@ -113,9 +113,9 @@ module _ (base : BaseState) (words : ℕ → ℕ) (h : List Placed) (all : List 
 
       same-plain : (account : ℕ) → IsSameAt base h entry account
       same-plain account = record {
-        added = total-plain gain account entry h plain uncommitted-here;
-        taken = total-plain loss account entry h plain uncommitted-here;
-        last_commit = last_commit_of-plain base entry h account plain;
+        added = total-uncommitted gain account entry h plain uncommitted-here;
+        taken = total-uncommitted loss account entry h plain uncommitted-here;
+        last_commit = last_commit_of-no_commit base entry h account plain;
       }
 
       range-plain : AreInRange base (entry ∷ h)
@@ -123,7 +123,7 @@ module _ (base : BaseState) (words : ℕ → ℕ) (h : List Placed) (all : List 
           let sum = r.2 in (r.0, r.1, omega arith)
 
       follows-plain : AllByRecursion (Follows base (entry ∷ h) (entry ∷ mine.placed)) mine.held
-      follows-plain = all-weaker (Follows base h mine.placed) (Follows base (entry ∷ h) (entry ∷ mine.placed)) mine.held
+      follows-plain = all-weaken (Follows base h mine.placed) (Follows base (entry ∷ h) (entry ∷ mine.placed)) mine.held
           (λ held old. let same = same-plain held.account in let added = same.added in let taken = same.taken in let balance = old.balance in
           let none : has_commit (recs_of (entry ∷ mine.placed)) ≡ false = (λ i. plain i || uncommitted i) in
           let up = nothing gain held.account in let down = nothing loss held.account in
@@ -137,12 +137,12 @@ module _ (base : BaseState) (words : ℕ → ℕ) (h : List Placed) (all : List 
 
       passes-plain : MeetsTests base h entry → (IsGenesis entry.rec → ⊥) → IsRunPartly base (entry ∷ h) task
           → AccountsFollowList base words (entry ∷ h) (set all me (record mine { placed = entry ∷ mine.placed }))
-      passes-plain meets other ran = grows base words h all me mine entry distinct holder s at some_job own
+      passes-plain meets other ran = enter_record-accounts_follow base words h all me mine entry distinct holder s at some_job own
           (passes-all entry own other meets) range-plain (λ account _. same-plain account) follows-plain ran
 
   -- what the log has of the job, once the record is in it
   has-more : (entry : Placed) → txn_of entry.rec ≡ mine.last.number → own_records_of mine.last.number (entry ∷ h) ≡ entry.rec ∷ before
-  has-more entry own = ap recs_of (of_transaction-same mine.last.number entry h own ∙ ap (λ l. entry ∷ l) (s.placed me mine at some_job))
+  has-more entry own = ap recs_of (of_transaction-first_own mine.last.number entry h own ∙ ap (λ l. entry ∷ l) (s.placed me mine at some_job))
 
   cut-more : (entry : Placed) → txn_of entry.rec ≡ mine.last.number → IsFront task (entry.rec ∷ before) → IsRunPartly base (entry ∷ h) task
   cut-more entry own front = inr (record {
@@ -171,12 +171,12 @@ module _ (base : BaseState) (words : ℕ → ℕ) (h : List Placed) (all : List 
     T = Step task Mine (last_commit_taken mine.held) (balance_taken mine.held)
 
     walk : Walk T [] (in_order before (rec ∷ rest))
-    walk = subst (Walk T []) (sym next) (walk-plan task Mine (last_commit_taken mine.held) (balance_taken mine.held) few
-        (all-both (λ (leg : ℕ × ℕ × ℕ). (leg.0 ≢ leg.1) × (1 ≤ leg.2)) (HoldsLeg mine.held) (IsHeldLeg Mine) mine.last.job.legs
+    walk = subst (Walk T []) (sym next) (planned_records-walk task Mine (last_commit_taken mine.held) (balance_taken mine.held) few
+        (all-weaken_both (λ (leg : ℕ × ℕ × ℕ). (leg.0 ≢ leg.1) × (1 ≤ leg.2)) (HoldsLeg mine.held) (IsHeldLeg Mine) mine.last.job.legs
         (λ leg a b. (a.0, a.1, b.0, b.1)) some_amounts holds) (in-range unended))
 
     step : T before rec rest
-    step = (walk-at T before (rec ∷ rest) walk).0
+    step = (walk-in_order_rest T before (rec ∷ rest) walk).0
 
     marked : AllByRecursion (NamesLastCommit Mine (last_commit_taken mine.held)) (changes_in before)
     marked = walk-last_commits task Mine (last_commit_taken mine.held) (balance_taken mine.held) before (rec ∷ rest) walk
@@ -196,7 +196,7 @@ module _ (base : BaseState) (words : ℕ → ℕ) (h : List Placed) (all : List 
           ∙ (ap all_without_prev (ap (λ l. in_order before (rec ∷ l)) (sym none) ∙ next)
           ∙ (planned_records-without_prev mine.last.number task.job (last_commit_taken mine.held) (balance_taken mine.held)
           ∙ (ap (with_note mine.last.number task.job.note) (planned_from-agrees mine.last.number no_commit (balance_taken mine.held) (balance_of base h) 0 mine.last.job.legs
-          (all-weaker (HoldsLeg mine.held) (AgreesOn (balance_taken mine.held) (balance_of base h)) mine.last.job.legs (λ leg has. (agrees leg.0 has.0, agrees leg.1 has.1)) holds))
+          (all-weaken (HoldsLeg mine.held) (AgreesOn (balance_taken mine.held) (balance_of base h)) mine.last.job.legs (λ leg has. (agrees leg.0 has.0, agrees leg.1 has.1)) holds))
           ∙ planned_records-outcome mine.last.number task.job (balance_of base h)))));
     }
       where
@@ -226,7 +226,7 @@ module _ (base : BaseState) (words : ℕ → ℕ) (h : List Placed) (all : List 
 
     same-commit : (account : ℕ) → (Mine account → ⊥) → IsSameAt base h commit account
     same-commit account none =
-        let off = untouched Mine (last_commit_taken mine.held) (changes_in before) account none all-marked in
+        let off = unheld-not_touched Mine (last_commit_taken mine.held) (changes_in before) account none all-marked in
         let added = sums gain account in let taken = sums loss account in
         let up = moved-untouched gain account (changes_in before) off in let down = moved-untouched loss account (changes_in before) off in
         record { added = omega arith; taken = omega arith; last_commit = last-is account ∙ ap (λ b. cond b end (last_commit_of base h account)) off }
@@ -239,7 +239,7 @@ module _ (base : BaseState) (words : ℕ → ℕ) (h : List Placed) (all : List 
         let added = same.added in let taken = same.taken in let sum = r.2 in (r.0, r.1, omega arith))
 
     follows-commit : AllByRecursion (Follows base (commit ∷ h) (commit ∷ mine.placed)) mine.held
-    follows-commit = all-weaker (Follows base h mine.placed) (Follows base (commit ∷ h) (commit ∷ mine.placed)) mine.held
+    follows-commit = all-weaken (Follows base h mine.placed) (Follows base (commit ∷ h) (commit ∷ mine.placed)) mine.held
         (λ held old. let added = sums gain held.account in let taken = sums loss held.account in let balance = old.balance in
         let up = nothing unended gain held.account in let down = nothing unended loss held.account in record {
           balance = omega arith;
@@ -249,7 +249,7 @@ module _ (base : BaseState) (words : ℕ → ℕ) (h : List Placed) (all : List 
 
     pub commit-enters : AccountsFollowList base words (commit ∷ h) (set all me (placing end (Commit txn legs) mine))
     commit-enters = let list = tied-to txn is-commit.own in
-        grows base words h all me mine commit distinct holder s at some_job is-commit.own
+        enter_record-accounts_follow base words h all me mine commit distinct holder s at some_job is-commit.own
         (passes-all commit is-commit.own (λ g. g) record {
           account = tt;
           ended = ap has_end list ∙ unended;
@@ -257,20 +257,20 @@ module _ (base : BaseState) (words : ℕ → ℕ) (h : List Placed) (all : List 
           pair = tt;
           prev = tt;
           stale = subst (λ records. AllByRecursion (IsCurrent base h) (changes_in records)) (sym list)
-              (all-weaker (NamesLastCommit Mine (last_commit_taken mine.held)) (IsCurrent base h) (changes_in before)
+              (all-weaken (NamesLastCommit Mine (last_commit_taken mine.held)) (IsCurrent base h) (changes_in before)
               (λ change is. is.0 ∙ last_commit-taken unended change.account is.1) all-marked);
           balance = λ _. range-commit;
         }) range-commit (λ account none. same-commit account (λ has. absurd (omega (arith, none)))) follows-commit
         (inl (run-whole few some_amounts holds unended (Commit txn legs) rest next commit refl is-commit.own refl is-commit.last))
 
   -- the next record, of whatever kind, once the job's accounts are held
-  pub held-enters : (end : ℕ) (rec : Rec) (rest : List Rec) → length mine.last.job.legs ≤ 8
+  pub accounts_held-enters : (end : ℕ) (rec : Rec) (rest : List Rec) → length mine.last.job.legs ≤ 8
       → AllByRecursion (λ (leg : ℕ × ℕ × ℕ). (leg.0 ≢ leg.1) × (1 ≤ leg.2)) mine.last.job.legs
       → HoldsAccounts mine → has_end before ≡ false → in_order before (rec ∷ rest) ≡ plan_of mine
       → AccountsFollowList base words (record { end = end; rec = rec } ∷ h) (set all me (placing end rec mine))
-  held-enters end (Genesis account balance) rest few some_amounts holds unended next =
+  accounts_held-enters end (Genesis account balance) rest few some_amounts holds unended next =
       absurd (step few some_amounts holds unended (Genesis account balance) rest next)
-  held-enters end (Update txn account delta prev) rest few some_amounts holds unended next =
+  accounts_held-enters end (Update txn account delta prev) rest few some_amounts holds unended next =
       let is = step few some_amounts holds unended (Update txn account delta prev) rest next in
       let list = tied-to txn is.own in let entry : Placed = record { end = end; rec = Update txn account delta prev } in
       passes-plain unended entry is.own refl
@@ -283,8 +283,8 @@ module _ (base : BaseState) (words : ℕ → ℕ) (h : List Placed) (all : List 
         stale = tt;
         balance = λ on. absurd (true≢false (sym on));
       } (λ g. g) (cut-more entry is.own is.cut)
-  held-enters end (Commit txn legs) rest few some_amounts holds unended next = commit-enters end txn legs few some_amounts holds unended rest next
-  held-enters end (Short txn leg) rest few some_amounts holds unended next =
+  accounts_held-enters end (Commit txn legs) rest few some_amounts holds unended next = commit-enters end txn legs few some_amounts holds unended rest next
+  accounts_held-enters end (Short txn leg) rest few some_amounts holds unended next =
       let is = step few some_amounts holds unended (Short txn leg) rest next in
       let list = tied-to txn is.own in let entry : Placed = record { end = end; rec = Short txn leg } in
       passes-plain unended entry is.own refl
@@ -297,7 +297,7 @@ module _ (base : BaseState) (words : ℕ → ℕ) (h : List Placed) (all : List 
         stale = tt;
         balance = λ on. absurd (true≢false (sym on));
       } (λ g. g) (inl (run-whole few some_amounts holds unended (Short txn leg) rest next entry refl is.own refl is.last))
-  held-enters end (Over txn leg) rest few some_amounts holds unended next =
+  accounts_held-enters end (Over txn leg) rest few some_amounts holds unended next =
       let is = step few some_amounts holds unended (Over txn leg) rest next in
       let list = tied-to txn is.own in let entry : Placed = record { end = end; rec = Over txn leg } in
       passes-plain unended entry is.own refl
@@ -310,7 +310,7 @@ module _ (base : BaseState) (words : ℕ → ℕ) (h : List Placed) (all : List 
         stale = tt;
         balance = λ on. absurd (true≢false (sym on));
       } (λ g. g) (inl (run-whole few some_amounts holds unended (Over txn leg) rest next entry refl is.own refl is.last))
-  held-enters end (Note txn text) rest few some_amounts holds unended next =
+  accounts_held-enters end (Note txn text) rest few some_amounts holds unended next =
       let is = step few some_amounts holds unended (Note txn text) rest next in note-enters end txn text is.own unended is.cut
 
 -- what a seat's last job is known to be
@@ -318,7 +318,7 @@ module _ (base : BaseState) (words : ℕ → ℕ) (all : List Books) (me : ℕ) 
     (at : get_elem? all me ≡ some mine) where
   marks-fit : (account : ℕ) → last_commit_taken mine.held account ≤ LAST
   marks-fit account = last_commit_taken-all (λ m. m ≤ LAST) account mine.held (omega arith)
-      (all-weaker (IsAsTaken base.accounts words) (λ (held : Taken). held.last_commit ≤ LAST) mine.held
+      (all-weaken (IsAsTaken base.accounts words) (λ (held : Taken). held.last_commit ≤ LAST) mine.held
       (λ held t. subst (λ m. m ≤ LAST) t.last_commit (last_commit-fits (words held.account))) (holder.taken me mine at))
     where
       last_commit-fits : (word : ℕ) → last_commit_in word ≤ LAST
@@ -332,13 +332,13 @@ module _ (base : BaseState) (words : ℕ → ℕ) (all : List Books) (me : ℕ) 
     legs-allowed = allowed.job.legs.each
 
     amounts : AllByRecursion (λ (leg : ℕ × ℕ × ℕ). (leg.0 ≢ leg.1) × (1 ≤ leg.2)) mine.last.job.legs
-    amounts = all-weaker (IsAllowedLeg base.accounts) (λ (leg : ℕ × ℕ × ℕ). (leg.0 ≢ leg.1) × (1 ≤ leg.2)) mine.last.job.legs
+    amounts = all-weaken (IsAllowedLeg base.accounts) (λ (leg : ℕ × ℕ × ℕ). (leg.0 ≢ leg.1) × (1 ≤ leg.2)) mine.last.job.legs
         (λ leg a. (a.two, a.some)) legs-allowed
 
     planned : (rec : Rec) (next : IsNext rec mine) → IsPlanned (task_of mine.last) (recs_of mine.placed) rec next.rest
     planned rec next = next-planned (task_of mine.last) (last_commit_taken mine.held) allowed.number marks-fit (balance_taken mine.held)
         allowed.job.legs.some allowed.job.legs.few
-        (all-weaker (IsAllowedLeg base.accounts) IsSmallLeg mine.last.job.legs (λ leg a. let few = holder.few in let payer = a.payer in let payee = a.payee in
+        (all-weaken (IsAllowedLeg base.accounts) IsSmallLeg mine.last.job.legs (λ leg a. let few = holder.few in let payer = a.payer in let payee = a.payee in
         record { payer = omega arith; payee = omega arith; least = a.some; most = a.most }) legs-allowed)
         (by_note mine.last.job.note allowed.job.note) (recs_of mine.placed) rec next.rest next.plan
       where
@@ -360,19 +360,19 @@ module _ (base : BaseState) (words : ℕ → ℕ) (all : List Books) (me : ℕ) 
     last = everywhere-set (LastIsOne base.accounts) all me (placing end rec mine) holder.last (holder.last me mine at);
   }
 
--- the next record of a seat's last job enters the log
-pub enters : (base : BaseState) (words : ℕ → ℕ) (h : List Placed) (all : List Books) (me : ℕ) (mine : Books) → get_elem? all me ≡ some mine → (end : ℕ) (rec : Rec)
+-- the next record of a seat's last job may_enter-keeps_accounts the log
+pub may_enter-keeps_accounts : (base : BaseState) (words : ℕ → ℕ) (h : List Placed) (all : List Books) (me : ℕ) (mine : Books) → get_elem? all me ≡ some mine → (end : ℕ) (rec : Rec)
     → MayEnter rec mine → KeepsAccounts base words h all
     → KeepsAccounts base words (record { end = end; rec = rec } ∷ h) (set all me (placing end rec mine))
-enters base words h all me mine at end rec may s = record {
+may_enter-keeps_accounts base words h all me mine at end rec may s = record {
   holder = placed-holder base words all me mine s.holder at end rec;
-  follows = λ distinct. let before = distinct-before base words h all me mine at (placing end rec mine) (λ number. omega arith) distinct in
+  follows = λ distinct. let before = distinct_jobs-before_set base words h all me mine at (placing end rec mine) (λ number. omega arith) distinct in
       by_accounts before may.accounts rec refl may.next (planned base words all me mine s.holder at may.some_job rec may.next);
 }
   where
     by_accounts : HasDistinctJobs all → IsNote rec ⊎ HoldsAccounts mine → (r : Rec) → rec ≡ r → (next : IsNext r mine) → IsPlanned (task_of mine.last) (recs_of mine.placed) r next.rest
         → AccountsFollowList base words (record { end = end; rec = r } ∷ h) (set all me (placing end r mine))
-    by_accounts distinct (inr holds) r same next p = held-enters base words h all me mine distinct s.holder (s.follows distinct) at may.some_job end r next.rest
+    by_accounts distinct (inr holds) r same next p = accounts_held-enters base words h all me mine distinct s.holder (s.follows distinct) at may.some_job end r next.rest
         (allowed base words all me mine s.holder at may.some_job).job.legs.few (amounts base words all me mine s.holder at may.some_job) holds p.unended next.plan
     by_accounts distinct (inl note) (Note txn text) same next p =
         note-enters base words h all me mine distinct s.holder (s.follows distinct) at may.some_job end txn text p.note.own p.unended p.note.cut

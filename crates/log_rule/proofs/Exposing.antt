@@ -34,16 +34,16 @@ use Rattle.log_rule.specs.Roles.{is_active}
 use Rattle.log_rule.specs.Sound.{HasSeenBoundaries, HasContiguousReservations, StoresStop, HasReadStop, IsSound}
 use Rattle.log_rule.specs.Views.{after_look, seen_exposed, saw_exposed}
 use Rattle.log_rule.specs.Words.{Words}
-use Rattle.log_rule.proofs.AccountsKept.{accounts-stay}
+use Rattle.log_rule.proofs.AccountsKept.{same_books-keeps_accounts}
 use Rattle.log_rule.proofs.Lifting.{Tells}
-use Rattle.log_rule.proofs.Loads.{looks, exposed-boundary}
-use Rattle.log_rule.proofs.MarkLooks.{marked-ready, look-tells, not_ready-at_exposed}
-use Rattle.log_rule.proofs.Members.{KeepsSeen, steps-on, exposed-on, keeps-view}
-use Rattle.log_rule.proofs.Reading.{put-same}
-use Rattle.log_rule.proofs.Roles.{HasSame, crew-same, quiet-moves, recalls-sound}
+use Rattle.log_rule.proofs.Loads.{change_sending-leads, exposed-boundary}
+use Rattle.log_rule.proofs.MarkLooks.{mark_above-first_ready, is_marked-mark_above, mark_not_above-at_exposed}
+use Rattle.log_rule.proofs.Members.{KeepsSeen, one_step_more-keeps_seen, seen_exposed-keeps_seen, keeps-view}
+use Rattle.log_rule.proofs.Reading.{put-same_value}
+use Rattle.log_rule.proofs.Roles.{HasSame, crew-set_same, rests_if_quiet-set, change_view-sound}
 use Rattle.log_rule.proofs.MachineShown.{hands_of-set, task_of-hands_of}
-use Rattle.log_rule.proofs.TrueMarks.{first-ends}
-use Rattle.log_rule.proofs.ViewChanges.{each_set}
+use Rattle.log_rule.proofs.TrueMarks.{first_ready-first_ends}
+use Rattle.log_rule.proofs.ViewChanges.{each_view-set}
 
 -- the calls of exposing have nothing of the log, and what they have at the slots stays
 module _ (groups : ℕ → Group) (seat : ℕ) where
@@ -85,20 +85,20 @@ module _ (key : Start) (words : Words) (views : List View) (me : ℕ) (v : View)
   not-flusher : v.standing.role ≡ Flusher → ⊥
   not-flusher f = active-only (ap is_active f)
 
-  pub turns-sound : (seen : Seen) (call : Call) (sending : Sending) → HasSame log.groups me v.call call
+  pub change_call-sound : (seen : Seen) (call : Call) (sending : Sending) → HasSame log.groups me v.call call
       → (IsFirstReleased log.ahead → Carries words.exposed v.call → Carries words.exposed call)
       → HasTrueEnds key.start words.exposed log call
       → HasSeenBoundaries key.start words.tail words.exposed words.durable (ranges_of log) seen → seen.stop ≡ v.seen.stop
       → LoadsForGroup log.groups seen call → AwaitsPlace call v.books → KeepsSeen log.groups v.seen seen
       → IsSound key words (set views me (record v { seen = seen; call = call; sending = sending })) log
-  turns-sound seen call sending same carries ends sees read loads awaits keeps =
-      recalls-sound key words words.stop words.crew words.account views me v new log s at same carries ends refl
-      sees (s.constants me v at) (λ off. absurd (active-only off)) (s.entries me v at) (crew-same words.crew views me v new s.roles at refl)
-      (λ f. absurd (not-flusher f)) (each_set (λ _ z. StoresStop words.stop z) views me new s.stops (λ f. absurd (not-flusher f)))
-      (each_set (λ _ z. HasReadStop words.stop z) views me new s.read_stop
+  change_call-sound seen call sending same carries ends sees read loads awaits keeps =
+      change_view-sound key words words.stop words.crew words.account views me v new log s at same carries ends refl
+      sees (s.constants me v at) (λ off. absurd (active-only off)) (s.entries me v at) (crew-set_same words.crew views me v new s.roles at refl)
+      (λ f. absurd (not-flusher f)) (each_view-set (λ _ z. StoresStop words.stop z) views me new s.stops (λ f. absurd (not-flusher f)))
+      (each_view-set (λ _ z. HasReadStop words.stop z) views me new s.read_stop
       (subst (λ n. (n ≡ 0) ⊎ (n ≡ words.stop)) (sym read) (s.read_stop me v at)))
-      (quiet-moves views me v new s.quiet at (λ _ _ _ _ f. absurd (not-flusher f)) (λ _ h. h)) (λ f. absurd (not-flusher f)) (s.unheld me v at)
-      (accounts-stay key words.account log.parts log.groups views me v new at (same.books v.books) s.accounts)
+      (rests_if_quiet-set views me v new s.quiet at (λ _ _ _ _ f. absurd (not-flusher f)) (λ _ h. h)) (λ f. absurd (not-flusher f)) (s.unheld me v at)
+      (same_books-keeps_accounts key words.account log.parts log.groups views me v new at (same.books v.books) s.accounts)
       (keeps-view key words views me v log s at new refl keeps loads awaits)
     where
       new : View
@@ -107,8 +107,8 @@ module _ (key : Start) (words : Words) (views : List View) (me : ℕ) (v : View)
 module _ (key : Start) (words : Words) (views : List View) (me : ℕ) (v : View) (log : Log) (s : IsSound key words views log)
     (at : get_elem? views me ≡ some v) where
   -- exposed is seen, as it is
-  pub sees-exposed : HasSeenBoundaries key.start words.tail words.exposed words.durable (ranges_of log) (seen_exposed words.exposed v.seen)
-  sees-exposed = let old = s.seen me v at in record {
+  pub seen_exposed-boundaries : HasSeenBoundaries key.start words.tail words.exposed words.durable (ranges_of log) (seen_exposed words.exposed v.seen)
+  seen_exposed-boundaries = let old = s.seen me v at in record {
     tail_seen = old.tail_seen;
     exposed_seen = le_refl _;
     durable_seen = old.durable_seen;
@@ -116,9 +116,9 @@ module _ (key : Start) (words : Words) (views : List View) (me : ℕ) (v : View)
   }
 
 -- in the machine's state one actor turns to another task
-pub shows-turn : (key : Start) (words : Words) (views : List View) (me : ℕ) (v new : View) (log : Log) (task : Task) → get_elem? views me ≡ some v
+pub slots_of-turned : (key : Start) (words : Words) (views : List View) (me : ℕ) (v new : View) (log : Log) (task : Task) → get_elem? views me ≡ some v
     → task_in new.call ≡ task → slots_of key words (set views me new) log ≡ turned (slots_of key words views log) me task
-shows-turn key words views me v new log task at is i = record (slots_of key words views log) {
+slots_of-turned key words views me v new log task at is i = record (slots_of key words views log) {
   hands = (hands_of-set 0 me me views v new (omega arith) at ∙ ap (λ t. with_task me t (hands_of 0 views)) is) i;
 }
 
@@ -139,17 +139,17 @@ module _ (key : Start) (me : ℕ) (v : View) where
       subst (λ (p : Call × Event). Leads key words words views
       (set views me (record v { seen = seen_exposed words.exposed v.seen; call = p.0; sending = record v.sending { exposed = words.exposed; looked = true } })) log p.1)
       (λ i. (sym kept i, sym quiet i))
-      (looks key words words.stop views me v log (seen_exposed words.exposed v.seen) (record v.sending { exposed = words.exposed; looked = true }) s at
-      (sees-exposed key words views me v log s at) (λ f. let sends = s.sends me v at f in record {
+      (change_sending-leads key words words.stop views me v log (seen_exposed words.exposed v.seen) (record v.sending { exposed = words.exposed; looked = true }) s at
+      (seen_exposed-boundaries key words views me v log s at) (λ f. let sends = s.sends me v at f in record {
         sent_to = sends.sent_to;
         read_to = omega (arith, sends.read_to, sends.loaded_seen);
         loaded_seen = le_refl _;
         boundary = boundary;
         sent_agrees = sends.sent_agrees;
         read_agrees = sends.read_agrees;
-      }) (each_set (λ _ z. StoresStop words.stop z) views me new s.stops (s.stops me v at))
-      (each_set (λ _ z. HasReadStop words.stop z) views me new s.read_stop (s.read_stop me v at)) (λ _ _ _ h. h)
-      (λ _ _ _. refl) (exposed-on log.groups words.exposed v.seen))
+      }) (each_view-set (λ _ z. StoresStop words.stop z) views me new s.stops (s.stops me v at))
+      (each_view-set (λ _ z. HasReadStop words.stop z) views me new s.read_stop (s.read_stop me v at)) (λ _ _ _ h. h)
+      (λ _ _ _. refl) (seen_exposed-keeps_seen log.groups words.exposed v.seen))
 
   -- to the machine the seat has just made a mark
   marked-is : (views : List View) (after : After) → get_elem? views me ≡ some v → v.call ≡ Marked after
@@ -163,22 +163,22 @@ module _ (key : Start) (me : ℕ) (v : View) where
       (set views me (record v { seen = seen_exposed words.exposed v.seen; call = p.0; sending = record v.sending { exposed = words.exposed; looked = true } })) log p.1)
       (λ i. (sym (ap (after_look words.exposed) is) i, sym (ap (look_event me) is) i)) record {
         after = log;
-        sound = turns-sound key words views me v log s at (λ idle. let gone : Marked after ≡ Idle = sym is ∙ idle in cc)
+        sound = change_call-sound key words views me v log s at (λ idle. let gone : Marked after ≡ Idle = sym is ∙ idle in cc)
             (seen_exposed words.exposed v.seen) (Holding words.exposed after) (record v.sending { exposed = words.exposed; looked = true })
             (subst (λ call. HasSame log.groups me call (Holding words.exposed after)) (sym is) (marked-holds log.groups me words.exposed after))
-            (λ _ _. refl) (passed-now key words log s.contiguous) (sees-exposed key words views me v log s at) refl
-            tt tt (exposed-on log.groups words.exposed v.seen);
+            (λ _ _. refl) (passed-now key words log s.contiguous) (seen_exposed-boundaries key words views me v log s at) refl
+            tt tt (seen_exposed-keeps_seen log.groups words.exposed v.seen);
         shows = (
           ap ring_stage (marked-is views after at is),
-          shows-turn key words views me v
+          slots_of-turned key words views me v
               (record v { seen = seen_exposed words.exposed v.seen; call = Holding words.exposed after; sending = record v.sending { exposed = words.exposed; looked = true } })
               log (InRing (slot_after after) (Holds words.exposed)) at refl
               ∙ ap (λ task. turned (slots_of key words views log) me (in_ring (Holds words.exposed) task)) (sym (marked-is views after at is)),
         );
       }
 
-  pub exposed-looks : (n : ℕ) → IsStep key me Exposed n n v (saw_exposed n v) (look_event me v.call)
-  exposed-looks n = record {
+  pub saw_exposed-step : (n : ℕ) → IsStep key me Exposed n n v (saw_exposed n v) (look_event me v.call)
+  saw_exposed-step n = record {
     leads = λ words views log s at is. subst
         (λ x. Leads key words (record words { exposed = x }) views (set views me (saw_exposed x v)) log (look_event me v.call)) is
         (by_call words views log s at v.call refl);
@@ -220,9 +220,9 @@ module _ (key : Start) (words : Words) (views : List View) (me : ℕ) (v : View)
       → HasTrueEnds key.start words.exposed log call → LoadsForGroup log.groups seen call → AwaitsPlace call v.books
       → IsSound key words (set views me (record v { seen = seen; call = call })) log
   turns call same carries ends loads awaits =
-      turns-sound key words views me v log s at (λ idle. let gone : Holding base may.after ≡ Idle = sym may.holding ∙ idle in cc)
+      change_call-sound key words views me v log s at (λ idle. let gone : Holding base may.after ≡ Idle = sym may.holding ∙ idle in cc)
       seen call v.sending (subst (λ old. HasSame log.groups me old call) (sym may.holding) same) (λ first c. carries first (subst (Carries words.exposed) may.holding c)) ends sees refl
-      loads awaits (steps-on log.groups v.seen seen refl refl refl refl refl refl refl)
+      loads awaits (one_step_more-keeps_seen log.groups v.seen seen refl refl refl refl refl refl refl)
 
   sound : IsSound key words (set views me (record v { seen = seen; call = next_raise base found may.after })) log
   sound = by_test (nat_lt base found) refl
@@ -232,11 +232,11 @@ module _ (key : Start) (words : Words) (views : List View) (me : ℕ) (v : View)
       by_test true high = turns (Raising base found may.after) (holding-raises log.groups me base found may.after) (λ _ c. c) (
         passed,
         λ here. subst (FirstEnds log.ahead) (ap (λ n. words.mark (n % key.ring)) (sym here))
-            (first-ends words.exposed (words.mark (words.exposed % key.ring)) log.ahead
-            (marked-ready key words views log s (subst (λ n. n < words.mark (n % key.ring)) here (ltb-true base found high)))),
+            (first_ready-first_ends words.exposed (words.mark (words.exposed % key.ring)) log.ahead
+            (mark_above-first_ready key words views log s (subst (λ n. n < words.mark (n % key.ring)) here (ltb-true base found high)))),
       ) tt tt
       by_test false low = turns (call_after may.after) (holding-ends log.groups me base may.after)
-          (λ first _. absurd ((not_ready-at_exposed key words views log s base passed below).1 first)) (ends-after key.start words.exposed log may.after)
+          (λ first _. absurd ((mark_not_above-at_exposed key words views log s base passed below).1 first)) (ends-after key.start words.exposed log may.after)
           (loads-after log.groups seen may.after) (awaits-after v.books may.after)
         where
           below : found ≤ base
@@ -247,19 +247,19 @@ module _ (key : Start) (words : Words) (views : List View) (me : ℕ) (v : View)
 
   next-task : task_in (next_raise base found may.after) ≡ InRing (slot_after may.after) (stage_after base (is_marked base old_state.log.reservations))
   next-task = by_test (nat_lt base found)
-      ∙ ap (λ b. InRing (slot_after may.after) (stage_after base b)) (sym (look-tells key words views log s base passed))
+      ∙ ap (λ b. InRing (slot_after may.after) (stage_after base b)) (sym (is_marked-mark_above key words views log s base passed))
     where
       by_test : (b : Bool) → task_in (cond b (Raising base found may.after) (call_after may.after)) ≡ InRing (slot_after may.after) (stage_after base b)
       by_test true = refl
       by_test false = task-after may.after
 
-  pub mark-looks : Leads key words words views (set views me (record v { seen = seen; call = next_raise base found may.after })) log (looks_mark me)
-  mark-looks = record {
+  pub look_mark-leads : Leads key words words views (set views me (record v { seen = seen; call = next_raise base found may.after })) log (looks_mark me)
+  look_mark-leads = record {
     after = log;
     sound = sound;
     shows = (
       ap (λ task. is_some (looks_at (ring_stage task))) task-is,
-      shows-turn key words views me v (record v { seen = seen; call = next_raise base found may.after }) log
+      slots_of-turned key words views me v (record v { seen = seen; call = next_raise base found may.after }) log
           (InRing (slot_after may.after) (stage_after base (is_marked base old_state.log.reservations))) at next-task
           ∙ ap (λ task. after_look_mark old_state me task (looks_at (ring_stage task))) (sym task-is),
     );
@@ -273,13 +273,13 @@ module _ (key : Start) (me : ℕ) (v : View) (base ring : ℕ) (same : key.ring 
         let call : next_raise base (words.mark (base % key.ring)) may.after ≡ call_with_mark n v.call =
         ap (λ m. next_raise base m may.after) found ∙ sym (ap (call_with_mark n) may.holding) in
         subst (λ (f : ℕ → ℕ). Leads key words (record words { mark = f }) views (set views me (saw_mark n v)) log (looks_mark me))
-        (λ i k. sym (put-same words.mark (base % ring) n k is) i)
+        (λ i k. sym (put-same_value words.mark (base % ring) n k is) i)
         (subst (λ (p : ℕ × ℕ × Call). Leads key words words views (set views me (record v { seen = seen_mark p.0 p.1 v.seen; call = p.2 })) log (looks_mark me))
-        (λ i. (sym (ap in_hand may.holding) i, found i, call i)) (mark-looks key words views me v base log s at may));
+        (λ i. (sym (ap in_hand may.holding) i, found i, call i)) (look_mark-leads key words views me v base log s at may));
   }
 
-  pub mark-tells : Tells key me (Mark (base % ring)) v (λ n. n ≤ LAST)
-  mark-tells words views log s at = omega (arith, s.marks.below_tail (base % ring), s.ordered.within_log)
+  pub mark-tells_le_last : Tells key me (Mark (base % ring)) v (λ n. n ≤ LAST)
+  mark-tells_le_last words views log s at = omega (arith, s.marks.below_tail (base % ring), s.ordered.within_log)
 
 -- exposed has moved: the exchange is lost, and what was found is in hand
 module _ (key : Start) (words : Words) (views : List View) (me : ℕ) (v : View) (from to : ℕ) (log : Log) (s : IsSound key words views log)
@@ -296,17 +296,17 @@ module _ (key : Start) (words : Words) (views : List View) (me : ℕ) (v : View)
   moved : words.exposed ≡ cond (words.exposed == from) (end_at from was.log.reservations) words.exposed
   moved = sym (ap (λ b. cond b (end_at from was.log.reservations) words.exposed) (ne_eqb words.exposed from differ))
 
-  pub raise-misses : Leads key words words views (set views me new) log (raises me)
-  raise-misses = record {
+  pub missed_raise-leads : Leads key words words views (set views me new) log (raises me)
+  missed_raise-leads = record {
     after = log;
-    sound = turns-sound key words views me v log s at (λ idle. let gone : Raising from to may.after ≡ Idle = sym may.raising ∙ idle in cc)
+    sound = change_call-sound key words views me v log s at (λ idle. let gone : Raising from to may.after ≡ Idle = sym may.raising ∙ idle in cc)
         (seen_exposed words.exposed v.seen) (Holding words.exposed may.after) v.sending
         (subst (λ call. HasSame log.groups me call (Holding words.exposed may.after)) (sym may.raising)
         (raising-holds log.groups me from to words.exposed may.after)) (λ _ _. refl) (passed-now key words log s.contiguous)
-        (sees-exposed key words views me v log s at) refl tt tt (exposed-on log.groups words.exposed v.seen);
+        (seen_exposed-boundaries key words views me v log s at) refl tt tt (seen_exposed-keeps_seen log.groups words.exposed v.seen);
     shows = (
       ap (λ task. is_some (raises_from (ring_stage task))) raises-from,
-      shows-turn key words views me v new log (InRing (slot_after may.after) (Holds words.exposed)) at refl
+      slots_of-turned key words views me v new log (InRing (slot_after may.after) (Holds words.exposed)) at refl
           ∙ ((λ i. record was { log = record was.log { exposed = moved i }; hands = with_task me (InRing (slot_after may.after) (Holds (moved i))) was.hands })
           ∙ ap (λ task. machine-raise was me task (raises_from (ring_stage task))) (sym raises-from)),
     );

@@ -33,32 +33,32 @@ use Rattle.log_rule.specs.Groups.{Group}
 use Rattle.log_rule.specs.Slots.{pieces_at, phase_at, KnowsGroup}
 use Rattle.log_rule.specs.Views.{entries_in, books_in, claims_in, with_unit, counted, filled}
 use Rattle.log_rule.specs.Words.{Words, put}
-use Rattle.log_rule.proofs.Boundaries.{part_size, boundary-mid}
-use Rattle.log_rule.proofs.Carriers.{carrier-set, ends-move}
-use Rattle.log_rule.proofs.AccountsKept.{accounts-stay, records-mid}
-use Rattle.log_rule.proofs.Lists.{all-mid, all-at, all-both, all-weaker, Last, picked-last}
+use Rattle.log_rule.proofs.Boundaries.{part_size, boundary-mid_replaced}
+use Rattle.log_rule.proofs.Carriers.{carrier-set, true_ends-log_changes}
+use Rattle.log_rule.proofs.AccountsKept.{same_books-keeps_accounts, records-mid_replaced}
+use Rattle.log_rule.proofs.Lists.{all-mid_replaced, all-middle, all-weaken_both, all-weaken, Last, picked-last}
 use Rattle.log_rule.proofs.Loads.{all-tile}
-use Rattle.log_rule.proofs.Members.{KeepsView, steps-on, keeps-view}
-use Rattle.log_rule.proofs.OwnedParts.{LastPart, last_part, own-last, own-others}
-use Rattle.log_rule.proofs.RangeLists.{RangesApart, last-in_two, tiles-le, laid-le, laid-mid, laid-same, laid-replaced, unreleased_in-mid, filled-here, filled-none, filled_in-mid, filled_in-one}
-use Rattle.log_rule.proofs.Roles.{crew-same, quiet-moves}
-use Rattle.log_rule.proofs.MachineShown.{hands_of-set_same, task_of-hands_of, find-range, changed-range, filled_at-others}
-use Rattle.log_rule.proofs.ViewChanges.{each_moves, each_set, seats_move, seat_at}
+use Rattle.log_rule.proofs.Members.{KeepsView, one_step_more-keeps_seen, keeps-view}
+use Rattle.log_rule.proofs.OwnedParts.{LastPart, own-last_part, own-last_replaced, own-mid_replaced_others}
+use Rattle.log_rule.proofs.RangeLists.{RangesApart, append-assoc_four, tiles-le, laid-le, laid-split, laid-same_start_size, laid-all_replaced, unreleased_in-mid_replaced, filled_inside-starting_within, filled_inside-starting_elsewhere, filled_in-mid_replaced, filled_in-range_of_part}
+use Rattle.log_rule.proofs.Roles.{crew-set_same, rests_if_quiet-set}
+use Rattle.log_rule.proofs.MachineShown.{hands_of-set_same, task_of-hands_of, find-reservation_at_base, reservation_of-range_changed, filled_at-others}
+use Rattle.log_rule.proofs.ViewChanges.{each_view-set_weaken, each_view-set, each_seat-set_weaken, each_seat-at}
 
 -- two LSNs apart by less than the ring have two words
-pub differ_in_ring : (x y size : ℕ) → x ≢ y → x < y + size → y < x + size → x % size ≢ y % size
-differ_in_ring x y size differ lo hi same =
+pub modulo-differ_if_near : (x y size : ℕ) → x ≢ y → x < y + size → y < x + size → x % size ≢ y % size
+modulo-differ_if_near x y size differ lo hi same =
     differ (elim (dec_le x y) [ yes le ↦ one_turn x y size le hi same | no gt ↦ sym (one_turn y x size (omega arith) lo (sym same)) ])
 
-pub put-here : (f : ℕ → ℕ) (at x : ℕ) → put f at x at ≡ x
-put-here f at x = ap (λ b. cond b x (f at)) (eq-eqb at at refl)
+pub put-at : (f : ℕ → ℕ) (at x : ℕ) → put f at x at ≡ x
+put-at f at x = ap (λ b. cond b x (f at)) (eq-eqb at at refl)
 
 pub put-other : (f : ℕ → ℕ) (at x k : ℕ) → k ≢ at → put f at x k ≡ f k
 put-other f at x k differ = ap (λ b. cond b x (f k)) (ne_eqb k at differ)
 
 -- no more units are filled than were reserved
-pub units-le : (part : Part) → SpellsRecord part → length part.entry.units ≤ part.entry.size
-units-le part spells = let all = length-append part.entry.units spells.rest in let is = ap length spells.units in let size = spells.size in omega arith
+pub part_units-le_size : (part : Part) → SpellsRecord part → length part.entry.units ≤ part.entry.size
+part_units-le_size part spells = let all = length-append part.entry.units spells.rest in let is = ap length spells.units in let size = spells.size in omega arith
 
 -- the next unit of the record is filled
 spells-more : (seat : ℕ) (entry : Entry) (unit : ℕ) → SpellsRecord (part_of seat false entry) → length entry.units < entry.size
@@ -79,7 +79,7 @@ spells-more seat entry unit old unfilled unit-is = by_rest old.rest old.units
 pub ranges-split : (log : Log) (before behind : List LogRange) (r : LogRange) → log.ahead ≡ before ++ r ∷ behind
     → ranges_of log ≡ (log.flushed ++ (log.exposed ++ before)) ++ r ∷ behind
 ranges-split log before behind r is =
-    ap (λ l. log.flushed ++ (log.exposed ++ l)) is ∙ last-in_two log.flushed log.exposed before (r ∷ behind)
+    ap (λ l. log.flushed ++ (log.exposed ++ l)) is ∙ append-assoc_four log.flushed log.exposed before (r ∷ behind)
 
 -- the range that the seat has to release, and what stands around it
 abbrev pub run_of : Entry → Claim
@@ -96,25 +96,25 @@ module _ (key : Start) (words : Words) (views : List View) (me : ℕ) (v : View)
     (at : get_elem? views me ≡ some v) (filling : v.call ≡ Filling entry) where
   pub held-range : HeldRange me log.ahead entry
   held-range = picked-last (owes me) claim_of log.ahead [] (run_of entry)
-      ((seat_at (HasWorkingOwner log.groups log.parts log.ahead) views me v at s.owners).owes ∙ ap claims_in filling)
+      ((each_seat-at (HasWorkingOwner log.groups log.parts log.ahead) views me v at s.owners).owes ∙ ap claims_in filling)
 
-  pub all-ranges : ranges_of log ≡ range-front me entry log held-range ++ held-range.here ∷ held-range.behind
-  all-ranges = ranges-split log held-range.before held-range.behind held-range.here held-range.split
+  pub ranges_of-around_held : ranges_of log ≡ range-front me entry log held-range ++ held-range.here ∷ held-range.behind
+  ranges_of-around_held = ranges-split log held-range.before held-range.behind held-range.here held-range.split
 
   pub tiles-held : Tiles (key.ring / 4) key.start (range-front me entry log held-range ++ held-range.here ∷ held-range.behind) words.tail
-  tiles-held = subst (λ l. Tiles (key.ring / 4) key.start l words.tail) all-ranges (all-tile _ _ _ _ _ log s.contiguous)
+  tiles-held = subst (λ l. Tiles (key.ring / 4) key.start l words.tail) ranges_of-around_held (all-tile _ _ _ _ _ log s.contiguous)
 
   pub held-base : held-range.here.base ≡ entry.start
   held-base = ap (λ (c : Claim). c.base) held-range.is
 
   -- to the machine the seat works on what it reserved
-  pub works-is : task_of me (hands_of 0 views) ≡ InRing None (Works entry.start)
-  works-is = task_of-hands_of 0 me me views v (omega arith) at ∙ ap task_in filling
+  pub filling-task_is_works : task_of me (hands_of 0 views) ≡ InRing None (Works entry.start)
+  filling-task_is_works = task_of-hands_of 0 me me views v (omega arith) at ∙ ap task_in filling
 
   -- and the machine finds the reservation there
-  pub found-held : find (is_at entry.start) (map (reservation_of log.parts) (ranges_of log)) ≡ Some (reservation_of log.parts held-range.here)
-  found-held = ap (λ (p : ℕ × List LogRange). find (is_at p.0) (map (reservation_of log.parts) p.1)) (λ i. (sym held-base i, all-ranges i))
-      ∙ find-range log.parts _ _ _ (range-front me entry log held-range) held-range.behind held-range.here tiles-held
+  pub find-held_reservation : find (is_at entry.start) (map (reservation_of log.parts) (ranges_of log)) ≡ Some (reservation_of log.parts held-range.here)
+  find-held_reservation = ap (λ (p : ℕ × List LogRange). find (is_at p.0) (map (reservation_of log.parts) p.1)) (λ i. (sym held-base i, ranges_of-around_held i))
+      ∙ find-reservation_at_base log.parts _ _ _ (range-front me entry log held-range) held-range.behind held-range.here tiles-held
 
 -- the one call has reserved the entry, and the other has it with one more unit filled, and all else that the one has
 pub record FillsEntry (groups : ℕ → Group) (seat : ℕ) (entry : Entry) (unit : ℕ) (old new : Call) : Type 0 where
@@ -144,10 +144,10 @@ module _ (key : Start) (words : Words) (views : List View) (me : ℕ) (v : View)
   new = record v { seen = counted v.seen; call = call }
 
   mine : HasWorkingOwner log.groups log.parts log.ahead me v
-  mine = seat_at (HasWorkingOwner log.groups log.parts log.ahead) views me v at s.owners
+  mine = each_seat-at (HasWorkingOwner log.groups log.parts log.ahead) views me v at s.owners
 
-  pub last : LastPart me log.parts (parts_of me true v.entries) entry
-  last = last_part me log.parts (parts_of me true v.entries) entry
+  pub filling-last_part : LastPart me log.parts (parts_of me true v.entries) entry
+  filling-last_part = own-last_part me log.parts (parts_of me true v.entries) entry
       (mine.owns ∙ ap (λ entries. parts_of me true v.entries ++ parts_of me false entries) fill.entries)
 
   abbrev old_part : Part
@@ -158,21 +158,21 @@ module _ (key : Start) (words : Words) (views : List View) (me : ℕ) (v : View)
 
   abbrev pub after : Log
   after = record {
-    parts = last.before ++ part ∷ last.behind;
+    parts = filling-last_part.before ++ part ∷ filling-last_part.behind;
     flushed = log.flushed;
     exposed = log.exposed;
     ahead = log.ahead;
     groups = log.groups;
   }
 
-  laid : Laid key.start (last.before ++ old_part ∷ last.behind) words.tail
-  laid = subst (λ l. Laid key.start l words.tail) last.split s.contiguous.parts
+  laid : Laid key.start (filling-last_part.before ++ old_part ∷ filling-last_part.behind) words.tail
+  laid = subst (λ l. Laid key.start l words.tail) filling-last_part.split s.contiguous.parts
 
-  all-old : (P : Part → Type 0) → AllByRecursion P log.parts → AllByRecursion P (last.before ++ old_part ∷ last.behind)
-  all-old P = subst (AllByRecursion P) last.split
+  all-old : (P : Part → Type 0) → AllByRecursion P log.parts → AllByRecursion P (filling-last_part.before ++ old_part ∷ filling-last_part.behind)
+  all-old P = subst (AllByRecursion P) filling-last_part.split
 
   below_tail : entry.start + entry.size ≤ words.tail
-  below_tail = laid-le _ _ last.behind (laid-mid _ _ last.before last.behind old_part laid).2
+  below_tail = laid-le _ _ filling-last_part.behind (laid-split _ _ filling-last_part.before filling-last_part.behind old_part laid).2
 
   -- a range that is not released is not below exposed
   above_exposed : words.exposed ≤ entry.start
@@ -180,7 +180,7 @@ module _ (key : Start) (words : Words) (views : List View) (me : ℕ) (v : View)
       (dec_le words.exposed entry.start) [
         | yes le ↦ le
         | no gt ↦ absurd (true≢false
-            (sym (all-at (IsReleasedBelow words.exposed) last.before last.behind old_part (all-old (IsReleasedBelow words.exposed) s.below.below)
+            (sym (all-middle (IsReleasedBelow words.exposed) filling-last_part.before filling-last_part.behind old_part (all-old (IsReleasedBelow words.exposed) s.below.below)
             (omega arith))))
       ]
 
@@ -191,31 +191,31 @@ module _ (key : Start) (words : Words) (views : List View) (me : ℕ) (v : View)
   stands-part i below hi = let lt : i < length entry.units + 1 =
       subst (λ (n : ℕ). i < n) (length-append entry.units (unit ∷ [])) below in dite (ℕ_discrete i (length entry.units))
       (λ same. ap (λ (n : ℕ). ring' ((entry.start + n) % key.ring)) same
-      ∙ (put-here words.ring next unit
+      ∙ (put-at words.ring next unit
       ∙ sym (ap (λ (n : ℕ). get_or (entry.units ++ unit ∷ []) n 0) same ∙ get_or-append_seam entry.units unit [] 0)))
       (λ other. let lt : i < length entry.units = omega arith in
       put-other words.ring next unit ((entry.start + i) % key.ring)
-      (differ_in_ring (entry.start + i) (entry.start + length entry.units) key.ring (λ e. omega arith) (omega arith)
+      (modulo-differ_if_near (entry.start + i) (entry.start + length entry.units) key.ring (λ e. omega arith) (omega arith)
       (omega (arith, unfilled, below_tail, above_durable, s.ordered.within_ring)))
-      ∙ (all-at (StandsInRing key.ring words.durable words.ring) last.before last.behind old_part
+      ∙ (all-middle (StandsInRing key.ring words.durable words.ring) filling-last_part.before filling-last_part.behind old_part
       (all-old (StandsInRing key.ring words.durable words.ring) s.filled.stands) i lt hi ∙ sym (get_or-append entry.units (unit ∷ []) 0 i lt)))
 
   stands-others : (q : Part) → SpellsRecord q × StandsInRing key.ring words.durable words.ring q → q.entry.start + q.entry.size ≤ words.tail
       → Rattle.log_rule.proofs.RangeLists.Apart q old_part → StandsInRing key.ring words.durable ring' q
-  stands-others q h hi apart i below low = let fits = units-le q h.0 in
+  stands-others q h hi apart i below low = let fits = part_units-le_size q h.0 in
       put-other words.ring next unit ((q.entry.start + i) % key.ring)
-      (differ_in_ring (q.entry.start + i) (entry.start + length entry.units) key.ring
+      (modulo-differ_if_near (q.entry.start + i) (entry.start + length entry.units) key.ring
       (λ e. ⊎_elim (λ a. omega (arith, a, fits, below, e)) (λ b. omega (arith, b, e, unfilled)) apart)
       (omega (arith, hi, fits, below, above_durable, s.ordered.within_ring)) (omega (arith, low, below_tail, unfilled, s.ordered.within_ring)))
       ∙ h.1 i below low
 
   spelled-part : SpellsRecord part
-  spelled-part = spells-more me entry unit (all-at SpellsRecord last.before last.behind old_part (all-old SpellsRecord s.filled.spelled)) unfilled unit-is
+  spelled-part = spells-more me entry unit (all-middle SpellsRecord filling-last_part.before filling-last_part.behind old_part (all-old SpellsRecord s.filled.spelled)) unfilled unit-is
 
   -- the units that the flusher's seat has lie below exposed
   agrees : (base : ℕ) (units : List ℕ) → base + length units ≤ words.exposed → AllByRecursion (AgreesFrom base units) log.parts
       → AllByRecursion (AgreesFrom base units) after.parts
-  agrees base units below all = all-mid (AgreesFrom base units) last.before last.behind old_part part
+  agrees base units below all = all-mid_replaced (AgreesFrom base units) filling-last_part.before filling-last_part.behind old_part part
       (λ i _ _ hi. absurd (omega (arith, hi, below, above_exposed))) (all-old (AgreesFrom base units) all)
 
   sends : (z : View) → SendsIfFlusher key.start words.exposed words.durable log z → SendsIfFlusher key.start words.exposed words.durable after z
@@ -229,42 +229,42 @@ module _ (key : Start) (words : Words) (views : List View) (me : ℕ) (v : View)
   }
 
   kept : KeepsView log.groups views me new
-  kept = keeps-view key words views me v log s at new refl (steps-on log.groups v.seen (counted v.seen) refl refl refl refl refl refl refl)
+  kept = keeps-view key words views me v log s at new refl (one_step_more-keeps_seen log.groups v.seen (counted v.seen) refl refl refl refl refl refl refl)
       (fill.loads (counted v.seen)) (fill.awaits v.books)
 
-  pub sound : IsSound key (record words { ring = ring' }) (set views me new) after
-  sound = record {
+  pub fill-sound : IsSound key (record words { ring = ring' }) (set views me new) after
+  fill-sound = record {
     ordered = s.ordered;
-    seen = each_set (λ _ z. HasSeenBoundaries key.start words.tail words.exposed words.durable (ranges_of log) z.seen) views me new s.seen
+    seen = each_view-set (λ _ z. HasSeenBoundaries key.start words.tail words.exposed words.durable (ranges_of log) z.seen) views me new s.seen
         (let old = s.seen me v at in
         record { tail_seen = old.tail_seen; exposed_seen = old.exposed_seen; durable_seen = old.durable_seen; boundaries = old.boundaries });
     contiguous = record {
       to_durable = s.contiguous.to_durable;
       to_exposed = s.contiguous.to_exposed;
       to_tail = s.contiguous.to_tail;
-      parts = laid-same _ _ last.before last.behind old_part part refl refl laid;
-      remaining = all-weaker (CountsRemaining log.parts) (CountsRemaining after.parts) log.ahead (λ q counts.
-          let m = unreleased_in-mid q.base q.size last.before last.behind old_part part in
-          let g : unreleased_in q.base q.size (last.before ++ old_part ∷ last.behind) ≡ unreleased_in q.base q.size log.parts =
-          ap (unreleased_in q.base q.size) (sym last.split) in
+      parts = laid-same_start_size _ _ filling-last_part.before filling-last_part.behind old_part part refl refl laid;
+      remaining = all-weaken (CountsRemaining log.parts) (CountsRemaining after.parts) log.ahead (λ q counts.
+          let m = unreleased_in-mid_replaced q.base q.size filling-last_part.before filling-last_part.behind old_part part in
+          let g : unreleased_in q.base q.size (filling-last_part.before ++ old_part ∷ filling-last_part.behind) ≡ unreleased_in q.base q.size log.parts =
+          ap (unreleased_in q.base q.size) (sym filling-last_part.split) in
           let i : inside q.base q.size (with_unit unit entry) ≡ inside q.base q.size entry =
           refl in omega (arith, m, g, i, counts)) s.contiguous.remaining;
-      aligned = all-weaker (EndsWithPart key.start log.parts) (EndsWithPart key.start after.parts) (ranges_of log)
-          (λ r b. boundary-mid part_size key.start (r.base + r.size) last.before last.behind old_part part refl
-          (subst (λ l. IsTilingBoundary part_size key.start l (r.base + r.size)) last.split b)) s.contiguous.aligned;
+      aligned = all-weaken (EndsWithPart key.start log.parts) (EndsWithPart key.start after.parts) (ranges_of log)
+          (λ r b. boundary-mid_replaced part_size key.start (r.base + r.size) filling-last_part.before filling-last_part.behind old_part part refl
+          (subst (λ l. IsTilingBoundary part_size key.start l (r.base + r.size)) filling-last_part.split b)) s.contiguous.aligned;
     };
     filled = record {
-      spelled = all-mid SpellsRecord last.before last.behind old_part part spelled-part (all-old SpellsRecord s.filled.spelled);
-      stands = laid-replaced (λ q. SpellsRecord q × StandsInRing key.ring words.durable words.ring q)
-          (StandsInRing key.ring words.durable ring') _ _ last.before last.behind old_part part laid
-          (all-both SpellsRecord (StandsInRing key.ring words.durable words.ring) (λ q. SpellsRecord q × StandsInRing key.ring words.durable words.ring q) _
+      spelled = all-mid_replaced SpellsRecord filling-last_part.before filling-last_part.behind old_part part spelled-part (all-old SpellsRecord s.filled.spelled);
+      stands = laid-all_replaced (λ q. SpellsRecord q × StandsInRing key.ring words.durable words.ring q)
+          (StandsInRing key.ring words.durable ring') _ _ filling-last_part.before filling-last_part.behind old_part part laid
+          (all-weaken_both SpellsRecord (StandsInRing key.ring words.durable words.ring) (λ q. SpellsRecord q × StandsInRing key.ring words.durable words.ring q) _
           (λ q a b. (a, b)) (all-old SpellsRecord s.filled.spelled) (all-old (StandsInRing key.ring words.durable words.ring) s.filled.stands))
           stands-part (λ q h _ _ hi apart. stands-others q h hi apart);
     };
     below = record {
-      full = all-mid IsFullIfReleased last.before last.behind old_part part (λ e. absurd (true≢false (sym e)))
+      full = all-mid_replaced IsFullIfReleased filling-last_part.before filling-last_part.behind old_part part (λ e. absurd (true≢false (sym e)))
           (all-old IsFullIfReleased s.below.full);
-      below = all-mid (IsReleasedBelow words.exposed) last.before last.behind old_part part (λ low. absurd (omega (arith, above_exposed)))
+      below = all-mid_replaced (IsReleasedBelow words.exposed) filling-last_part.before filling-last_part.behind old_part part (λ low. absurd (omega (arith, above_exposed)))
           (all-old (IsReleasedBelow words.exposed) s.below.below);
       ranges = s.below.ranges;
     };
@@ -272,12 +272,12 @@ module _ (key : Start) (words : Words) (views : List View) (me : ℕ) (v : View)
     slots = s.slots;
     marks = record { current = s.marks.current; true_marks = s.marks.true_marks; below_tail = s.marks.below_tail };
     carried = λ first. carrier-set words.exposed views me v new at (fill.carries words.exposed) (s.carried first);
-    ends = each_moves (λ _ z. HasTrueEnds key.start words.exposed log z.call) (λ _ z. HasTrueEnds key.start words.exposed after z.call) views me new
-        s.ends (fill.ends key.start words.exposed after) (λ _ z _ _. ends-move key.start words.exposed log after z.call (λ _ b. b) (λ _ e. e));
-    owners = seats_move (HasWorkingOwner log.groups log.parts log.ahead) (HasWorkingOwner after.groups after.parts after.ahead) views me v new at s.owners
+    ends = each_view-set_weaken (λ _ z. HasTrueEnds key.start words.exposed log z.call) (λ _ z. HasTrueEnds key.start words.exposed after z.call) views me new
+        s.ends (fill.ends key.start words.exposed after) (λ _ z _ _. true_ends-log_changes key.start words.exposed log after z.call (λ _ b. b) (λ _ e. e));
+    owners = each_seat-set_weaken (HasWorkingOwner log.groups log.parts log.ahead) (HasWorkingOwner after.groups after.parts after.ahead) views me v new at s.owners
         record {
-          owns = own-last me last.before last.behind (parts_of me true v.entries) false
-              (with_unit unit entry) last.own_before last.none_behind
+          owns = own-last_replaced me filling-last_part.before filling-last_part.behind (parts_of me true v.entries) false
+              (with_unit unit entry) filling-last_part.own_before filling-last_part.none_behind
               ∙ ap (λ entries. parts_of me true v.entries ++ parts_of me false entries) (sym fill.filled);
           owes = mine.owes ∙ sym fill.claims;
           joins = λ slot. mine.joins slot ∙ sym (fill.pieces slot);
@@ -285,45 +285,45 @@ module _ (key : Start) (words : Words) (views : List View) (me : ℕ) (v : View)
           knows = fill.knows mine.knows;
         }
         (λ j z differ h. record {
-          owns = own-others me j last.before last.behind false false entry (with_unit unit entry) differ
-              ∙ (ap (own j) (sym last.split) ∙ h.owns);
+          owns = own-mid_replaced_others me j filling-last_part.before filling-last_part.behind false false entry (with_unit unit entry) differ
+              ∙ (ap (own j) (sym filling-last_part.split) ∙ h.owns);
           owes = h.owes;
           joins = h.joins;
           leads = h.leads;
           knows = h.knows;
         });
-    constants = each_set (λ _ z. HasConstants key z) views me new s.constants (s.constants me v at);
-    resting = each_set (λ _ z. RestsUnlessActive z) views me new s.resting (λ off. absurd (fill.busy (s.resting me v at off)));
-    entries = each_set (λ _ z. OwnsIfWorker z) views me new s.entries (s.entries me v at);
-    roles = crew-same words.crew views me v new s.roles at refl;
-    sends = each_moves (λ _ z. SendsIfFlusher key.start words.exposed words.durable log z)
+    constants = each_view-set (λ _ z. HasConstants key z) views me new s.constants (s.constants me v at);
+    resting = each_view-set (λ _ z. RestsUnlessActive z) views me new s.resting (λ off. absurd (fill.busy (s.resting me v at off)));
+    entries = each_view-set (λ _ z. OwnsIfWorker z) views me new s.entries (s.entries me v at);
+    roles = crew-set_same words.crew views me v new s.roles at refl;
+    sends = each_view-set_weaken (λ _ z. SendsIfFlusher key.start words.exposed words.durable log z)
         (λ _ z. SendsIfFlusher key.start words.exposed words.durable after z) views me new s.sends (sends v (s.sends me v at)) (λ _ z _ _. sends z);
-    stops = each_set (λ _ z. StoresStop words.stop z) views me new s.stops (s.stops me v at);
-    read_stop = each_set (λ _ z. HasReadStop words.stop z) views me new s.read_stop (s.read_stop me v at);
-    quiet = quiet-moves views me v new s.quiet at (λ _ _ _ h. h) (λ _ h. h);
-    looked = each_set (λ _ z. LookedIfQuiet words.exposed z) views me new s.looked (s.looked me v at);
-    unheld = each_set (λ _ z. HoldsIfActive z) views me new s.unheld (s.unheld me v at);
-    accounts = accounts-stay key words.account after.parts log.groups views me v new at
+    stops = each_view-set (λ _ z. StoresStop words.stop z) views me new s.stops (s.stops me v at);
+    read_stop = each_view-set (λ _ z. HasReadStop words.stop z) views me new s.read_stop (s.read_stop me v at);
+    quiet = rests_if_quiet-set views me v new s.quiet at (λ _ _ _ h. h) (λ _ h. h);
+    looked = each_view-set (λ _ z. LookedIfQuiet words.exposed z) views me new s.looked (s.looked me v at);
+    unheld = each_view-set (λ _ z. HoldsIfActive z) views me new s.unheld (s.unheld me v at);
+    accounts = same_books-keeps_accounts key words.account after.parts log.groups views me v new at
         (fill.books v.books)
         (subst (λ records. KeepsAccounts (base_of key) words.account (history_from key.start [] records) (map (books_of log.groups) views))
-        (ap records_in last.split ∙ sym (records-mid last.before last.behind old_part part refl)) s.accounts);
+        (ap records_in filling-last_part.split ∙ sym (records-mid_replaced filling-last_part.before filling-last_part.behind old_part part refl)) s.accounts);
     in_group = s.in_group;
-    loads = each_set (λ _ z. LoadsForGroup log.groups z.seen z.call) views me new s.loads kept.loads;
-    awaits = each_set (λ _ z. AwaitsPlace z.call z.books) views me new s.awaits kept.awaits;
-    totals = each_set (λ _ z. (slot : ℕ) → HasTotalOfWorkers (log.groups slot) z) views me new s.totals kept.totals;
+    loads = each_view-set (λ _ z. LoadsForGroup log.groups z.seen z.call) views me new s.loads kept.loads;
+    awaits = each_view-set (λ _ z. AwaitsPlace z.call z.books) views me new s.awaits kept.awaits;
+    totals = each_view-set (λ _ z. (slot : ℕ) → HasTotalOfWorkers (log.groups slot) z) views me new s.totals kept.totals;
     heard = kept.heard;
-    lasts = each_set (λ _ z. HasSeenLast z) views me new s.lasts kept.last;
+    lasts = each_view-set (λ _ z. HasSeenLast z) views me new s.lasts kept.last;
   }
 
   counts : (base size : ℕ)
       → filled_in base size after.parts + filled_inside base size entry ≡ filled_in base size log.parts + filled_inside base size (with_unit unit entry)
   counts base size =
-      let m = filled_in-mid base size last.before last.behind old_part part in
-      let g : filled_in base size (last.before ++ old_part ∷ last.behind) ≡ filled_in base size log.parts =
-      ap (filled_in base size) (sym last.split) in omega (arith, m, g)
+      let m = filled_in-mid_replaced base size filling-last_part.before filling-last_part.behind old_part part in
+      let g : filled_in base size (filling-last_part.before ++ old_part ∷ filling-last_part.behind) ≡ filled_in base size log.parts =
+      ap (filled_in base size) (sym filling-last_part.split) in omega (arith, m, g)
 
-  pub as-filled : filled_in entry.start entry.size log.parts ≡ length entry.units
-  as-filled = ap (filled_in entry.start entry.size) last.split ∙ filled_in-one _ _ last.before last.behind old_part laid
+  pub filled_in-own_entry : filled_in entry.start entry.size log.parts ≡ length entry.units
+  filled_in-own_entry = ap (filled_in entry.start entry.size) filling-last_part.split ∙ filled_in-range_of_part _ _ filling-last_part.before filling-last_part.behind old_part laid
 
   -- the range in which the entry lies
   module _ {test : LogRange → Bool} {claim : Claim} (held : Last test claim_of log.ahead [] claim) (low : claim.base ≤ entry.start)
@@ -340,20 +340,20 @@ module _ (key : Start) (words : Words) (views : List View) (me : ℕ) (v : View)
     -- the range has one unit more, and what lies elsewhere as many as before
     one-more : filled_in held.here.base held.here.size after.parts ≡ filled_in held.here.base held.here.size log.parts + 1
     one-more =
-        let here = filled-here held.here.base held.here.size entry (omega (arith, base-is, low)) (omega (arith, base-is, size-is, high)) in
-        let now = filled-here held.here.base held.here.size (with_unit unit entry) (omega (arith, base-is, low)) (omega (arith, base-is, size-is, high)) in
+        let here = filled_inside-starting_within held.here.base held.here.size entry (omega (arith, base-is, low)) (omega (arith, base-is, size-is, high)) in
+        let now = filled_inside-starting_within held.here.base held.here.size (with_unit unit entry) (omega (arith, base-is, low)) (omega (arith, base-is, size-is, high)) in
         omega (arith, counts held.here.base held.here.size, here, now, length-append entry.units (unit ∷ []))
 
     elsewhere : (q : LogRange) → RangesApart q held.here → filled_in q.base q.size after.parts ≡ filled_in q.base q.size log.parts
     elsewhere q apart =
         let out : (entry.start < q.base) ⊎ (q.base + q.size ≤ entry.start) =
         ⊎_elim (λ before. inr (omega (arith, before, base-is, low))) (λ behind. inl (omega (arith, behind, base-is, size-is, high))) apart in
-        omega (arith, counts q.base q.size, filled-none q.base q.size entry out, filled-none q.base q.size (with_unit unit entry) out)
+        omega (arith, counts q.base q.size, filled_inside-starting_elsewhere q.base q.size entry out, filled_inside-starting_elsewhere q.base q.size (with_unit unit entry) out)
 
-    pub reservations : map (reservation_of after.parts) (ranges_of after)
+    pub reservations-filled_at : map (reservation_of after.parts) (ranges_of after)
         ≡ map (filled_at claim.base) (map (reservation_of log.parts) (ranges_of log))
-    reservations = ap (map (reservation_of after.parts)) split
-        ∙ (changed-range log.parts after.parts (filled_at held.here.base) held.here held.here (filled_at-others held.here.base) elsewhere
+    reservations-filled_at = ap (map (reservation_of after.parts)) split
+        ∙ (reservation_of-range_changed log.parts after.parts (filled_at held.here.base) held.here held.here (filled_at-others held.here.base) elsewhere
         (λ i. record {
           base = held.here.base;
           size = held.here.size;
@@ -401,23 +401,23 @@ module _ (key : Start) (words : Words) (views : List View) (me : ℕ) (v : View)
 
   as-many : filled_in held.here.base held.here.size log.parts ≡ length entry.units
   as-many = (λ i. filled_in (ap (λ (c : Claim). c.base) held.is i) (ap (λ (c : Claim). c.size) held.is i) log.parts)
-      ∙ as-filled key words views me v entry unit log s at run fill unfilled unit-is
+      ∙ filled_in-own_entry key words views me v entry unit log s at run fill unfilled unit-is
 
   shown : map (reservation_of (after key words views me v entry unit log s at run fill unfilled unit-is).parts) (ranges_of log)
       ≡ map (filled_at entry.start) (map (reservation_of log.parts) (ranges_of log))
-  shown = reservations key words views me v entry unit log s at run fill unfilled unit-is held (omega arith) (omega (arith, unfilled))
+  shown = reservations-filled_at key words views me v entry unit log s at run fill unfilled unit-is held (omega arith) (omega (arith, unfilled))
 
   works : task_of me (hands_of 0 views) ≡ InRing None (Works entry.start)
-  works = works-is key words views me v entry log s at filling
+  works = filling-task_is_works key words views me v entry log s at filling
 
-  pub ring-fills : Leads key words (record words { ring = put words.ring ((entry.start + length entry.units) % key.ring) unit }) views
+  pub fill-leads : Leads key words (record words { ring = put words.ring ((entry.start + length entry.units) % key.ring) unit }) views
       (set views me (record v { seen = counted v.seen; call = run })) log (fills me)
-  ring-fills = record {
+  fill-leads = record {
     after = after key words views me v entry unit log s at run fill unfilled unit-is;
-    sound = sound key words views me v entry unit log s at run fill unfilled unit-is;
+    sound = fill-sound key words views me v entry unit log s at run fill unfilled unit-is;
     shows = (
       subst (MayFillNow old_state) (sym works)
-          (subst (λ o. IsSomeAnd o HasUnfilled) (sym (found-held key words views me v entry log s at filling))
+          (subst (λ o. IsSomeAnd o HasUnfilled) (sym (find-held_reservation key words views me v entry log s at filling))
           (omega (arith, as-many, ap (λ (c : Claim). c.size) held.is, unfilled))),
       (λ i. record old_state {
         log = record old_state.log { reservations = shown i };
@@ -436,5 +436,5 @@ run-step key me v at ring unit same may n = record {
       ap (Rattle.log_rule.specs.Views.call_with_unit unit) (sym may.filling) in
       subst (λ (x : ℕ × Rattle.log_rule.specs.declared.view.Call.Call). Leads key words (record words { ring = put words.ring x.0 unit }) views
       (set views me (record v { seen = counted v.seen; call = x.1 })) log (fills me))
-      (λ i. (index i, call i)) (ring-fills key words views me v may.entry unit log s here may.filling may.unfilled may.unit_is);
+      (λ i. (index i, call i)) (fill-leads key words views me v may.entry unit log s here may.filling may.unfilled may.unit_is);
 }

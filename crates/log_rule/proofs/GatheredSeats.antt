@@ -14,14 +14,14 @@ use Rattle.log_rule.specs.declared.view.TakenJob.{TakenJob}
 use Rattle.log_rule.specs.declared.view.Books.{Books}
 use Rattle.log_rule.specs.Books.{no_books, task_of, times_held, times_taken, merging}
 use Rattle.log_rule.specs.Accounts.{Everywhere, summed, takers, IsAsTaken, HasDistinctJobs, WentBack, AccountsFollowList, KeepsAccounts}
-use Rattle.log_rule.proofs.Bookings.{everywhere-set, everywhere-push, everywhere-one, summed-set, summed-push, all-taken, one-taker, none-if, times_taken-append}
+use Rattle.log_rule.proofs.Bookings.{everywhere-set, everywhere-push, everywhere-singleton, summed-set, summed-push, all-weaken_if_taken, distinct_jobs-numbers_differ, cond-zero_if_unequal, times_taken-append}
 use Rattle.log_rule.proofs.Lists.{all-append}
 use Rattle.log_rule.proofs.Taking.{RunsPartly, Lasts, Ties, FollowsAll, AllWentBack, LastIsOne}
 
 -- a seat that has nothing is added
 module _ (base : BaseState) (words : ℕ → ℕ) (h : List Placed) (all : List Books) where
-  pub adds-nobody : KeepsAccounts base words h all → KeepsAccounts base words h (all ++ no_books ∷ [])
-  adds-nobody s = record {
+  pub add_nobody-keeps_accounts : KeepsAccounts base words h all → KeepsAccounts base words h (all ++ no_books ∷ [])
+  add_nobody-keeps_accounts s = record {
     holder = record {
       few = s.holder.few;
       counts = λ account below. let sum = summed-push (λ (books : Books). times_held account books.held) all no_books in let count = s.holder.counts account below in omega arith;
@@ -59,11 +59,11 @@ module _ (base : BaseState) (words : ℕ → ℕ) (h : List Placed) (all : List 
     every : (P : Books → Type 0) → Everywhere P all → P both → P no_books → Everywhere P joined
     every P old mine none = everywhere-set P (set all i both) j no_books (everywhere-set P all i both old mine) none
 
-    pub distinct-joined : HasDistinctJobs joined → HasDistinctJobs all
-    distinct-joined distinct number = let same = takers-joined number in let one = distinct number in omega arith
+    pub distinct_jobs-before_join : HasDistinctJobs joined → HasDistinctJobs all
+    distinct_jobs-before_join distinct number = let same = takers-joined number in let one = distinct number in omega arith
 
-    pub joins : y.held ≡ [] → KeepsAccounts base words h all → KeepsAccounts base words h joined
-    joins none-held s = record {
+    pub join-keeps_accounts : y.held ≡ [] → KeepsAccounts base words h all → KeepsAccounts base words h joined
+    join-keeps_accounts none-held s = record {
       holder = record {
         few = s.holder.few;
         counts = λ account below. let count = s.holder.counts account below in let sum = sums (λ (books : Books). times_held account books.held) in
@@ -73,14 +73,14 @@ module _ (base : BaseState) (words : ℕ → ℕ) (h : List Placed) (all : List 
             (λ some_job. let old = s.holder.last i x here some_job in let append = times_taken-append x.last.number x.jobs y.jobs in (old.0, (let has = old.1 in omega arith)))
             (λ some_job. absurd (omega arith));
       };
-      follows = λ distinct. let before = distinct-joined distinct in let f = s.follows before in record {
+      follows = λ distinct. let before = distinct_jobs-before_join distinct in let f = s.follows before in record {
         lawful = f.lawful;
         range = f.range;
         placed = every (Ties h) f.placed (f.placed i x here) (λ some_job. absurd (omega arith));
         last = every Lasts f.last
             (λ some_job. all-append (λ (job : TakenJob). job.number ≡ x.last.number → job.job ≡ x.last.job) x.jobs y.jobs (f.last i x here some_job)
-            (all-taken (λ _. Unit {0}) (λ (job : TakenJob). job.number ≡ x.last.number → job.job ≡ x.last.job) y.jobs (anything y.jobs)
-            (λ job has _ same. absurd (one-taker all i j x y x.last.number job.number before here there differ (s.holder.last i x here some_job).1 has (sym same)))))
+            (all-weaken_if_taken (λ _. Unit {0}) (λ (job : TakenJob). job.number ≡ x.last.number → job.job ≡ x.last.job) y.jobs (anything y.jobs)
+            (λ job has _ same. absurd (distinct_jobs-numbers_differ all i j x y x.last.number job.number before here there differ (s.holder.last i x here some_job).1 has (sym same)))))
             (λ some_job. absurd (omega arith));
         free = f.free;
         held = every (FollowsAll base h) f.held (f.held i x here) tt;
@@ -95,36 +95,36 @@ module _ (base : BaseState) (words : ℕ → ℕ) (h : List Placed) (all : List 
         anything (job ∷ jobs) = (tt, anything jobs)
 
 -- at first nothing is held or taken, and the words are those of the base state
-pub starts-free : (base : BaseState) (words : ℕ → ℕ) → base.accounts ≤ MOST_ACCOUNTS
+pub start-keeps_accounts : (base : BaseState) (words : ℕ → ℕ) → base.accounts ≤ MOST_ACCOUNTS
     → ((account : ℕ) → account < base.accounts → (held_in (words account) ≡ false) × (balance_in (words account) ≡ base.balance account)
     × (last_commit_in (words account) ≡ base.last_commit account) × IsBalance (base.balance account))
     → KeepsAccounts base words [] (no_books ∷ [])
-starts-free base words few first = record {
+start-keeps_accounts base words few first = record {
   holder = record {
     few = few;
     counts = λ account below. sym (ap (λ b. cond {A = ℕ} b 1 0) (first account below).0);
-    taken = everywhere-one (λ (books : Books). AllByRecursion (IsAsTaken base.accounts words) books.held) no_books tt;
-    last = everywhere-one (LastIsOne base.accounts) no_books (λ some_job. absurd (omega arith));
+    taken = everywhere-singleton (λ (books : Books). AllByRecursion (IsAsTaken base.accounts words) books.held) no_books tt;
+    last = everywhere-singleton (LastIsOne base.accounts) no_books (λ some_job. absurd (omega arith));
   };
   follows = λ distinct. record {
     lawful = tt;
     range = λ account below. (base.balance account, (first account below).3, refl);
-    placed = everywhere-one (Ties []) no_books (λ some_job. absurd (omega arith));
-    last = everywhere-one Lasts no_books (λ some_job. absurd (omega arith));
+    placed = everywhere-singleton (Ties []) no_books (λ some_job. absurd (omega arith));
+    last = everywhere-singleton Lasts no_books (λ some_job. absurd (omega arith));
     free = λ account below free. let f = first account below in let is = f.1 in record { balance = omega arith; last_commit = sym f.2 };
-    held = everywhere-one (FollowsAll base []) no_books tt;
-    given = everywhere-one (AllWentBack base []) no_books tt;
-    runs = everywhere-one (RunsPartly base []) no_books tt;
+    held = everywhere-singleton (FollowsAll base []) no_books tt;
+    given = everywhere-singleton (AllWentBack base []) no_books tt;
+    runs = everywhere-singleton (RunsPartly base []) no_books tt;
     others = λ number none. refl;
   };
 }
 
 -- Where these are all jobs that seats took, they are all that the list has, each run whole or cut short.
-pub all-jobs_run : (base : BaseState) (words : ℕ → ℕ) (h : List Placed) (all : List Books) (jobs : List TakenJob)
+pub all_jobs-partly_serial : (base : BaseState) (words : ℕ → ℕ) (h : List Placed) (all : List Books) (jobs : List TakenJob)
     → AllByRecursion (λ (taken : TakenJob). IsRunWhole base h (task_of taken) ⊎ IsCutShort h (task_of taken)) jobs
     → ((number : ℕ) → takers number all ≡ times_taken number jobs) → AccountsFollowList base words h all
     → IsPartlySerialAfter base (map task_of jobs) h
-all-jobs_run base words h all jobs runs whole s = record {
+all_jobs-partly_serial base words h all jobs runs whole s = record {
   each = along jobs runs;
   others = λ txn none. s.others txn (whole txn ∙ untaken txn jobs none);
 }
@@ -136,4 +136,4 @@ all-jobs_run base words h all jobs runs whole s = record {
 
     untaken : (txn : ℕ) (jobs : List TakenJob) → AllByRecursion (λ (task : NumberedTransfer). task.number ≢ txn) (map task_of jobs) → times_taken txn jobs ≡ 0
     untaken txn [] none = refl
-    untaken txn (job ∷ jobs) none = let zero' = none-if job.number txn none.0 in let more = untaken txn jobs none.1 in omega arith
+    untaken txn (job ∷ jobs) none = let zero' = cond-zero_if_unequal job.number txn none.0 in let more = untaken txn jobs none.1 in omega arith

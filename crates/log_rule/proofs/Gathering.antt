@@ -28,7 +28,7 @@ use Rattle.log_rule.specs.Accounts.{summed, holders, takers, HasDistinctJobs, We
 use Rattle.log_rule.specs.Books.{task_of, times_held, times_taken}
 use Rattle.log_rule.specs.ClosedLog.{HasHeardOfWorkers, IsGathered, IsLedger, HasLedger, ReadsRows, records_of, history_of, in_use}
 use Rattle.log_rule.specs.Layout.{Account, Slot, index_of}
-use Rattle.log_rule.proofs.GatheredSeats.{all-jobs_run}
+use Rattle.log_rule.proofs.GatheredSeats.{all_jobs-partly_serial}
 use Rattle.log_rule.specs.Log.{Part, Log, own, part_of, parts_of, IsSpelled, ranges_of, Laid, IsFull, IsFullIfReleased, AgreesFrom, IsRangeBoundary, IsEntryBoundary, SpellsRecord, records_in}
 use Rattle.log_rule.specs.Sends.{IsDrained}
 use Rattle.log_rule.specs.May.{MayClose}
@@ -36,15 +36,15 @@ use Rattle.log_rule.specs.Sound.{HasWorkingOwner, SendsInsertedUnits, IsSound, R
 use Rattle.log_rule.specs.Roles.{is_active, is_worker, is_spent, may_own}
 use Rattle.log_rule.specs.Views.{nobody, entries_in}
 use Rattle.log_rule.specs.Words.{Words, words_in}
-use Rattle.log_rule.proofs.AgreedUnits.{IsFront, agrees-append, whole-record, front, front-whole, joined, joined-entries, joined-length}
+use Rattle.log_rule.proofs.AgreedUnits.{IsFront, agrees-append, full_part-is_spelled, agrees-front_of_joined, front-equal_if_as_long, joined, joined-entries, joined-length}
 use Rattle.log_rule.proofs.Boundaries.{part_size, boundary-entries}
 use Rattle.log_rule.proofs.AccountsKept.{books-at}
 use Rattle.log_rule.proofs.MemberBooks.{held-books_in, jobs-books_in}
-use Rattle.log_rule.proofs.Lists.{all-both, all-weaker}
-use Rattle.log_rule.proofs.Loads.{part-boundary}
-use Rattle.log_rule.proofs.Resting.{at_rest}
-use Rattle.log_rule.proofs.Vacancy.{word-at_rest, none-in_use}
-use Rattle.log_rule.proofs.ViewChanges.{seat_at}
+use Rattle.log_rule.proofs.Lists.{all-weaken_both, all-weaken}
+use Rattle.log_rule.proofs.Loads.{ranges_of-part_boundary}
+use Rattle.log_rule.proofs.Resting.{at_rest-all_exposed}
+use Rattle.log_rule.proofs.Vacancy.{slot_word_zero-at_rest, in_use-all_zero}
+use Rattle.log_rule.proofs.ViewChanges.{each_seat-at}
 
 -- what holds of each view and of nobody's holds of each seat
 each_seat : (P : ℕ → View → Type 0) (views : List View) → ((j : ℕ) (z : View) → get_elem? views j ≡ some z → P j z) → ((j : ℕ) → P j nobody)
@@ -100,7 +100,7 @@ spelled-entries : (seat : ℕ) (entries : List Entry) → AllByRecursion SpellsR
     → AllByRecursion IsFullIfReleased (parts_of seat true entries) → AllByRecursion IsSpelled entries
 spelled-entries seat [] spells full = tt
 spelled-entries seat (entry ∷ entries) spells full =
-    (whole-record (part_of seat true entry) spells.0 (full.0 refl), spelled-entries seat entries spells.1 full.1)
+    (full_part-is_spelled (part_of seat true entry) spells.0 (full.0 refl), spelled-entries seat entries spells.1 full.1)
 
 records-entries : (seat : ℕ) (entries : List Entry) → records_in (parts_of seat true entries) ≡ records_of entries
 records-entries seat [] = refl
@@ -143,10 +143,10 @@ module _ (key : Start) (words : Words) (views : List View) (me : ℕ) (v : View)
   idle = each_seat (λ _ z. z.call ≡ Idle) views (λ j z there. s.resting j z there (rests z.standing.role (no-worker j z there))) (λ _. refl)
 
   pub all_exposed : words.exposed ≡ words.tail
-  all_exposed = at_rest key words views log s idle
+  all_exposed = at_rest-all_exposed key words views log s idle
 
   pub all_vacant : (slot : ℕ) → words.slot slot ≡ 0
-  all_vacant = word-at_rest key words views log s idle
+  all_vacant = slot_word_zero-at_rest key words views log s idle
 
   no-entries : (j : ℕ) → j ≢ me → own j log.parts ≡ []
   no-entries j differ = (s.owners j).owns ∙ (λ i. parts_of j true (none i) ++ parts_of j false (entries_in log.groups (idle j i)))
@@ -161,7 +161,7 @@ module _ (key : Start) (words : Words) (views : List View) (me : ℕ) (v : View)
 
   parts-are : log.parts ≡ parts_of me true v.entries
   parts-are = sym (own-all me log.parts no-entries)
-      ∙ ((seat_at (HasWorkingOwner log.groups log.parts log.ahead) views me v at s.owners).owns
+      ∙ ((each_seat-at (HasWorkingOwner log.groups log.parts log.ahead) views me v at s.owners).owns
       ∙ (ap (λ c. parts_of me true v.entries ++ parts_of me false (entries_in log.groups c))
       (s.resting me v at (ap is_active may.flusher)) ∙ append-nil _))
 
@@ -185,35 +185,35 @@ module _ (key : Start) (words : Words) (views : List View) (me : ℕ) (v : View)
 
   agrees : AllByRecursion (AgreesFrom key.start (v.sending.sent ++ v.sending.read)) mine
   agrees = all-mine (AgreesFrom key.start (v.sending.sent ++ v.sending.read))
-      (all-both (AgreesFrom key.start v.sending.sent) (AgreesFrom words.durable v.sending.read)
+      (all-weaken_both (AgreesFrom key.start v.sending.sent) (AgreesFrom words.durable v.sending.read)
       (AgreesFrom key.start (v.sending.sent ++ v.sending.read)) log.parts
       (λ p sent read. agrees-append key.start v.sending.sent v.sending.read p sent
       (subst (λ n. AgreesFrom n v.sending.read p) (sym sends.sent_to) read)) sends.sent_agrees sends.read_agrees)
 
   first : IsFront (v.sending.sent ++ v.sending.read) (joined mine)
-  first = front key.start words.tail mine (v.sending.sent ++ v.sending.read) laid full agrees
+  first = agrees-front_of_joined key.start words.tail mine (v.sending.sent ++ v.sending.read) laid full agrees
       (omega (arith, length-append v.sending.sent v.sending.read, sends.sent_to, sends.read_to, sends.loaded_seen, all_exposed))
 
   all-sent : IsDrained v → joined mine ≡ v.sending.sent
   all-sent d =
       let end : key.start + length v.sending.sent ≡ words.tail =
       omega (arith, start-is, d.all, s.looked me v at may.flusher d.quiet d.looked, all_exposed) in
-      front-whole v.sending.sent (joined mine)
-      (front key.start words.tail mine v.sending.sent laid full (all-mine (AgreesFrom key.start v.sending.sent) sends.sent_agrees)
+      front-equal_if_as_long v.sending.sent (joined mine)
+      (agrees-front_of_joined key.start words.tail mine v.sending.sent laid full (all-mine (AgreesFrom key.start v.sending.sent) sends.sent_agrees)
       (omega (arith, end)))
       (omega (arith, end, joined-length key.start words.tail mine laid full))
 
   seen-between : (x : ℕ) → IsRangeBoundary key.start (ranges_of log) x → IsEntryBoundary v.constants.start v.entries x
   seen-between x b = subst (λ n. IsEntryBoundary n v.entries x) (sym start-is)
       (boundary-entries me key.start x v.entries true
-      (subst (λ l. IsTilingBoundary part_size key.start l x) parts-are (part-boundary _ _ _ _ _ log s.contiguous x b)))
+      (subst (λ l. IsTilingBoundary part_size key.start l x) parts-are (ranges_of-part_boundary _ _ _ _ _ log s.contiguous x b)))
 
-  pub gathers : IsGathered words.tail v
-  gathers = record {
+  pub may_close-gathered : IsGathered words.tail v
+  may_close-gathered = record {
     tiles = subst (λ n. IsTiling (λ (e : Entry). e.start) (λ (e : Entry). e.size) n v.entries words.tail) (sym start-is)
         (tiles-entries me key.start words.tail v.entries laid);
     full = full-entries me v.entries (all-mine IsFullIfReleased s.below.full);
-    seen = all-weaker (IsRangeBoundary key.start (ranges_of log)) (IsEntryBoundary v.constants.start v.entries) v.seen.lsns
+    seen = all-weaken (IsRangeBoundary key.start (ranges_of log)) (IsEntryBoundary v.constants.start v.entries) v.seen.lsns
         seen-between (s.seen me v at).boundaries;
     unsent = first.ahead;
     sent = sym (joined-entries me true v.entries) ∙ first.is;
@@ -258,7 +258,7 @@ module _ (key : Start) (words : Words) (views : List View) (me : ℕ) (v : View)
     ledger = λ distinct. let f = s.accounts.follows (no-job-twice distinct) in
         subst (λ h. IsLedger (base_of key) h (map task_of v.books.jobs) rows) records-are record {
           lawful = f.lawful;
-          serial = all-jobs_run (base_of key) words.account (history_in key log.parts) bs v.books.jobs (f.runs me v.books mine-shown) all-jobs f;
+          serial = all_jobs-partly_serial (base_of key) words.account (history_in key log.parts) bs v.books.jobs (f.runs me v.books mine-shown) all-jobs f;
           accounts = record {
             count = reads.count ∙ same;
             range = λ account below. let up = up-to-date f account (omega (arith, reads.count, same)) in
@@ -300,23 +300,23 @@ pub record IsClosed (key : Start) (ws : List ℕ) (tail exposed : ℕ) (v : View
   pub heard : HasHeardOfWorkers v
   pub empty : in_use key.ring key.slots ws ≡ 0
 
-pub at-index : (l : List ℕ) (i a : ℕ) → get_elem? l i ≡ some a → get_or l i 0 ≡ a
-at-index [] i a e = absurd (some-ne-none a (sym e))
-at-index (x ∷ xs) zero a e = some-injective x a e
-at-index (x ∷ xs) (suc i) a e = at-index xs i a e
+pub get_elem-get_or : (l : List ℕ) (i a : ℕ) → get_elem? l i ≡ some a → get_or l i 0 ≡ a
+get_elem-get_or [] i a e = absurd (some-ne-none a (sym e))
+get_elem-get_or (x ∷ xs) zero a e = some-injective x a e
+get_elem-get_or (x ∷ xs) (suc i) a e = get_elem-get_or xs i a e
 
-pub closes : (key : Start) (me : ℕ) (v : View) (ws : List ℕ) (xs : List (Unit {0})) (tail exposed : ℕ) → Final (Seen (Ruled key) me v) ws xs
+pub may_close-closed : (key : Start) (me : ℕ) (v : View) (ws : List ℕ) (xs : List (Unit {0})) (tail exposed : ℕ) → Final (Seen (Ruled key) me v) ws xs
     → MayClose v → get_elem? ws TAIL ≡ some tail → get_elem? ws EXPOSED ≡ some exposed → IsClosed key ws tail exposed v
-closes key me v ws xs tail exposed final may tail-at exposed-at =
+may_close-closed key me v ws xs tail exposed final may tail-at exposed-at =
     let state = final.0 in let log = final.1.0.1.0 in let s = final.1.0.1.1 in let at = final.1.1 in let words = words_in key state.words in
-    let tail-is : words.tail ≡ tail = ap (λ l. get_or l TAIL 0) final.2 ∙ at-index ws TAIL tail tail-at in
-    let exposed-is : words.exposed ≡ exposed = ap (λ l. get_or l EXPOSED 0) final.2 ∙ at-index ws EXPOSED exposed exposed-at in record {
+    let tail-is : words.tail ≡ tail = ap (λ l. get_or l TAIL 0) final.2 ∙ get_elem-get_or ws TAIL tail tail-at in
+    let exposed-is : words.exposed ≡ exposed = ap (λ l. get_or l EXPOSED 0) final.2 ∙ get_elem-get_or ws EXPOSED exposed exposed-at in record {
       small = subst (λ n. n ≤ LAST) tail-is s.ordered.within_log;
       released = sym exposed-is ∙ (all_exposed key words state.views me v log s at may ∙ tail-is);
-      gathered = subst (λ n. IsGathered n v) tail-is (gathers key words state.views me v log s at may);
+      gathered = subst (λ n. IsGathered n v) tail-is (may_close-gathered key words state.views me v log s at may);
       accounts = λ old rows same reads. has-ledger key words state.views me v log s at may ws old rows (ap (words_in key) final.2) same reads;
       heard = s.heard me v at me v at may.flusher;
-      empty = none-in_use key.ring key.slots ws (λ slot below.
+      empty = in_use-all_zero key.ring key.slots ws (λ slot below.
           sym (ap (λ l. (words_in key l).slot slot) final.2
           ∙ ap (λ t. cond t (slice_index ws (index_of key.ring key.slots (Slot slot))) 0) (lt-ltb slot key.slots below))
           ∙ all_vacant key words state.views me v log s at may slot);

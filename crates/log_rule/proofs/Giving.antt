@@ -17,8 +17,8 @@ use Rattle.log_rule.specs.declared.view.Books.{Books}
 use Rattle.log_rule.specs.Books.{times_held, times_taken, balance_taken, without, giving}
 use Rattle.log_rule.specs.Accounts.{holders, IsAsTaken, HasOneHolder, moved_if_committed, commit_in, Follows, IsUpToDate, WentBack, AccountsFollowList, KeepsAccounts, MayGive}
 use Rattle.log_rule.specs.Words.{put}
-use Rattle.log_rule.proofs.Bookings.{everywhere-moves, everywhere-set, summed-set, summed-one, summed-two, all-held, found, all-without, times_held-without, times_held-without_other}
-use Rattle.log_rule.proofs.Taking.{put-same, put-else, as_taken-else, free-else, distinct-before, Lasts, Ties, RunsPartly, FollowsAll, AllWentBack, LastIsOne}
+use Rattle.log_rule.proofs.Bookings.{everywhere-set_weaken, everywhere-set, summed-set, summed-member_le, summed-two_members_le, all-weaken_if_held, times_held-found, all-without, times_held-without, times_held-without_other}
+use Rattle.log_rule.proofs.Taking.{put-at_equal, put-at_unequal, as_taken-put_other, free-put_other, distinct_jobs-before_set, Lasts, Ties, RunsPartly, FollowsAll, AllWentBack, LastIsOne}
 
 -- the account goes back as it is held, with the tail at or below the end of the list
 pub record GoesBack (base : BaseState) (h : List Placed) (mine : Books) (given : Given) : Type 0 where
@@ -39,10 +39,10 @@ module _ (base : BaseState) (words : ℕ → ℕ) (h : List Placed) (all : List 
   words' = put words account word
 
   known : account < base.accounts
-  known = let f = found (IsAsTaken base.accounts words) account mine.held may.has (holder.taken me mine at) in subst (λ a. a < base.accounts) f.is f.known.known
+  known = let f = times_held-found (IsAsTaken base.accounts words) account mine.held may.has (holder.taken me mine at) in subst (λ a. a < base.accounts) f.is f.known.known
 
   was-held : held_in (words account) ≡ true
-  was-held = let f = found (IsAsTaken base.accounts words) account mine.held may.has (holder.taken me mine at) in
+  was-held = let f = times_held-found (IsAsTaken base.accounts words) account mine.held may.has (holder.taken me mine at) in
       subst (λ a. held_in (words a) ≡ true) f.is f.known.taken
 
   one-holder : holders account all ≡ 1
@@ -50,8 +50,8 @@ module _ (base : BaseState) (words : ℕ → ℕ) (h : List Placed) (all : List 
 
   others-taken : (books : Books) (list : List Taken) → times_held account list ≡ 0 → AllByRecursion (IsAsTaken base.accounts words) list
       → AllByRecursion (IsAsTaken base.accounts words') list
-  others-taken books list none old = all-held _ (IsAsTaken base.accounts words') list old
-      (λ z has t. as_taken-else base.accounts words account word z (λ same. let again : 1 ≤ times_held account list = subst (λ a. 1 ≤ times_held a list) same has in omega arith) t)
+  others-taken books list none old = all-weaken_if_held _ (IsAsTaken base.accounts words') list old
+      (λ z has t. as_taken-put_other base.accounts words account word z (λ same. let again : 1 ≤ times_held account list = subst (λ a. 1 ≤ times_held a list) same has in omega arith) t)
 
   given-holder : HasOneHolder base.accounts words' (set all me new)
   given-holder = record {
@@ -60,20 +60,20 @@ module _ (base : BaseState) (words : ℕ → ℕ) (h : List Placed) (all : List 
         (λ same. subst (λ a. holders a (set all me new) ≡ cond {A = ℕ} (held_in (words' a)) 1 0) (sym same)
         (let sum = summed-set (λ (books : Books). times_held account books.held) all me mine new at in let one = one-holder in
         let less = times_held-without account mine.held may.has in
-        let now : cond {A = ℕ} (held_in (words' account)) 1 0 ≡ 0 = ap (λ b. cond {A = ℕ} b 1 0) (ap held_in (put-same words account word account refl) ∙ free) in
+        let now : cond {A = ℕ} (held_in (words' account)) 1 0 ≡ 0 = ap (λ b. cond {A = ℕ} b 1 0) (ap held_in (put-at_equal words account word account refl) ∙ free) in
         omega arith))
         (λ differ. let sum = summed-set (λ (books : Books). times_held other books.held) all me mine new at in
         let count = holder.counts other below in let same = times_held-without_other account other mine.held differ in
         let now : cond {A = ℕ} (held_in (words' other)) 1 0 ≡ cond {A = ℕ} (held_in (words other)) 1 0 =
-        ap (λ w. cond {A = ℕ} (held_in w) 1 0) (put-else words account word other differ) in omega arith);
-    taken = everywhere-moves (λ (books : Books). AllByRecursion (IsAsTaken base.accounts words) books.held)
+        ap (λ w. cond {A = ℕ} (held_in w) 1 0) (put-at_unequal words account word other differ) in omega arith);
+    taken = everywhere-set_weaken (λ (books : Books). AllByRecursion (IsAsTaken base.accounts words) books.held)
         (λ (books : Books). AllByRecursion (IsAsTaken base.accounts words') books.held) all me new holder.taken
         (others-taken mine (without account mine.held)
-        (let less = times_held-without account mine.held may.has in let one = summed-one (λ (books : Books). times_held account books.held) all me mine at in
+        (let less = times_held-without account mine.held may.has in let one = summed-member_le (λ (books : Books). times_held account books.held) all me mine at in
         let all-one = one-holder in omega arith)
         (all-without (IsAsTaken base.accounts words) account mine.held (holder.taken me mine at)))
         (λ j x differ there old. others-taken x x.held
-        (let two = summed-two (λ (books : Books). times_held account books.held) all me j mine x at there differ in let has = may.has in
+        (let two = summed-two_members_le (λ (books : Books). times_held account books.held) all me j mine x at there differ in let has = may.has in
         let all-one = one-holder in omega arith) old);
     last = everywhere-set (LastIsOne base.accounts) all me new holder.last (holder.last me mine at);
   }
@@ -81,7 +81,7 @@ module _ (base : BaseState) (words : ℕ → ℕ) (h : List Placed) (all : List 
   module _ (s : AccountsFollowList base words h all) where
     follows-balance : balance_taken mine.held account + moved_if_committed gain account mine.placed + total loss account h
         ≡ base.balance account + total gain account h + moved_if_committed loss account mine.placed
-    follows-balance = let f = found (Follows base h mine.placed) account mine.held may.has (s.held me mine at) in
+    follows-balance = let f = times_held-found (Follows base h mine.placed) account mine.held may.has (s.held me mine at) in
         let old : Follows base h mine.placed f.held = f.known in
         let is : f.held.balance + moved_if_committed gain account mine.placed + total loss account h
         ≡ base.balance account + total gain account h + moved_if_committed loss account mine.placed =
@@ -89,7 +89,7 @@ module _ (base : BaseState) (words : ℕ → ℕ) (h : List Placed) (all : List 
         let as-taken = f.balance in omega arith
 
     now-free : IsUpToDate base h account word
-    now-free = let f = found (Follows base h mine.placed) account mine.held may.has (s.held me mine at) in
+    now-free = let f = times_held-found (Follows base h mine.placed) account mine.held may.has (s.held me mine at) in
         let old : Follows base h mine.placed f.held = f.known in
         let is = follows-balance in let gives = may.values.balance_is in record {
           balance = omega arith;
@@ -117,17 +117,17 @@ module _ (base : BaseState) (words : ℕ → ℕ) (h : List Placed) (all : List 
       placed = everywhere-set (Ties h) all me new s.placed (s.placed me mine at);
       last = everywhere-set Lasts all me new s.last (s.last me mine at);
       free = λ other below off. dite (ℕ_discrete other account)
-          (λ same. subst (λ (w : ℕ). IsUpToDate base h other w) (sym (put-same words account word other same))
+          (λ same. subst (λ (w : ℕ). IsUpToDate base h other w) (sym (put-at_equal words account word other same))
           (subst (λ a. IsUpToDate base h a word) (sym same) now-free))
-          (λ differ. free-else base h words account word other differ (s.free other below) off);
+          (λ differ. free-put_other base h words account word other differ (s.free other below) off);
       held = everywhere-set (FollowsAll base h) all me new s.held (all-without (Follows base h mine.placed) account mine.held (s.held me mine at));
       given = everywhere-set (AllWentBack base h) all me new s.given (went-back, s.given me mine at);
       runs = everywhere-set (RunsPartly base h) all me new s.runs (s.runs me mine at);
       others = λ number none. s.others number (let sum = summed-set (λ (books : Books). times_taken number books.jobs) all me mine new at in omega arith);
     }
 
-  pub gives : KeepsAccounts base words h all → KeepsAccounts base words' h (set all me new)
-  gives s = record {
+  pub give_back-keeps_accounts : KeepsAccounts base words h all → KeepsAccounts base words' h (set all me new)
+  give_back-keeps_accounts s = record {
     holder = given-holder;
-    follows = λ distinct. given-follows (s.follows (distinct-before base words h all me mine at new (λ number. omega arith) distinct));
+    follows = λ distinct. given-follows (s.follows (distinct_jobs-before_set base words h all me mine at new (λ number. omega arith) distinct));
   }

@@ -11,9 +11,9 @@ use Rattle.lock_core.specs.Sums.{BaseState}
 use Rattle.log_rule.specs.declared.view.Books.{Books}
 use Rattle.log_rule.specs.Accounts.{KeepsAccounts}
 use Rattle.log_rule.specs.Books.{MayEnter, placing}
-use Rattle.log_rule.proofs.Entering.{enters}
+use Rattle.log_rule.proofs.Entering.{may_enter-keeps_accounts}
 
--- a seat whose record enters, with its books, and where the record ends
+-- a seat whose record may_enter-keeps_accounts, with its books, and where the record ends
 pub record Entrant : Type 0 where
   pub seat : ℕ
   pub books : Books
@@ -44,7 +44,7 @@ abbrev pub AreApart : List Entrant → Type 0
 AreApart [] = Unit {0}
 AreApart (e ∷ es) = EntersNot e.seat es × AreApart es
 
--- it is one of theirs, and enters so
+-- it is one of theirs, and may_enter-keeps_accounts so
 abbrev pub EntersAs : ℕ → Entrant → List Entrant → Type 0
 EntersAs seat e [] = ⊥
 EntersAs seat e (k ∷ ks) = ((k ≡ e) × (e.seat ≡ seat)) ⊎ EntersAs seat e ks
@@ -55,13 +55,13 @@ still-may all seat new [] apart may = tt
 still-may all seat new (e ∷ es) apart may =
     (record { at = set_else all seat e.seat new apart.0 ∙ may.0.at; may = may.0.may }, still-may all seat new es apart.1 may.1)
 
-pub enter-all : (base : BaseState) (words : ℕ → ℕ) (h : List Placed) (all : List Books) (es : List Entrant) → AreApart es
+pub enter_all-keeps_accounts : (base : BaseState) (words : ℕ → ℕ) (h : List Placed) (all : List Books) (es : List Entrant) → AreApart es
     → AllByRecursion (MayEnterAs all) es → KeepsAccounts base words h all → KeepsAccounts base words (history_with es h) (books_with es all)
-enter-all base words h all [] apart may s = s
-enter-all base words h all (e ∷ es) apart may s =
-    enter-all base words (record { end = e.end; rec = e.rec } ∷ h) (set all e.seat (placing e.end e.rec e.books)) es apart.1
+enter_all-keeps_accounts base words h all [] apart may s = s
+enter_all-keeps_accounts base words h all (e ∷ es) apart may s =
+    enter_all-keeps_accounts base words (record { end = e.end; rec = e.rec } ∷ h) (set all e.seat (placing e.end e.rec e.books)) es apart.1
     (still-may all e.seat (placing e.end e.rec e.books) es apart.0 may.1)
-    (enters base words h all e.seat e.books may.0.at e.end e.rec may.0.may s)
+    (may_enter-keeps_accounts base words h all e.seat e.books may.0.at e.end e.rec may.0.may s)
 
 -- ---- what views show of books behind them
 
@@ -106,11 +106,11 @@ with-entered seat e (k ∷ ks) all below apart (inr later) =
     (subst (λ n. seat < n) (sym (length-set all k.seat (placing k.end k.rec k.books))) below) apart.1 later
 
 -- What views show of books once the records have entered, is what they showed before, but that each of the seats has its record placed.
-pub entered-shows : {V : Type 0} (old new : V → Books) (views : List V) (es : List Entrant) → AreApart es
+pub books_with-map_views : {V : Type 0} (old new : V → Books) (views : List V) (es : List Entrant) → AreApart es
     → ((seat : ℕ) (v : V) → get_elem? views seat ≡ some v
     → ((e : Entrant) × EntersAs seat e es × (new v ≡ placing e.end e.rec e.books)) ⊎ (EntersNot seat es × (new v ≡ old v)))
     → books_with es (map old views) ≡ map new views
-entered-shows old new views es apart each = same-lists (books_with es (map old views)) (map new views)
+books_with-map_views old new views es apart each = same-lists (books_with es (map old views)) (map new views)
     (length-with es (map old views) ∙ (length-map views old ∙ sym (length-map views new)))
     (λ i below. at-each i (subst (λ n. i < n) (length-with es (map old views) ∙ length-map views old) below))
   where

@@ -8,7 +8,7 @@ use Rattle.slot_parts.specs.Tasks.{task_emptying}
 use Rattle.slot_core.specs.State.{Task, Group as MachineGroup, nothing, without, group}
 use Rattle.slot_word.specs.declared.phase.Phase.TheVariants as kind
 use Rattle.slot_word.specs.SlotWord.{total_in, remaining_in, subtracted}
-use Rattle.slot_word.proofs.SlotWordLemmas.{remaining_back, released}
+use Rattle.slot_word.proofs.SlotWordLemmas.{remaining_back, subtracted-packed}
 use Rattle.log_rule.specs.declared.group_view.MemberStep.{MemberStep}
 use Rattle.log_rule.specs.declared.group_view.MemberStep.TheVariants.{Closes, Waits, Hears, Places, Stores, Tells, Fills, Leaves}
 use Rattle.log_rule.specs.declared.start.Start.{Start}
@@ -29,52 +29,52 @@ use Rattle.log_rule.specs.Slots.{is_member, piece_of, own_pieces, pieces_at, led
 use Rattle.log_rule.specs.Sound.{HasWorkingOwner, IsSound}
 use Rattle.log_rule.specs.Views.{entries_in, books_in}
 use Rattle.log_rule.specs.Words.{Words}
-use Rattle.log_rule.proofs.Groups.{Keeps, keeps}
-use Rattle.log_rule.proofs.Lists.{Last, picked-append, picked-last, all-at}
-use Rattle.log_rule.proofs.Members.{KeepsMembers, steps-on}
-use Rattle.log_rule.proofs.SlotLooks.{small}
+use Rattle.log_rule.proofs.Groups.{Keeps, same_unheard-keeps}
+use Rattle.log_rule.proofs.Lists.{Last, picked-append, picked-last, all-middle}
+use Rattle.log_rule.proofs.Members.{KeepsMembers, one_step_more-keeps_seen}
+use Rattle.log_rule.proofs.SlotLooks.{quarter_ring-fits_31_bits}
 use Rattle.log_rule.proofs.SlotWords.{told-total}
-use Rattle.log_rule.proofs.SlotChanges.{here, elsewhere}
-use Rattle.log_rule.proofs.ViewChanges.{seat_at}
+use Rattle.log_rule.proofs.SlotChanges.{cond-same_slot, cond-other_slot}
+use Rattle.log_rule.proofs.ViewChanges.{each_seat-at}
 
 -- ---- lists from which one is taken
 
 module _ {A : Type 0} {B : Type 0} (test : A → Bool) (tell : A → B) where
   -- one that is not picked
-  pub picked-gone : (ls rs : List A) (x : A) → test x ≡ false → picked test tell (ls ++ rs) ≡ picked test tell (ls ++ x ∷ rs)
-  picked-gone [] rs x off = ap (λ b. cond b (tell x ∷ picked test tell rs) (picked test tell rs)) (sym off)
-  picked-gone (l ∷ ls) rs x off = λ i. cond (test l) (tell l ∷ picked-gone ls rs x off i) (picked-gone ls rs x off i)
+  pub picked-remove_unpicked : (ls rs : List A) (x : A) → test x ≡ false → picked test tell (ls ++ rs) ≡ picked test tell (ls ++ x ∷ rs)
+  picked-remove_unpicked [] rs x off = ap (λ b. cond b (tell x ∷ picked test tell rs) (picked test tell rs)) (sym off)
+  picked-remove_unpicked (l ∷ ls) rs x off = λ i. cond (test l) (tell l ∷ picked-remove_unpicked ls rs x off i) (picked-remove_unpicked ls rs x off i)
 
   -- the only one that is picked
-  pub picked-none : (ls rs : List A) → picked test tell ls ≡ [] → picked test tell rs ≡ [] → picked test tell (ls ++ rs) ≡ []
-  picked-none ls rs before behind = picked-append test tell ls rs ∙ (λ i. before i ++ behind i)
+  pub picked-append_none : (ls rs : List A) → picked test tell ls ≡ [] → picked test tell rs ≡ [] → picked test tell (ls ++ rs) ≡ []
+  picked-append_none ls rs before behind = picked-append test tell ls rs ∙ (λ i. before i ++ behind i)
 
   -- or it is exchanged for another
-  pub picked-now : (ls rs : List A) (x : A) → picked test tell ls ≡ [] → picked test tell rs ≡ []
+  pub picked-none_around : (ls rs : List A) (x : A) → picked test tell ls ≡ [] → picked test tell rs ≡ []
       → picked test tell (ls ++ x ∷ rs) ≡ cond (test x) (tell x ∷ []) []
-  picked-now ls rs x before behind = picked-append test tell ls (x ∷ rs) ∙ (λ i. before i ++ cond (test x) (tell x ∷ behind i) (behind i))
+  picked-none_around ls rs x before behind = picked-append test tell ls (x ∷ rs) ∙ (λ i. before i ++ cond (test x) (tell x ∷ behind i) (behind i))
 
   -- where none is picked
-  pub none-before : (ls rs : List A) → picked test tell (ls ++ rs) ≡ [] → picked test tell ls ≡ []
-  none-before [] rs none = refl
-  none-before (l ∷ ls) rs none = by_test (test l) none (none-before ls rs)
+  pub picked-none_front : (ls rs : List A) → picked test tell (ls ++ rs) ≡ [] → picked test tell ls ≡ []
+  picked-none_front [] rs none = refl
+  picked-none_front (l ∷ ls) rs none = by_test (test l) none (picked-none_front ls rs)
     where
       by_test : (b : Bool) → cond b (tell l ∷ picked test tell (ls ++ rs)) (picked test tell (ls ++ rs)) ≡ []
           → (picked test tell (ls ++ rs) ≡ [] → picked test tell ls ≡ []) → cond b (tell l ∷ picked test tell ls) (picked test tell ls) ≡ []
       by_test true none more = absurd (cc)
       by_test false none more = more none
 
-  pub none-behind : (ls rs : List A) → picked test tell (ls ++ rs) ≡ [] → picked test tell rs ≡ []
-  none-behind [] rs none = none
-  none-behind (l ∷ ls) rs none = none-behind ls rs (by_test (test l) none)
+  pub picked-none_behind : (ls rs : List A) → picked test tell (ls ++ rs) ≡ [] → picked test tell rs ≡ []
+  picked-none_behind [] rs none = none
+  picked-none_behind (l ∷ ls) rs none = picked-none_behind ls rs (by_test (test l) none)
     where
       by_test : (b : Bool) → cond b (tell l ∷ picked test tell (ls ++ rs)) (picked test tell (ls ++ rs)) ≡ [] → picked test tell (ls ++ rs) ≡ []
       by_test true none = absurd (cc)
       by_test false none = none
 
-pub all-gone : {A : Type 0} → (P : A → Type 0) (ls rs : List A) (x : A) → AllByRecursion P (ls ++ x ∷ rs) → AllByRecursion P (ls ++ rs)
-all-gone P [] rs x all = all.1
-all-gone P (l ∷ ls) rs x all = (all.0, all-gone P ls rs x all.1)
+pub all-remove : {A : Type 0} → (P : A → Type 0) (ls rs : List A) (x : A) → AllByRecursion P (ls ++ x ∷ rs) → AllByRecursion P (ls ++ rs)
+all-remove P [] rs x all = all.1
+all-remove P (l ∷ ls) rs x all = (all.0, all-remove P ls rs x all.1)
 
 -- ---- members
 
@@ -118,15 +118,15 @@ knows-less total old now outcome (Leaves tail durable) known = let is = known.to
 
 -- ---- the word
 
-pub told-less : (outcome : Outcome) (total remaining n : ℕ) → n ≤ remaining
+pub told_word-minus : (outcome : Outcome) (total remaining n : ℕ) → n ≤ remaining
     → told_word outcome total remaining - n ≡ told_word outcome total (remaining - n)
-told-less (Granted base) total remaining n within = omega arith
-told-less (Refused tail durable) total remaining n within = omega arith
+told_word-minus (Granted base) total remaining n within = omega arith
+told_word-minus (Refused tail durable) total remaining n within = omega arith
 
 pub told-subtracted : (outcome : Outcome) (total remaining n : ℕ) → total < 2 ^ 31 → remaining < 2 ^ 31 → n ≤ remaining
     → subtracted n (told_word outcome total remaining) ≡ told_word outcome total (remaining - n)
-told-subtracted (Granted base) total remaining n fits fits' within = released kind.Published total remaining n fits fits' within
-told-subtracted (Refused tail durable) total remaining n fits fits' within = released kind.Refused total remaining n fits fits' within
+told-subtracted (Granted base) total remaining n fits fits' within = subtracted-packed kind.Published total remaining n fits fits' within
+told-subtracted (Refused tail durable) total remaining n fits fits' within = subtracted-packed kind.Refused total remaining n fits fits' within
 
 told-remaining : (outcome : Outcome) (total remaining : ℕ) → total < 2 ^ 31 → remaining < 2 ^ 31
     → remaining_in (told_word outcome total remaining) ≡ remaining
@@ -167,7 +167,7 @@ module _ (most word base me : ℕ) (piece : Piece) (outcome : Outcome) (g : Grou
   size-is = ap (λ (p : Piece). p.size) at.is
 
   lies : LiesWithin told.total at.here
-  lies = all-at (LiesWithin told.total) at.before at.behind at.here (subst (AllByRecursion (LiesWithin told.total)) at.split is.remains.each)
+  lies = all-middle (LiesWithin told.total) at.before at.behind at.here (subst (AllByRecursion (LiesWithin told.total)) at.split is.remains.each)
 
   whole : piece.size + sum_of (at.before ++ at.behind) ≡ told.remaining
   whole = let sum = sum-gone at.before at.behind at.here in
@@ -175,7 +175,7 @@ module _ (most word base me : ℕ) (piece : Piece) (outcome : Outcome) (g : Grou
       ap sum_of (sym at.split) ∙ is.remains.sum in omega (arith, sum, all, size-is)
 
   others : (j : ℕ) → j ≢ me → own_pieces j (at.before ++ at.behind) ≡ own_pieces j g.members
-  others j differ = picked-gone (is_member j) piece_of at.before at.behind at.here
+  others j differ = picked-remove_unpicked (is_member j) piece_of at.before at.behind at.here
       (ne_eqb at.here.seat j (λ e. differ (sym e ∙ eqb-true at.here.seat me at.passes))) ∙ ap (own_pieces j) (sym at.split)
 
   fits : told.total < 2 ^ 31
@@ -195,7 +195,7 @@ module _ (most word base me : ℕ) (piece : Piece) (outcome : Outcome) (g : Grou
     within = omega (arith, lies.1, offset-is, size-is);
     enough = omega (arith, whole);
     sum = omega (arith, whole);
-    own = picked-none (is_member me) piece_of at.before at.behind at.told_before at.none_behind;
+    own = picked-append_none (is_member me) piece_of at.before at.behind at.told_before at.none_behind;
     others = others;
     shown = ap (λ list. without me (map member_shown list)) at.split ∙ without-member me at.before at.behind at.here at.told_before at.passes;
     total_fits = fits;
@@ -208,12 +208,12 @@ pub told-member : (key : Start) (words : Words) (views : List View) (me : ℕ) (
     → (KnowsPhase step (log.groups slot).phase → IsToldOf outcome (log.groups slot).phase)
     → ToldMember (key.ring / 4) (words.slot slot) (words.base slot) me piece outcome (log.groups slot)
 told-member key words views me v slot piece step outcome log s at call hears =
-    let mine = seat_at (HasWorkingOwner log.groups log.parts log.ahead) views me v at s.owners in
+    let mine = each_seat-at (HasWorkingOwner log.groups log.parts log.ahead) views me v at s.owners in
     let told = hears (subst (KnowsGroup log.groups) call mine.knows) in
     member-is_told (key.ring / 4) (words.slot slot) (words.base slot) me piece outcome (log.groups slot)
-    (small key words views me v slot (words.slot slot) log s at refl) told
+    (quarter_ring-fits_31_bits key words views me v slot (words.slot slot) log s at refl) told
     (subst (IsAtPhase (key.ring / 4) (words.slot slot) (words.base slot) (log.groups slot).members) told.told (s.slots slot).words)
-    (mine.joins slot ∙ (ap (pieces_at slot) call ∙ here slot (piece ∷ [])))
+    (mine.joins slot ∙ (ap (pieces_at slot) call ∙ cond-same_slot slot (piece ∷ [])))
 
 module _ (most word base me : ℕ) (piece : Piece) (outcome : Outcome) (g : Group) (m : ToldMember most word base me piece outcome g) where
   pub word-total : total_in word ≡ m.total
@@ -222,13 +222,13 @@ module _ (most word base me : ℕ) (piece : Piece) (outcome : Outcome) (g : Grou
   pub word-remaining : remaining_in word ≡ m.remaining
   word-remaining = ap remaining_in m.is.word_is ∙ told-remaining outcome m.total m.remaining m.total_fits m.remaining_fits
 
-  pub kept : (P : Member → Type 0) → AllByRecursion P g.members → AllByRecursion P (m.before ++ m.behind)
-  kept P all = all-gone P m.before m.behind m.gone (subst (AllByRecursion P) m.split all)
+  pub members_left-all : (P : Member → Type 0) → AllByRecursion P g.members → AllByRecursion P (m.before ++ m.behind)
+  members_left-all P all = all-remove P m.before m.behind m.gone (subst (AllByRecursion P) m.split all)
 
-  pub each-left : AllByRecursion (LiesWithin m.total) (m.before ++ m.behind)
-  each-left = kept (LiesWithin m.total) m.is.remains.each
+  pub members_left-lie_within : AllByRecursion (LiesWithin m.total) (m.before ++ m.behind)
+  members_left-lie_within = members_left-all (LiesWithin m.total) m.is.remains.each
 
-  -- once the member has released its piece the group is at this phase, and the seat turns to this call
+  -- once the member has subtracted-packed its piece the group is at this phase, and the seat task_in-left to this call
   pub record Left (slot : ℕ) (phase : GroupPhase) (call : Call) : Type 0 where
     pub is : IsAtPhase most (told_word outcome m.total (m.remaining - piece.size)) base (m.before ++ m.behind) phase
     pub leads : led_phase me phase ≡ phase_at me slot call
@@ -252,8 +252,8 @@ module _ (most word base me : ℕ) (piece : Piece) (outcome : Outcome) (g : Grou
     pub task_is : task_in call ≡ task_released slot piece.size (Told m.total outcome m.remaining)
 
   -- others are still there
-  pub some-left : (slot : ℕ) → m.remaining ≢ piece.size → Left slot (Told m.total outcome (m.remaining - piece.size)) Idle
-  some-left slot more = record {
+  pub left-if_some_remain : (slot : ℕ) → m.remaining ≢ piece.size → Left slot (Told m.total outcome (m.remaining - piece.size)) Idle
+  left-if_some_remain slot more = record {
     is = record {
       word_is = refl;
       remains = record {
@@ -261,7 +261,7 @@ module _ (most word base me : ℕ) (piece : Piece) (outcome : Outcome) (g : Grou
         some_units = let enough = m.enough in omega (arith, more, enough);
         within = let within = m.is.remains.within in omega (arith, within);
         few = m.is.remains.few;
-        each = each-left;
+        each = members_left-lie_within;
       };
       base_is = m.is.base_is;
     };
@@ -273,11 +273,11 @@ module _ (most word base me : ℕ) (piece : Piece) (outcome : Outcome) (g : Grou
     books = λ groups books. refl;
     knows = λ groups. tt;
     ends = λ start exposed log. tt;
-    keep = λ j p step one. keeps (Told m.total outcome m.remaining) (Told m.total outcome (m.remaining - piece.size))
+    keep = λ j p step one. same_unheard-keeps (Told m.total outcome m.remaining) (Told m.total outcome (m.remaining - piece.size))
         record { entry = λ _. refl; books = λ _ _. refl } (knows-less m.total m.remaining (m.remaining - piece.size) outcome) p step;
     seen = λ start ring tail durable ranges o.
-        record { members_seen = kept (HadSeenUnder outcome) o.members_seen; is_true = o.is_true; no_room = o.no_room };
-    totals = λ workers. kept (λ (member : Member). IsTotalOf workers member.piece.size m.total);
+        record { members_seen = members_left-all (HadSeenUnder outcome) o.members_seen; is_true = o.is_true; no_room = o.no_room };
+    totals = λ workers. members_left-all (λ (member : Member). IsTotalOf workers member.piece.size m.total);
     loads = λ groups seen. tt;
     awaits = λ books. tt;
     phase_is = ap (λ b. cond b (Emptied me) (Told m.total outcome (m.remaining - piece.size))) (sym (ne_eqb m.remaining piece.size more));
@@ -286,7 +286,7 @@ module _ (most word base me : ℕ) (piece : Piece) (outcome : Outcome) (g : Grou
 
   module _ (all : m.remaining ≡ piece.size) where
     nobody : (m.before ++ m.behind) ≡ []
-    nobody = let sum = m.sum in none-remain m.total (m.before ++ m.behind) each-left (omega (arith, sum, all))
+    nobody = let sum = m.sum in none-remain m.total (m.before ++ m.behind) members_left-lie_within (omega (arith, sum, all))
 
     emptied : IsAtPhase most (told_word outcome m.total (m.remaining - piece.size)) base (m.before ++ m.behind) (Emptied me)
     emptied = record {
@@ -302,17 +302,17 @@ module _ (most word base me : ℕ) (piece : Piece) (outcome : Outcome) (g : Grou
     keep j p step one = let gone : [] ≡ p ∷ [] = sym (ap (own_pieces j) nobody) ∙ one in absurd (cc)
 
     -- the seat was the last, and has the slot to itself
-    pub none-left : (slot : ℕ) (call : Call) → phase_at me slot call ≡ Emptied me ∷ [] → ((q : ℕ) → q ≢ slot → phase_at me q call ≡ [])
+    pub left-if_none_remain : (slot : ℕ) (call : Call) → phase_at me slot call ≡ Emptied me ∷ [] → ((q : ℕ) → q ≢ slot → phase_at me q call ≡ [])
         → ((q : ℕ) → pieces_at q call ≡ []) → ((groups : ℕ → Group) → entries_in groups call ≡ [])
         → ((groups : ℕ → Group) (books : Books) → books_in groups call books ≡ books) → ((groups : ℕ → Group) → KnowsGroup groups call)
         → ((start exposed : ℕ) (log : Log) → HasTrueEnds start exposed log call)
         → ((groups : ℕ → Group) (seen : Seen) → LoadsForGroup groups seen call) → ((books : Books) → AwaitsPlace call books)
         → task_in call ≡ task_emptying slot outcome
         → Left slot (Emptied me) call
-    none-left slot call leads else pieces entries books knows ends loads awaits task = record {
+    left-if_none_remain slot call leads else pieces entries books knows ends loads awaits task = record {
       is = emptied;
-      leads = here me (Emptied me ∷ []) ∙ sym leads;
-      others = λ j differ. elsewhere me j (Emptied me ∷ []) differ;
+      leads = cond-same_slot me (Emptied me ∷ []) ∙ sym leads;
+      others = λ j differ. cond-other_slot me j (Emptied me ∷ []) differ;
       else = else;
       pieces = pieces;
       entries = entries;
@@ -330,23 +330,23 @@ module _ (most word base me : ℕ) (piece : Piece) (outcome : Outcome) (g : Grou
 
   -- what the machine is shown of what is left
   module _ (slot : ℕ) (phase : GroupPhase) (call : Call) (l : Left slot phase call) (shown : MachineGroup) (is : shown ≡ group_shown g) where
-    pub group-is : group_shown (record { members = m.before ++ m.behind; phase = phase })
+    pub group_shown-left : group_shown (record { members = m.before ++ m.behind; phase = phase })
         ≡ group (without me shown.members) (phase_released me piece.size shown.phase)
-    group-is = (λ i. group (sym m.shown i) ((l.phase_is ∙ ap (phase_released me piece.size) (sym m.told)) i))
+    group_shown-left = (λ i. group (sym m.shown i) ((l.phase_is ∙ ap (phase_released me piece.size) (sym m.told)) i))
         ∙ ap (λ (x : MachineGroup). group (without me x.members) (phase_released me piece.size x.phase)) (sym is)
 
-    pub turns : task_in call ≡ task_released slot piece.size shown.phase
-    turns = l.task_is ∙ (ap (task_released slot piece.size) (sym m.told) ∙ ap (λ (x : MachineGroup). task_released slot piece.size x.phase) (sym is))
+    pub task_in-left : task_in call ≡ task_released slot piece.size shown.phase
+    task_in-left = l.task_is ∙ (ap (task_released slot piece.size) (sym m.told) ∙ ap (λ (x : MachineGroup). task_released slot piece.size x.phase) (sym is))
 
 -- what the rule says of groups is so of what is left
-pub left-kept : (key : Start) (words : Words) (views : List View) (me : ℕ) (v : View) (slot : ℕ) (piece : Piece) (outcome : Outcome) (log : Log)
+pub left-keeps_members : (key : Start) (words : Words) (views : List View) (me : ℕ) (v : View) (slot : ℕ) (piece : Piece) (outcome : Outcome) (log : Log)
     → IsSound key words views log → get_elem? views me ≡ some v → v.standing.role ≡ Active
     → (m : ToldMember (key.ring / 4) (words.slot slot) (words.base slot) me piece outcome (log.groups slot)) (phase : GroupPhase) (call : Call)
     → Left (key.ring / 4) (words.slot slot) (words.base slot) me piece outcome (log.groups slot) m slot phase call
     → KeepsMembers key words views v log slot (record { members = m.before ++ m.behind; phase = phase })
     (seen_slot slot (words.slot slot) v.seen) call v.books
-left-kept key words views me v slot piece outcome log s at active m phase call l =
-    let all = kept (key.ring / 4) (words.slot slot) (words.base slot) me piece outcome (log.groups slot) m in record {
+left-keeps_members key words views me v slot piece outcome log s at active m phase call l =
+    let all = members_left-all (key.ring / 4) (words.slot slot) (words.base slot) me piece outcome (log.groups slot) m in record {
       in_group = record {
         members_seen = all (HadSeenUpTo words.tail words.durable) (s.in_group slot).members_seen;
         outcome = l.seen key.start key.ring words.tail words.durable (ranges_of log)
@@ -359,7 +359,7 @@ left-kept key words views me v slot piece outcome log s at active m phase call l
       totals = λ j z there flusher. l.totals (length z.standing.made)
           (subst (HasTotalAtPhase (length z.standing.made) (log.groups slot).members) m.told (s.totals j z there slot flusher));
       heard = λ j z there. s.heard j z there me v at;
-      last = (steps-on log.groups v.seen (seen_slot slot (words.slot slot) v.seen) refl refl refl refl refl refl refl).last
+      last = (one_step_more-keeps_seen log.groups v.seen (seen_slot slot (words.slot slot) v.seen) refl refl refl refl refl refl refl).last
           (s.lasts me v at (ap is_spent active));
       others = λ seat total is old closed loaded. let both : Told m.total outcome m.remaining ≡ Closed seat total = sym m.told ∙ is in absurd (cc);
     }

@@ -23,8 +23,8 @@ use Rattle.log_rule.specs.Members.{IsForNextRecord, AwaitsAtStep}
 use Rattle.log_rule.specs.Slots.{own_pieces, pieces_at, KnowsPhase, KnowsGroup, PiecesTile, LiesWithin, sum_of}
 use Rattle.log_rule.specs.Views.{nobody, entries_in, books_in}
 use Rattle.log_rule.proofs.GroupEntering.{Entrant, history_with, EntersNot, EntersAs, AreApart}
-use Rattle.log_rule.proofs.Groups.{group-at, group-other, untold-closed}
-use Rattle.log_rule.proofs.RangeLists.{inside-here}
+use Rattle.log_rule.proofs.Groups.{put_group-at_equal, put_group-other, untold-closed}
+use Rattle.log_rule.proofs.RangeLists.{inside-starting_within}
 use Rattle.log_rule.proofs.TailMoving.{IsEmptyPart}
 
 -- ---- the parts
@@ -73,7 +73,7 @@ pub unreleased-placed : (base total : ℕ) (ms : List Member) → AllByRecursion
     → unreleased_in base total (placed_parts base ms) ≡ sum_of ms
 unreleased-placed base total [] within = refl
 unreleased-placed base total (m ∷ ms) within =
-    let here = inside-here base total (placed_piece base [] m.piece) (omega arith) (omega (arith, within.0.0, within.0.1)) in
+    let here = inside-starting_within base total (placed_piece base [] m.piece) (omega arith) (omega (arith, within.0.0, within.0.1)) in
     omega (arith, here, unreleased-placed base total ms within.1)
 
 -- what holds of the part of each member, and of its record as it enters
@@ -92,13 +92,13 @@ IsAmong piece [] = ⊥
 IsAmong piece (other ∷ others) = (other ≡ piece) ⊎ IsAmong piece others
 
 -- what holds of each piece that a seat has, holds of each member's
-pub each-own : (Q : ℕ → Piece → Type 0) (ms : List Member)
+pub own_pieces-all_members : (Q : ℕ → Piece → Type 0) (ms : List Member)
     → ((seat : ℕ) (piece : Piece) → IsAmong piece (own_pieces seat ms) → Q seat piece)
     → AllByRecursion (λ (m : Member). Q m.seat m.piece) ms
-each-own Q [] all = tt
-each-own Q (m ∷ ms) all = (
+own_pieces-all_members Q [] all = tt
+own_pieces-all_members Q (m ∷ ms) all = (
   all m.seat m.piece (subst (IsAmong m.piece) (sym here) (inl refl)),
-  each-own Q ms (λ seat piece among. all seat piece (later seat piece (m.seat == seat) among)),
+  own_pieces-all_members Q ms (λ seat piece among. all seat piece (later seat piece (m.seat == seat) among)),
 )
   where
     here : own_pieces m.seat (m ∷ ms) ≡ m.piece ∷ own_pieces m.seat ms
@@ -114,19 +114,19 @@ IsOneAtMost [] = Unit {0}
 IsOneAtMost (piece ∷ pieces) = pieces ≡ []
 
 -- a seat is a member of a slot once at most
-pub one-at : (slot : ℕ) (call : Call) → IsOneAtMost (pieces_at slot call)
-one-at slot Idle = tt
-one-at slot (Filling entry) = tt
-one-at slot (Joined other piece step) = by_test (other == slot)
+pub pieces_at-one_at_most : (slot : ℕ) (call : Call) → IsOneAtMost (pieces_at slot call)
+pieces_at-one_at_most slot Idle = tt
+pieces_at-one_at_most slot (Filling entry) = tt
+pieces_at-one_at_most slot (Joined other piece step) = by_test (other == slot)
   where
     by_test : (b : Bool) → IsOneAtMost (cond {A = List Piece} b (piece ∷ []) [])
     by_test true = refl
     by_test false = tt
-one-at slot (Emptying other base total) = tt
-one-at slot (Marked after) = tt
-one-at slot (Holding at after) = tt
-one-at slot (Raising from to after) = tt
-one-at slot (Reopening other) = tt
+pieces_at-one_at_most slot (Emptying other base total) = tt
+pieces_at-one_at_most slot (Marked after) = tt
+pieces_at-one_at_most slot (Holding at after) = tt
+pieces_at-one_at_most slot (Raising from to after) = tt
+pieces_at-one_at_most slot (Reopening other) = tt
 
 -- the call is that of the member with the piece
 pub record IsMemberAt (slot : ℕ) (piece : Piece) (call : Call) : Type 0 where
@@ -150,11 +150,11 @@ member-at slot piece (Raising from to after) among = absurd among
 member-at slot piece (Reopening other) among = absurd among
 
 -- a seat that was made has its view, and any other is nobody's
-pub seat-known : (views : List View) (seat : ℕ)
+pub seat-view_or_nobody : (views : List View) (seat : ℕ)
     → (get_elem? views seat ≡ some (get_or views seat nobody)) ⊎ (get_or views seat nobody ≡ nobody)
-seat-known [] seat = inr refl
-seat-known (x ∷ xs) zero = inl refl
-seat-known (x ∷ xs) (suc seat) = seat-known xs seat
+seat-view_or_nobody [] seat = inr refl
+seat-view_or_nobody (x ∷ xs) zero = inl refl
+seat-view_or_nobody (x ∷ xs) (suc seat) = seat-view_or_nobody xs seat
 
 -- ---- what a member's call has
 
@@ -168,22 +168,22 @@ pub record IsPlacedAt (leader total base : ℕ) (piece : Piece) (step : MemberSt
   pub awaits : (books : Books) → AwaitsAtStep step piece books → IsForNextRecord piece books
   pub knows : KnowsPhase step (Placed leader total (Granted base))
 
-pub placed-step : (leader total base : ℕ) (piece : Piece) (step : MemberStep) → KnowsPhase step (Closed leader total)
+pub knows_closed-placed_at : (leader total base : ℕ) (piece : Piece) (step : MemberStep) → KnowsPhase step (Closed leader total)
     → IsPlacedAt leader total base piece step
-placed-step leader total base piece Closes known =
+knows_closed-placed_at leader total base piece Closes known =
     record { entries = refl; before = λ _. refl; books = λ _. refl; awaits = λ _ a. a; knows = tt }
-placed-step leader total base piece Waits known =
+knows_closed-placed_at leader total base piece Waits known =
     record { entries = refl; before = λ _. refl; books = λ _. refl; awaits = λ _ a. a; knows = tt }
-placed-step leader total base piece (Hears refused told) known = absurd
+knows_closed-placed_at leader total base piece (Hears refused told) known = absurd
     (untold-closed leader total told known.outcome known.remaining known.told)
-placed-step leader total base piece (Places units closed) known =
+knows_closed-placed_at leader total base piece (Places units closed) known =
     record { entries = refl; before = λ _. refl; books = λ _. refl; awaits = λ _ a. a; knows = tt }
-placed-step leader total base piece (Stores units old) known =
+knows_closed-placed_at leader total base piece (Stores units old) known =
     record { entries = refl; before = λ _. refl; books = λ _. refl; awaits = λ _ a. a; knows = tt }
-placed-step leader total base piece (Tells units outcome) known =
+knows_closed-placed_at leader total base piece (Tells units outcome) known =
     record { entries = refl; before = λ _. refl; books = λ _. refl; awaits = λ _ a. a; knows = tt }
-placed-step leader total base piece (Fills old units) known = absurd (untold-closed leader total known.total _ known.remaining known.told)
-placed-step leader total base piece (Leaves tail durable) known = absurd
+knows_closed-placed_at leader total base piece (Fills old units) known = absurd (untold-closed leader total known.total _ known.remaining known.told)
+knows_closed-placed_at leader total base piece (Leaves tail durable) known = absurd
     (untold-closed leader total known.total _ known.remaining known.told)
 
 -- the call is a member's, whose record enters
@@ -213,10 +213,10 @@ module _ (groups : ℕ → Group) (slot : ℕ) (g : Group) (leader total base : 
   member-here other piece step same known =
       let old : (groups other).phase ≡ Closed leader total = ap (λ n. (groups n).phase) same ∙ was in
       let now : (after other).phase ≡ Placed leader total (Granted base) =
-      ap (λ (x : Group). x.phase) (group-at groups slot other g same) ∙ is in
+      ap (λ (x : Group). x.phase) (put_group-at_equal groups slot other g same) ∙ is in
       let one : pieces_at slot (Joined other piece step) ≡ piece ∷ [] =
       ap (λ b. cond {A = List Piece} b (piece ∷ []) []) (eq-eqb other slot same) in
-      let p : IsPlacedAt leader total base piece step = placed-step leader total base piece step (subst (KnowsPhase step) old known) in
+      let p : IsPlacedAt leader total base piece step = knows_closed-placed_at leader total base piece step (subst (KnowsPhase step) old known) in
       record {
         entries = (λ i. member_entry (old i) piece step ++ entries_at base (one i))
             ∙ (p.entries ∙ sym (ap (λ q. member_entry q piece step) now));
@@ -227,7 +227,7 @@ module _ (groups : ℕ → Group) (slot : ℕ) (g : Group) (leader total base : 
   member-else : (other : ℕ) (piece : Piece) (step : MemberStep) → other ≢ slot → KnowsPhase step (groups other).phase
       → OncePlaced groups after base slot (Joined other piece step)
   member-else other piece step differ known =
-      let there : after other ≡ groups other = group-other groups slot other g differ in
+      let there : after other ≡ groups other = put_group-other groups slot other g differ in
       let none : pieces_at slot (Joined other piece step) ≡ [] =
       ap (λ b. cond {A = List Piece} b (piece ∷ []) []) (ne_eqb other slot differ) in record {
         entries = (λ i. member_entry (groups other).phase piece step ++ entries_at base (none i))
@@ -284,11 +284,11 @@ module _ (views : List View) (base : ℕ) where
       by_test true is one rest = let same : m.piece ≡ piece = cc in inl ((λ i. entrant (eqb-true m.seat seat is i) (same i)), refl)
       by_test false is one rest = inr (rest one)
 
-  pub apart : (ms : List Member) → ((seat : ℕ) → IsOneAtMost (own_pieces seat ms)) → AreApart (entrants ms)
-  apart [] one = tt
-  apart (m ∷ ms) one = (
+  pub entrants-are_apart : (ms : List Member) → ((seat : ℕ) → IsOneAtMost (own_pieces seat ms)) → AreApart (entrants ms)
+  entrants-are_apart [] one = tt
+  entrants-are_apart (m ∷ ms) one = (
     enters-not m.seat ms (subst IsOneAtMost here (one m.seat)),
-    apart ms (λ seat. fewer (m.seat == seat) (own_pieces seat ms) (one seat)),
+    entrants-are_apart ms (λ seat. fewer (m.seat == seat) (own_pieces seat ms) (one seat)),
   )
     where
       here : own_pieces m.seat (m ∷ ms) ≡ m.piece ∷ own_pieces m.seat ms

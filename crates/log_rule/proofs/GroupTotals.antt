@@ -24,9 +24,9 @@ use Rattle.log_rule.specs.Views.{nobody, books_in}
 use Rattle.log_rule.specs.Words.{Words}
 use Rattle.log_rule.proofs.Entering.{enters-spellable}
 use Rattle.log_rule.proofs.Groups.{IsUntold, untold-gathering}
-use Rattle.log_rule.proofs.Lists.{all-both, all-weaker}
-use Rattle.log_rule.proofs.SlotLeading.{active-if}
-use Rattle.log_rule.proofs.SlotStoring.{tiles-sum}
+use Rattle.log_rule.proofs.Lists.{all-weaken_both, all-weaken}
+use Rattle.log_rule.proofs.SlotLeading.{is_active-role_active}
+use Rattle.log_rule.proofs.SlotStoring.{pieces_tile-sum_within}
 
 -- ---- members are seats apart, each with its one piece
 
@@ -130,7 +130,7 @@ module _ (number : ℕ → ℕ) where
   members-fit : (ms : List Member) (made : List ℕ) → AreOfOthers ms → AreMade made ms → length ms ≤ length made
   members-fit [] made apart known = omega arith
   members-fit (m ∷ ms) made apart known =
-      let left = all-both (λ (k : Member). number k.seat ≢ number m.seat) (λ (k : Member). Knows (number k.seat) made)
+      let left = all-weaken_both (λ (k : Member). number k.seat ≢ number m.seat) (λ (k : Member). Knows (number k.seat) made)
       (λ (k : Member). Knows (number k.seat) (without (number m.seat) made)) ms
       (λ k differ is. without-knows (number m.seat) (number k.seat) made differ is) apart.0 known.1 in
       let rest = members-fit ms (without (number m.seat) made) apart.1 left in
@@ -149,7 +149,7 @@ sum-each : (ms : List Member) → AreShort ms → AllByRecursion (λ (k : Member
 sum-each [] short = tt
 sum-each (m ∷ ms) short = let least = sum-least ms short.1 in let mine = short.0 in (
   omega (arith, least),
-  all-weaker (λ (k : Member). sum_of ms + 26 ≤ k.piece.size + 26 * length ms) (λ (k : Member). sum_of (m ∷ ms) + 26 ≤ k.piece.size + 26 * length (m ∷ ms)) ms
+  all-weaken (λ (k : Member). sum_of ms + 26 ≤ k.piece.size + 26 * length ms) (λ (k : Member). sum_of (m ∷ ms) + 26 ≤ k.piece.size + 26 * length (m ∷ ms)) ms
       (λ k is. omega (arith, is, mine)) (sum-each ms short.1),
 )
 
@@ -244,7 +244,7 @@ module _ (key : Start) (words : Words) (views : List View) (log : Log) (s : IsSo
     is-workers : IsWorkers m
     is-workers = record {
       there = there;
-      active = active-if y.standing.role (λ off. let no : Joined slot m.piece call.step ≡ Idle = sym call.is ∙ s.resting m.seat y there off in cc);
+      active = is_active-role_active y.standing.role (λ off. let no : Joined slot m.piece call.step ≡ Idle = sym call.is ∙ s.resting m.seat y there off in cc);
       short = short;
     }
 
@@ -252,7 +252,7 @@ module _ (key : Start) (words : Words) (views : List View) (log : Log) (s : IsSo
   numbers-apart : (ms : List Member) → AreApart ms → AllByRecursion IsWorkers ms → AreOfOthers number ms
   numbers-apart [] apart all = tt
   numbers-apart (m ∷ ms) apart all = (
-    all-both (λ (k : Member). k.seat ≢ m.seat) IsWorkers (λ (k : Member). number k.seat ≢ number m.seat) ms
+    all-weaken_both (λ (k : Member). k.seat ≢ m.seat) IsWorkers (λ (k : Member). number k.seat ≢ number m.seat) ms
         (λ k differ is same. differ ((s.roles.pairs k.seat (view_at k.seat) is.there m.seat (view_at m.seat) all.0.there).apart
         (ap is_worker is.active) (ap is_worker all.0.active) same)) apart.0 all.1,
     numbers-apart ms apart.1 all.1,
@@ -266,14 +266,14 @@ module _ (key : Start) (words : Words) (views : List View) (log : Log) (s : IsSo
     once = own-once (λ seat. pieces_at slot (view_at seat).call) (λ seat. few-at slot (view_at seat).call) members (λ seat. inr ((s.owners seat).joins slot))
 
     workers : AllByRecursion IsWorkers members
-    workers = all-weaker (λ (m : Member). pieces_at slot (view_at m.seat).call ≡ m.piece ∷ []) IsWorkers members is-workers once.1
+    workers = all-weaken (λ (m : Member). pieces_at slot (view_at m.seat).call ≡ m.piece ∷ []) IsWorkers members is-workers once.1
 
-    pub gathered-total : (j : ℕ) (z : View) → get_elem? views j ≡ some z → z.standing.role ≡ Flusher → IsTotalOfEach (length z.standing.made) total members
-    gathered-total j z at flusher =
-        let made = all-weaker IsWorkers (λ (k : Member). Knows (number k.seat) z.standing.made) members
+    pub gathering-total_of_each : (j : ℕ) (z : View) → get_elem? views j ≡ some z → z.standing.role ≡ Flusher → IsTotalOfEach (length z.standing.made) total members
+    gathering-total_of_each j z at flusher =
+        let made = all-weaken IsWorkers (λ (k : Member). Knows (number k.seat) z.standing.made) members
         (λ k is. (s.roles.pairs j z at k.seat (view_at k.seat) is.there).made flusher (ap is_worker is.active)) workers in
         let fit = members-fit number members z.standing.made (numbers-apart members once.0 workers) made in
-        let sum = (tiles-sum 0 total total members joined.tiles (omega arith)).0 in
-        all-weaker (λ (k : Member). sum_of members + 26 ≤ k.piece.size + 26 * length members)
+        let sum = (pieces_tile-sum_within 0 total total members joined.tiles (omega arith)).0 in
+        all-weaken (λ (k : Member). sum_of members + 26 ≤ k.piece.size + 26 * length members)
         (λ (k : Member). IsTotalOf (length z.standing.made) k.piece.size total) members (λ k is. omega (arith, is, fit, sum))
-        (sum-each members (all-weaker IsWorkers (λ (k : Member). k.piece.size ≤ 26) members (λ k is. is.short) workers))
+        (sum-each members (all-weaken IsWorkers (λ (k : Member). k.piece.size ≤ 26) members (λ k is. is.short) workers))

@@ -17,22 +17,22 @@ use Rattle.log_rule.specs.GroupViews.{unheard_entry, unheard_books, member_entry
 use Rattle.log_rule.specs.Log.{LogRange, Shared, claim_of, IsSharedByMembers, IsAtWork}
 use Rattle.log_rule.specs.Slots.{own_pieces, pieces_at, is_led_by, known_phase, led_phase, phase_led, phase_at, KnowsPhase, KnowsGroup, is_shared_at, shares, shared, range_of, sum_of, HasRemaining, IsAtPhase}
 use Rattle.log_rule.specs.Views.{entries_in, books_in}
-use Rattle.log_rule.proofs.Lists.{all-both}
+use Rattle.log_rule.proofs.Lists.{all-weaken_both}
 
 -- ---- the groups but one
 
-pub group-here : (groups : ℕ → Group) (slot : ℕ) (g : Group) → put_group groups slot g slot ≡ g
-group-here groups slot g = ap (λ b. cond b g (groups slot)) (eq-eqb slot slot refl)
+pub put_group-at : (groups : ℕ → Group) (slot : ℕ) (g : Group) → put_group groups slot g slot ≡ g
+put_group-at groups slot g = ap (λ b. cond b g (groups slot)) (eq-eqb slot slot refl)
 
-pub group-at : (groups : ℕ → Group) (slot other : ℕ) (g : Group) → other ≡ slot → put_group groups slot g other ≡ g
-group-at groups slot other g same = ap (λ b. cond b g (groups other)) (eq-eqb other slot same)
+pub put_group-at_equal : (groups : ℕ → Group) (slot other : ℕ) (g : Group) → other ≡ slot → put_group groups slot g other ≡ g
+put_group-at_equal groups slot other g same = ap (λ b. cond b g (groups other)) (eq-eqb other slot same)
 
-pub group-other : (groups : ℕ → Group) (slot other : ℕ) (g : Group) → other ≢ slot → put_group groups slot g other ≡ groups other
-group-other groups slot other g differ = ap (λ b. cond b g (groups other)) (ne_eqb other slot differ)
+pub put_group-other : (groups : ℕ → Group) (slot other : ℕ) (g : Group) → other ≢ slot → put_group groups slot g other ≡ groups other
+put_group-other groups slot other g differ = ap (λ b. cond b g (groups other)) (ne_eqb other slot differ)
 
 -- what holds of the one and of all others
-pub put-keeps : (P : Group → Type 0) (groups : ℕ → Group) (slot other : ℕ) (g : Group) → (other ≡ slot → P g) → P (groups other) → P (put_group groups slot g other)
-put-keeps P groups slot other g here there = by_test (other == slot) refl
+pub put_group-all : (P : Group → Type 0) (groups : ℕ → Group) (slot other : ℕ) (g : Group) → (other ≡ slot → P g) → P (groups other) → P (put_group groups slot g other)
+put_group-all P groups slot other g here there = by_test (other == slot) refl
   where
     by_test : (b : Bool) → (other == slot) ≡ b → P (cond b g (groups other))
     by_test true is = here (eqb-true other slot is)
@@ -51,30 +51,30 @@ pub record SameUnheard (old new : GroupPhase) : Type 0 where
   pub entry : (piece : Piece) → unheard_entry new piece ≡ unheard_entry old piece
   pub books : (piece : Piece) (books : Books) → unheard_books new piece books ≡ unheard_books old piece books
 
-pub keeps : (old new : GroupPhase) → SameUnheard old new → ((step : MemberStep) → KnowsPhase step old → KnowsPhase step new)
+pub same_unheard-keeps : (old new : GroupPhase) → SameUnheard old new → ((step : MemberStep) → KnowsPhase step old → KnowsPhase step new)
     → (piece : Piece) (step : MemberStep) → Keeps old new piece step
-keeps old new same knows piece Closes = record { entry = same.entry piece; books = same.books piece; knows = knows Closes }
-keeps old new same knows piece Waits = record { entry = same.entry piece; books = same.books piece; knows = knows Waits }
-keeps old new same knows piece (Hears refused total) = record { entry = same.entry piece; books = same.books piece; knows = knows (Hears refused total) }
-keeps old new same knows piece (Places total closed) = record { entry = same.entry piece; books = same.books piece; knows = knows (Places total closed) }
-keeps old new same knows piece (Stores total base) = record { entry = same.entry piece; books = same.books piece; knows = knows (Stores total base) }
-keeps old new same knows piece (Tells total outcome) = record { entry = same.entry piece; books = same.books piece; knows = knows (Tells total outcome) }
-keeps old new same knows piece (Fills base units) = record { entry = refl; books = λ _. refl; knows = knows (Fills base units) }
-keeps old new same knows piece (Leaves tail durable) = record { entry = refl; books = λ _. refl; knows = knows (Leaves tail durable) }
+same_unheard-keeps old new same knows piece Closes = record { entry = same.entry piece; books = same.books piece; knows = knows Closes }
+same_unheard-keeps old new same knows piece Waits = record { entry = same.entry piece; books = same.books piece; knows = knows Waits }
+same_unheard-keeps old new same knows piece (Hears refused total) = record { entry = same.entry piece; books = same.books piece; knows = knows (Hears refused total) }
+same_unheard-keeps old new same knows piece (Places total closed) = record { entry = same.entry piece; books = same.books piece; knows = knows (Places total closed) }
+same_unheard-keeps old new same knows piece (Stores total base) = record { entry = same.entry piece; books = same.books piece; knows = knows (Stores total base) }
+same_unheard-keeps old new same knows piece (Tells total outcome) = record { entry = same.entry piece; books = same.books piece; knows = knows (Tells total outcome) }
+same_unheard-keeps old new same knows piece (Fills base units) = record { entry = refl; books = λ _. refl; knows = knows (Fills base units) }
+same_unheard-keeps old new same knows piece (Leaves tail durable) = record { entry = refl; books = λ _. refl; knows = knows (Leaves tail durable) }
 
 -- a group at this phase is not told
 abbrev pub IsUntold : GroupPhase → Type 0
 IsUntold phase = (total : ℕ) (outcome : Outcome) (remaining : ℕ) → phase ≡ Told total outcome remaining → ⊥
 
-pub knows-untold : (old new : GroupPhase) → IsUntold old → (step : MemberStep) → KnowsPhase step old → KnowsPhase step new
-knows-untold old new untold Closes known = tt
-knows-untold old new untold Waits known = tt
-knows-untold old new untold (Hears refused total) known = absurd (untold total known.outcome known.remaining known.told)
-knows-untold old new untold (Places total closed) known = tt
-knows-untold old new untold (Stores total base) known = tt
-knows-untold old new untold (Tells total outcome) known = tt
-knows-untold old new untold (Fills base units) known = absurd (untold known.total _ known.remaining known.told)
-knows-untold old new untold (Leaves tail durable) known = absurd (untold known.total _ known.remaining known.told)
+pub untold-knows_any_phase : (old new : GroupPhase) → IsUntold old → (step : MemberStep) → KnowsPhase step old → KnowsPhase step new
+untold-knows_any_phase old new untold Closes known = tt
+untold-knows_any_phase old new untold Waits known = tt
+untold-knows_any_phase old new untold (Hears refused total) known = absurd (untold total known.outcome known.remaining known.told)
+untold-knows_any_phase old new untold (Places total closed) known = tt
+untold-knows_any_phase old new untold (Stores total base) known = tt
+untold-knows_any_phase old new untold (Tells total outcome) known = tt
+untold-knows_any_phase old new untold (Fills base units) known = absurd (untold known.total _ known.remaining known.told)
+untold-knows_any_phase old new untold (Leaves tail durable) known = absurd (untold known.total _ known.remaining known.told)
 
 pub untold-vacant : IsUntold Vacant
 untold-vacant total outcome remaining is = cc
@@ -92,8 +92,8 @@ pub untold-ready : (leader units : ℕ) (o : Outcome) → IsUntold (Ready leader
 untold-ready leader units o total outcome remaining is = cc
 
 -- what the seat knows of the phase that it leads is so
-pub known-led : (seat : ℕ) (p q : GroupPhase) → led_phase seat p ≡ q ∷ [] → known_phase p ≡ q
-known-led seat p q is = by_test (is_led_by seat p) is
+pub led_phase-known_phase : (seat : ℕ) (p q : GroupPhase) → led_phase seat p ≡ q ∷ [] → known_phase p ≡ q
+led_phase-known_phase seat p q is = by_test (is_led_by seat p) is
   where
     by_test : (b : Bool) → cond b (known_phase p ∷ []) [] ≡ q ∷ [] → known_phase p ≡ q
     by_test true is = cc
@@ -109,14 +109,14 @@ IsWhole (Ready leader total outcome) = Unit {0}
 IsWhole (Told total outcome remaining) = Unit {0}
 IsWhole (Emptied last) = Unit {0}
 
-pub known-whole : (p q : GroupPhase) → known_phase p ≡ q → IsWhole q → p ≡ q
-known-whole Vacant q is whole = is
-known-whole (Gathering leader total) q is whole = absurd (subst IsWhole (sym is) whole)
-known-whole (Closed leader total) q is whole = is
-known-whole (Placed leader total outcome) q is whole = is
-known-whole (Ready leader total outcome) q is whole = is
-known-whole (Told total outcome remaining) q is whole = is
-known-whole (Emptied last) q is whole = is
+pub known_phase-equal_if_whole : (p q : GroupPhase) → known_phase p ≡ q → IsWhole q → p ≡ q
+known_phase-equal_if_whole Vacant q is whole = is
+known_phase-equal_if_whole (Gathering leader total) q is whole = absurd (subst IsWhole (sym is) whole)
+known_phase-equal_if_whole (Closed leader total) q is whole = is
+known_phase-equal_if_whole (Placed leader total outcome) q is whole = is
+known_phase-equal_if_whole (Ready leader total outcome) q is whole = is
+known_phase-equal_if_whole (Told total outcome remaining) q is whole = is
+known_phase-equal_if_whole (Emptied last) q is whole = is
 
 -- what another seat sees of the change
 pub record Others (old g : Group) (seat : ℕ) : Type 0 where
@@ -139,7 +139,7 @@ module _ (groups : ℕ → Group) (slot : ℕ) (g : Group) (seat : ℕ) (o : Oth
       → ((q : ℕ) → led_phase seat (groups q).phase ≡ phase_at seat q (Joined other piece step)) → HasAsBefore groups after (Joined other piece step)
   member-as-before other piece step joins leads = dite (ℕ_discrete other slot)
       (λ same.
-      let here : (after other).phase ≡ g.phase = ap (λ (x : Group). x.phase) (group-at groups slot other g same) in
+      let here : (after other).phase ≡ g.phase = ap (λ (x : Group). x.phase) (put_group-at_equal groups slot other g same) in
       let old : (groups other).phase ≡ (groups slot).phase = ap (λ n. (groups n).phase) same in
       let k : Keeps (groups slot).phase g.phase piece step =
       o.keep piece step (joins slot ∙ ap (λ b. cond {A = List Piece} b (piece ∷ []) []) (eq-eqb other slot same))
@@ -148,7 +148,7 @@ module _ (groups : ℕ → Group) (slot : ℕ) (g : Group) (seat : ℕ) (o : Oth
         books = λ books. ap (λ p. member_books p piece step books) here ∙ (k.books books ∙ ap (λ p. member_books p piece step books) (sym old));
         knows = λ known. subst (KnowsPhase step) (sym here) (k.knows (subst (KnowsPhase step) old known));
       })
-      (λ differ. let there : after other ≡ groups other = group-other groups slot other g differ in record {
+      (λ differ. let there : after other ≡ groups other = put_group-other groups slot other g differ in record {
         entries = ap (λ (x : Group). member_entry x.phase piece step) there;
         books = λ books. ap (λ (x : Group). member_books x.phase piece step books) there;
         knows = subst (λ (x : Group). KnowsPhase step x.phase) (sym there);
@@ -171,15 +171,15 @@ some-left : (most total remaining : ℕ) (members : List Member) → HasRemainin
 some-left most total remaining members h none =
     let zero' : sum_of members ≡ 0 = ap sum_of none in let sum = h.sum in let some_units = h.some_units in omega arith
 
-pub members-some : (most word base : ℕ) (members : List Member) (phase : GroupPhase) → IsAtPhase most word base members phase → range_of phase ≢ []
+pub range_of-some_members : (most word base : ℕ) (members : List Member) (phase : GroupPhase) → IsAtPhase most word base members phase → range_of phase ≢ []
     → members ≢ []
-members-some most word base members Vacant is some_range = absurd (some_range refl)
-members-some most word base members (Gathering leader total) is some_range = absurd (some_range refl)
-members-some most word base members (Closed leader total) is some_range = absurd (some_range refl)
-members-some most word base members (Placed leader total outcome) is some_range = some-left most total total members is.remains
-members-some most word base members (Ready leader total outcome) is some_range = some-left most total total members is.remains
-members-some most word base members (Told total outcome remaining) is some_range = some-left most total remaining members is.remains
-members-some most word base members (Emptied last) is some_range = absurd (some_range refl)
+range_of-some_members most word base members Vacant is some_range = absurd (some_range refl)
+range_of-some_members most word base members (Gathering leader total) is some_range = absurd (some_range refl)
+range_of-some_members most word base members (Closed leader total) is some_range = absurd (some_range refl)
+range_of-some_members most word base members (Placed leader total outcome) is some_range = some-left most total total members is.remains
+range_of-some_members most word base members (Ready leader total outcome) is some_range = some-left most total total members is.remains
+range_of-some_members most word base members (Told total outcome remaining) is some_range = some-left most total remaining members is.remains
+range_of-some_members most word base members (Emptied last) is some_range = absurd (some_range refl)
 
 each-shared : (slot : ℕ) (ranges : List LogRange) (Q : Type 0) → (shared slot ranges ≢ [] → Q) → AllByRecursion (λ (r : LogRange). r.duty ≡ Shared slot → Q) ranges
 each-shared slot [] Q some_shared = tt
@@ -196,10 +196,10 @@ each-shared slot (r ∷ rs) Q some_shared = (
     behind true none = absurd (cc)
     behind false none = none
 
-pub work-stays : (groups : ℕ → Group) (slot : ℕ) (g : Group) (ahead : List LogRange) → (shared slot ahead ≢ [] → g.members ≢ [])
+pub at_work-put_group : (groups : ℕ → Group) (slot : ℕ) (g : Group) (ahead : List LogRange) → (shared slot ahead ≢ [] → g.members ≢ [])
     → AllByRecursion (IsAtWork groups) ahead → AllByRecursion (IsAtWork (put_group groups slot g)) ahead
-work-stays groups slot g ahead some_members work =
-    all-both (IsAtWork groups) (λ (r : LogRange). r.duty ≡ Shared slot → g.members ≢ []) (IsAtWork (put_group groups slot g)) ahead
+at_work-put_group groups slot g ahead some_members work =
+    all-weaken_both (IsAtWork groups) (λ (r : LogRange). r.duty ≡ Shared slot → g.members ≢ []) (IsAtWork (put_group groups slot g)) ahead
     (λ r at some_here. ⊎_elim (λ released. inl released)
     (λ owed. inr (⊎_elim (λ by_seat. inl by_seat) (λ by_members. inr (moved r by_members some_here)) owed)) at)
     work (each-shared slot ahead (g.members ≢ []) some_members)
@@ -209,8 +209,8 @@ work-stays groups slot g ahead some_members work =
       slot = by.slot;
       duty = by.duty;
       members = dite (ℕ_discrete by.slot slot)
-          (λ same. subst (λ (x : Group). x.members ≢ []) (sym (group-at groups slot by.slot g same)) (some_here (by.duty ∙ ap Shared same)))
-          (λ differ. subst (λ (x : Group). x.members ≢ []) (sym (group-other groups slot by.slot g differ)) by.members);
+          (λ same. subst (λ (x : Group). x.members ≢ []) (sym (put_group-at_equal groups slot by.slot g same)) (some_here (by.duty ∙ ap Shared same)))
+          (λ differ. subst (λ (x : Group). x.members ≢ []) (sym (put_group-other groups slot by.slot g differ)) by.members);
     }
 
 -- ---- one of a list changes, and no other is told otherwise
@@ -220,13 +220,13 @@ module _ {A : Type 0} {B : Type 0} (tell tell' : A → B) where
   all-told [] same = refl
   all-told (x ∷ xs) same = λ i. same 0 x refl i ∷ all-told xs (λ j y there. same (suc j) y there) i
 
-  pub told-same : (list : List A) (me : ℕ) (old new : A) → get_elem? list me ≡ some old → tell' new ≡ tell old
+  pub map-set_agreeing : (list : List A) (me : ℕ) (old new : A) → get_elem? list me ≡ some old → tell' new ≡ tell old
       → ((j : ℕ) (x : A) → j ≢ me → get_elem? list j ≡ some x → tell' x ≡ tell x) → map tell' (set list me new) ≡ map tell list
-  told-same [] me old new at mine others = refl
-  told-same (x ∷ xs) zero old new at mine others = let is : x ≡ old = some-injective x old at in
+  map-set_agreeing [] me old new at mine others = refl
+  map-set_agreeing (x ∷ xs) zero old new at mine others = let is : x ≡ old = some-injective x old at in
       λ i. (mine ∙ ap tell (sym is)) i ∷ all-told xs (λ j y there. others (suc j) y (λ e. omega arith) there) i
-  told-same (x ∷ xs) (suc me) old new at mine others =
-      λ i. others zero x (λ e. omega arith) refl i ∷ told-same xs me old new at mine (λ j y differ there. others (suc j) y (λ e. differ (omega arith)) there) i
+  map-set_agreeing (x ∷ xs) (suc me) old new at mine others =
+      λ i. others zero x (λ e. omega arith) refl i ∷ map-set_agreeing xs me old new at mine (λ j y differ there. others (suc j) y (λ e. differ (omega arith)) there) i
 
 -- ---- the groups that the machine is shown
 
@@ -234,18 +234,18 @@ shown-before : (first count at : ℕ) (groups : ℕ → Group) (g : Group) → a
     → groups_from first count (put_group groups at g) ≡ groups_from first count groups
 shown-before first zero at groups g before = refl
 shown-before first (suc more) at groups g before =
-    λ i. group_shown (group-other groups at first g (λ e. omega arith) i) ∷ shown-before (first + 1) more at groups g (omega arith) i
+    λ i. group_shown (put_group-other groups at first g (λ e. omega arith) i) ∷ shown-before (first + 1) more at groups g (omega arith) i
 
-pub shown-put : (first count slot at : ℕ) (groups : ℕ → Group) (g : Group) → at ≡ first + slot
+pub groups_from-put_group : (first count slot at : ℕ) (groups : ℕ → Group) (g : Group) → at ≡ first + slot
     → groups_from first count (put_group groups at g) ≡ set (groups_from first count groups) slot (group_shown g)
-shown-put first zero slot at groups g is = refl
-shown-put first (suc more) zero at groups g is =
-    λ i. group_shown (group-at groups at first g (omega arith) i) ∷ shown-before (first + 1) more at groups g (omega arith) i
-shown-put first (suc more) (suc slot) at groups g is =
-    λ i. group_shown (group-other groups at first g (λ e. omega arith) i) ∷ shown-put (first + 1) more slot at groups g (omega arith) i
+groups_from-put_group first zero slot at groups g is = refl
+groups_from-put_group first (suc more) zero at groups g is =
+    λ i. group_shown (put_group-at_equal groups at first g (omega arith) i) ∷ shown-before (first + 1) more at groups g (omega arith) i
+groups_from-put_group first (suc more) (suc slot) at groups g is =
+    λ i. group_shown (put_group-other groups at first g (λ e. omega arith) i) ∷ groups_from-put_group (first + 1) more slot at groups g (omega arith) i
 
-pub shown-at : (first count slot at : ℕ) (groups : ℕ → Group) → at ≡ first + slot → slot < count
+pub group_at-groups_from : (first count slot at : ℕ) (groups : ℕ → Group) → at ≡ first + slot → slot < count
     → group_at slot (groups_from first count groups) ≡ group_shown (groups at)
-shown-at first zero slot at groups is below = absurd (omega arith)
-shown-at first (suc more) zero at groups is below = let here : first ≡ at = omega arith in ap (λ n. group_shown (groups n)) here
-shown-at first (suc more) (suc slot) at groups is below = shown-at (first + 1) more slot at groups (omega arith) (omega arith)
+group_at-groups_from first zero slot at groups is below = absurd (omega arith)
+group_at-groups_from first (suc more) zero at groups is below = let here : first ≡ at = omega arith in ap (λ n. group_shown (groups n)) here
+group_at-groups_from first (suc more) (suc slot) at groups is below = group_at-groups_from (first + 1) more slot at groups (omega arith) (omega arith)

@@ -12,7 +12,7 @@ use Rattle.lock_core.specs.Transactions.{of_transaction}
 use Rattle.lock_core.specs.Sums.{BaseState, as_opening, total, AreInRange, last_commit_of}
 use Rattle.lock_core.specs.Lawful.{tests, Passes}
 use Rattle.lock_core.specs.Serial.{IsRunWhole, IsCutShort}
-use Rattle.lock_core.proofs.OneMore.{of_transaction-same, of_transaction-other}
+use Rattle.lock_core.proofs.OneMore.{of_transaction-first_own, of_transaction-first_other}
 use Rattle.lock_core.proofs.SerialFronts.{IsRunPartly, run_partly-other}
 use Rattle.log_rule.specs.declared.view.TakenJob.{TakenJob}
 use Rattle.log_rule.specs.declared.view.Taken.{Taken}
@@ -20,8 +20,8 @@ use Rattle.log_rule.specs.declared.view.Given.{Given}
 use Rattle.log_rule.specs.declared.view.Books.{Books}
 use Rattle.log_rule.specs.Books.{task_of, times_held, times_taken}
 use Rattle.log_rule.specs.Accounts.{takers, IsAsTaken, HasOneHolder, HasDistinctJobs, Follows, WentBack, AccountsFollowList}
-use Rattle.log_rule.proofs.Bookings.{everywhere-moves, everywhere-set, summed-set, summed-one, summed-two, all-held, all-taken, one-taker}
-use Rattle.log_rule.proofs.Lists.{all-both, all-weaker}
+use Rattle.log_rule.proofs.Bookings.{everywhere-set_weaken, everywhere-set, summed-set, summed-member_le, summed-two_members_le, all-weaken_if_held, all-weaken_if_taken, distinct_jobs-numbers_differ}
+use Rattle.log_rule.proofs.Lists.{all-weaken_both, all-weaken}
 
 -- the entry leaves the account as it was
 pub record IsSameAt (base : BaseState) (h : List Placed) (entry : Placed) (account : ℕ) : Type 0 where
@@ -45,11 +45,11 @@ still-back base h entry given old uncommitted = let was = old uncommitted in rec
 }
 
 -- a held account of one seat is held by no other
-pub one-holder : (accounts : ℕ) (words : ℕ → ℕ) (all : List Books) → HasOneHolder accounts words all → (i j : ℕ) (x y : Books) → get_elem? all i ≡ some x
+pub one_holder-unheld_by_others : (accounts : ℕ) (words : ℕ → ℕ) (all : List Books) → HasOneHolder accounts words all → (i j : ℕ) (x y : Books) → get_elem? all i ≡ some x
     → get_elem? all j ≡ some y → j ≢ i → (account : ℕ) → account < accounts → 1 ≤ times_held account y.held → times_held account x.held ≡ 0
-one-holder accounts words all holder i j x y here there differ account below has =
+one_holder-unheld_by_others accounts words all holder i j x y here there differ account below has =
     at_most (held_in (words account)) (holder.counts account below)
-    (summed-two (λ (books : Books). times_held account books.held) all i j x y here there differ) has
+    (summed-two_members_le (λ (books : Books). times_held account books.held) all i j x y here there differ) has
   where
     at_most : (b : Bool) {n m k : ℕ} → k ≡ cond b 1 0 → n + m ≤ k → 1 ≤ m → n ≡ 0
     at_most true count two has = omega arith
@@ -60,7 +60,7 @@ pub free-unheld : (accounts : ℕ) (words : ℕ → ℕ) (all : List Books) → 
     → (account : ℕ) → account < accounts → held_in (words account) ≡ false → times_held account x.held ≡ 0
 free-unheld accounts words all holder i x here account below free =
     let none : cond {A = ℕ} (held_in (words account)) 1 0 ≡ 0 = ap (λ b. cond {A = ℕ} b 1 0) free in
-    let one = summed-one (λ (books : Books). times_held account books.held) all i x here in let count = holder.counts account below in omega arith
+    let one = summed-member_le (λ (books : Books). times_held account books.held) all i x here in let count = holder.counts account below in omega arith
 
 module _ (base : BaseState) (words : ℕ → ℕ) (h : List Placed) (all : List Books) (me : ℕ) (mine : Books) (entry : Placed)
     (distinct : HasDistinctJobs all) (holder : HasOneHolder base.accounts words all) (s : AccountsFollowList base words h all)
@@ -73,15 +73,15 @@ module _ (base : BaseState) (words : ℕ → ℕ) (h : List Placed) (all : List 
 
   -- the entry is of no other seat's job
   other-job : (j : ℕ) (x : Books) → j ≢ me → get_elem? all j ≡ some x → (number : ℕ) → 1 ≤ times_taken number x.jobs → txn_of entry.rec ≢ number
-  other-job j x differ there number has same = one-taker all me j mine x mine.last.number number distinct at there differ here has (sym own ∙ same)
+  other-job j x differ there number has same = distinct_jobs-numbers_differ all me j mine x mine.last.number number distinct at there differ here has (sym own ∙ same)
 
   takers-same : (number : ℕ) → takers number (set all me new) ≡ takers number all
   takers-same number = let set' = summed-set (λ (books : Books). times_taken number books.jobs) all me mine new at in omega arith
 
   runs-mine : IsRunPartly base (entry ∷ h) (task_of mine.last)
       → AllByRecursion (λ (taken : TakenJob). IsRunWhole base (entry ∷ h) (task_of taken) ⊎ IsCutShort (entry ∷ h) (task_of taken)) mine.jobs
-  runs-mine ran = all-taken _ (λ (taken : TakenJob). IsRunPartly base (entry ∷ h) (task_of taken)) mine.jobs
-      (all-both (λ (taken : TakenJob). IsRunPartly base h (task_of taken)) (λ (taken : TakenJob). taken.number ≡ mine.last.number → taken.job ≡ mine.last.job)
+  runs-mine ran = all-weaken_if_taken _ (λ (taken : TakenJob). IsRunPartly base (entry ∷ h) (task_of taken)) mine.jobs
+      (all-weaken_both (λ (taken : TakenJob). IsRunPartly base h (task_of taken)) (λ (taken : TakenJob). taken.number ≡ mine.last.number → taken.job ≡ mine.last.job)
       (λ (taken : TakenJob). IsRunPartly base h (task_of taken) × (taken.number ≡ mine.last.number → taken.job ≡ mine.last.job)) mine.jobs
       (λ _ a b. (a, b)) (s.runs me mine at) (s.last me mine at some_job))
       (λ taken has old. dite (ℕ_discrete taken.number mine.last.number)
@@ -91,40 +91,40 @@ module _ (base : BaseState) (words : ℕ → ℕ) (h : List Placed) (all : List 
   abbrev Lasts : Books → Type 0
   Lasts b = 1 ≤ b.last.number → AllByRecursion (λ (taken : TakenJob). taken.number ≡ b.last.number → taken.job ≡ b.last.job) b.jobs
 
-  pub grows : AllByRecursion (Passes (as_opening base) h entry) tests → AreInRange base (entry ∷ h)
+  pub enter_record-accounts_follow : AllByRecursion (Passes (as_opening base) h entry) tests → AreInRange base (entry ∷ h)
       → ((account : ℕ) → times_held account mine.held ≡ 0 → IsSameAt base h entry account)
       → AllByRecursion (Follows base (entry ∷ h) (entry ∷ mine.placed)) mine.held → IsRunPartly base (entry ∷ h) (task_of mine.last)
       → AccountsFollowList base words (entry ∷ h) (set all me new)
-  grows passes range same follows ran = record {
+  enter_record-accounts_follow passes range same follows ran = record {
     lawful = (passes, s.lawful);
     range = range;
-    placed = everywhere-moves (λ (b : Books). 1 ≤ b.last.number → of_transaction b.last.number h ≡ b.placed)
+    placed = everywhere-set_weaken (λ (b : Books). 1 ≤ b.last.number → of_transaction b.last.number h ≡ b.placed)
         (λ (b : Books). 1 ≤ b.last.number → of_transaction b.last.number (entry ∷ h) ≡ b.placed) all me new s.placed
-        (λ _. of_transaction-same mine.last.number entry h own ∙ ap (λ l. entry ∷ l) (s.placed me mine at some_job))
-        (λ j x differ there old has. of_transaction-other x.last.number entry h (other-job j x differ there x.last.number (holder.last j x there has).1) ∙ old has);
+        (λ _. of_transaction-first_own mine.last.number entry h own ∙ ap (λ l. entry ∷ l) (s.placed me mine at some_job))
+        (λ j x differ there old has. of_transaction-first_other x.last.number entry h (other-job j x differ there x.last.number (holder.last j x there has).1) ∙ old has);
     last = everywhere-set Lasts all me new s.last (s.last me mine at);
     free = λ account below free. let old = s.free account below free in
         let now = same account (free-unheld base.accounts words all holder me mine at account below free) in
         let added = now.added in let taken = now.taken in let balance = old.balance in record { balance = omega arith; last_commit = now.last_commit ∙ old.last_commit };
-    held = everywhere-moves (λ (b : Books). AllByRecursion (Follows base h b.placed) b.held)
+    held = everywhere-set_weaken (λ (b : Books). AllByRecursion (Follows base h b.placed) b.held)
         (λ (b : Books). AllByRecursion (Follows base (entry ∷ h) b.placed) b.held) all me new s.held
         follows
-        (λ j x differ there old. all-held (λ z. IsAsTaken base.accounts words z × Follows base h x.placed z) (Follows base (entry ∷ h) x.placed) x.held
-        (all-both (IsAsTaken base.accounts words) (Follows base h x.placed) _ x.held (λ _ a b. (a, b)) (holder.taken j x there) old)
+        (λ j x differ there old. all-weaken_if_held (λ z. IsAsTaken base.accounts words z × Follows base h x.placed z) (Follows base (entry ∷ h) x.placed) x.held
+        (all-weaken_both (IsAsTaken base.accounts words) (Follows base h x.placed) _ x.held (λ _ a b. (a, b)) (holder.taken j x there) old)
         (λ z has p. follows-same base h x.placed entry z
-        (same z.account (one-holder base.accounts words all holder me j mine x at there differ z.account p.0.known has)) p.1));
-    given = everywhere-moves (λ (b : Books). AllByRecursion (WentBack base h) b.given) (λ (b : Books). AllByRecursion (WentBack base (entry ∷ h)) b.given)
+        (same z.account (one_holder-unheld_by_others base.accounts words all holder me j mine x at there differ z.account p.0.known has)) p.1));
+    given = everywhere-set_weaken (λ (b : Books). AllByRecursion (WentBack base h) b.given) (λ (b : Books). AllByRecursion (WentBack base (entry ∷ h)) b.given)
         all me new s.given
-        (all-weaker (WentBack base h) (WentBack base (entry ∷ h)) mine.given (still-back base h entry) (s.given me mine at))
-        (λ j x _ _. all-weaker (WentBack base h) (WentBack base (entry ∷ h)) x.given (still-back base h entry));
-    runs = everywhere-moves (λ (b : Books). AllByRecursion (λ (taken : TakenJob). IsRunPartly base h (task_of taken)) b.jobs)
+        (all-weaken (WentBack base h) (WentBack base (entry ∷ h)) mine.given (still-back base h entry) (s.given me mine at))
+        (λ j x _ _. all-weaken (WentBack base h) (WentBack base (entry ∷ h)) x.given (still-back base h entry));
+    runs = everywhere-set_weaken (λ (b : Books). AllByRecursion (λ (taken : TakenJob). IsRunPartly base h (task_of taken)) b.jobs)
         (λ (b : Books). AllByRecursion (λ (taken : TakenJob). IsRunPartly base (entry ∷ h) (task_of taken)) b.jobs) all me new s.runs
         (runs-mine ran)
-        (λ j x differ there old. all-taken (λ (taken : TakenJob). IsRunPartly base h (task_of taken))
+        (λ j x differ there old. all-weaken_if_taken (λ (taken : TakenJob). IsRunPartly base h (task_of taken))
         (λ (taken : TakenJob). IsRunPartly base (entry ∷ h) (task_of taken)) x.jobs old
         (λ taken has. run_partly-other base entry h (task_of taken) (other-job j x differ there taken.number has)));
-    others = λ number none. of_transaction-other number entry h (λ is.
+    others = λ number none. of_transaction-first_other number entry h (λ is.
         let again : 1 ≤ times_taken number mine.jobs = subst (λ n. 1 ≤ times_taken n mine.jobs) (sym own ∙ is) here in
-        let one = summed-one (λ (books : Books). times_taken number books.jobs) all me mine at in let same' = takers-same number in omega arith)
+        let one = summed-member_le (λ (books : Books). times_taken number books.jobs) all me mine at in let same' = takers-same number in omega arith)
         ∙ s.others number (sym (takers-same number) ∙ none);
   }

@@ -44,20 +44,20 @@ use Rattle.log_rule.specs.Views.{seen_tail, nobody, entries_in, books_in, claims
 use Rattle.log_rule.specs.Words.{Words}
 use Rattle.log_rule.proofs.Bookings.{map-set_same}
 use Rattle.log_rule.proofs.Entering.{enters-spellable}
-use Rattle.log_rule.proofs.GroupEntering.{Entrant, history_with, books_with, MayEnterAs, EntersNot, EntersAs, enter-all, entered-shows}
-use Rattle.log_rule.proofs.GroupPlacing.{placed_parts, entries_at, own-placed, parts_of-append, laid-placed, empty-placed, unreleased-placed, all-placed, IsAmong, each-own, IsOneAtMost, one-at, IsMemberAt, member-at, seat-known, IsPlacedAt, placed-step, PlacesPiece, PlacesNone, OncePlaced, once-placed, entrant, entrants, all-entrants, enters-not, enters-as, apart, history-placed, records-append}
-use Rattle.log_rule.proofs.Groups.{group-here, group-at, group-other, members-some, work-stays, shown-put}
+use Rattle.log_rule.proofs.GroupEntering.{Entrant, history_with, books_with, MayEnterAs, EntersNot, EntersAs, enter_all-keeps_accounts, books_with-map_views}
+use Rattle.log_rule.proofs.GroupPlacing.{placed_parts, entries_at, own-placed, parts_of-append, laid-placed, empty-placed, unreleased-placed, all-placed, IsAmong, own_pieces-all_members, IsOneAtMost, pieces_at-one_at_most, IsMemberAt, member-at, seat-view_or_nobody, IsPlacedAt, knows_closed-placed_at, PlacesPiece, PlacesNone, OncePlaced, once-placed, entrant, entrants, all-entrants, enters-not, enters-as, entrants-are_apart, history-placed, records-append}
+use Rattle.log_rule.proofs.Groups.{put_group-at, put_group-at_equal, put_group-other, range_of-some_members, at_work-put_group, groups_from-put_group}
 use Rattle.log_rule.proofs.AccountsKept.{history-end}
-use Rattle.log_rule.proofs.Lists.{picked-append, all-append, all-weaker}
-use Rattle.log_rule.proofs.Members.{group-grows, loads-move}
-use Rattle.log_rule.proofs.Sharing.{shared-push}
+use Rattle.log_rule.proofs.Lists.{picked-append, all-append, all-weaken}
+use Rattle.log_rule.proofs.Members.{seen_in_group-more, loads_for_group-weaken}
+use Rattle.log_rule.proofs.Sharing.{shared-push_unshared}
 use Rattle.log_rule.proofs.MachineShown.{hands_of-set, task_of-hands_of}
-use Rattle.log_rule.proofs.SlotLeading.{active, led-whole, at-phase}
+use Rattle.log_rule.proofs.SlotLeading.{joined-active, phase_led-whole_phase, slot-is_at_phase}
 use Rattle.log_rule.proofs.SlotShowing.{group-shown}
-use Rattle.log_rule.proofs.SlotStoring.{tiles-sum}
-use Rattle.log_rule.proofs.SlotChanges.{here, elsewhere}
-use Rattle.log_rule.proofs.TailMoving.{AreNewParts, still, tail-moves, reservations-more, exchange-by}
-use Rattle.log_rule.proofs.ViewChanges.{each_moves, at_get, seat_at, seats_move}
+use Rattle.log_rule.proofs.SlotStoring.{pieces_tile-sum_within}
+use Rattle.log_rule.proofs.SlotChanges.{cond-same_slot, cond-other_slot}
+use Rattle.log_rule.proofs.TailMoving.{AreNewParts, boundary-moved_log, tail_move-sound, reservations-more, tail_exchange-step}
+use Rattle.log_rule.proofs.ViewChanges.{each_view-set_weaken, get_elem-get_or_nobody, each_seat-at, each_seat-set_weaken}
 
 -- the view of the seat awaits its group's place, for the record of this piece, and shows its own books
 pub record AwaitsGroup (groups : ℕ → Group) (views : List View) (seat : ℕ) (piece : Piece) : Type 0 where
@@ -66,19 +66,19 @@ pub record AwaitsGroup (groups : ℕ → Group) (views : List View) (seat : ℕ)
   pub shown : books_of groups (get_or views seat nobody) ≡ (get_or views seat nobody).books
 
 -- the same of the group at one slot, or at another
-pub same-members : (groups : ℕ → Group) (slot : ℕ) (g : Group) → g.members ≡ (groups slot).members → (q : ℕ)
+pub put_group-same_members : (groups : ℕ → Group) (slot : ℕ) (g : Group) → g.members ≡ (groups slot).members → (q : ℕ)
     → (put_group groups slot g q).members ≡ (groups q).members
-same-members groups slot g same q = dite (ℕ_discrete q slot)
-    (λ is. ap (λ (x : Group). x.members) (group-at groups slot q g is) ∙ (same ∙ sym (ap (λ n. (groups n).members) is)))
-    (λ differ. ap (λ (x : Group). x.members) (group-other groups slot q g differ))
+put_group-same_members groups slot g same q = dite (ℕ_discrete q slot)
+    (λ is. ap (λ (x : Group). x.members) (put_group-at_equal groups slot q g is) ∙ (same ∙ sym (ap (λ n. (groups n).members) is)))
+    (λ differ. ap (λ (x : Group). x.members) (put_group-other groups slot q g differ))
 
 -- what holds of the group that changes, and of each other
 pub each-group : (P : ℕ → Group → Type 0) (groups : ℕ → Group) (slot : ℕ) (g : Group) → P slot g → ((q : ℕ) → q ≢ slot → P q (groups q))
     → (q : ℕ)
     → P q (put_group groups slot g q)
 each-group P groups slot g now others q = dite (ℕ_discrete q slot)
-    (λ is. subst (P q) (sym (group-at groups slot q g is)) (subst (λ n. P n g) (sym is) now))
-    (λ differ. subst (P q) (sym (group-other groups slot q g differ)) (others q differ))
+    (λ is. subst (P q) (sym (put_group-at_equal groups slot q g is)) (subst (λ n. P n g) (sym is) now))
+    (λ differ. subst (P q) (sym (put_group-other groups slot q g differ)) (others q differ))
 
 module _ (key : Start) (words : Words) (views : List View) (me : ℕ) (v : View) (to : ℕ) (log : Log) (s : IsSound key words views log)
     (at : get_elem? views me ≡ some v) (may : MayPlaceGroup words.tail to v) where
@@ -122,16 +122,16 @@ module _ (key : Start) (words : Words) (views : List View) (me : ℕ) (v : View)
   }
 
   on-duty : v.standing.role ≡ Active
-  on-duty = active key words views me v slot may.piece (Places total may.closed) log s at may.places
+  on-duty = joined-active key words views me v slot may.piece (Places total may.closed) log s at may.places
 
   was : (log.groups slot).phase ≡ Closed me total
-  was = led-whole key words views me v slot may.piece (Places total may.closed) log s at may.places (Closed me total) refl tt
+  was = phase_led-whole_phase key words views me v slot may.piece (Places total may.closed) log s at may.places (Closed me total) refl tt
 
   closed : IsClosed (key.ring / 4) (words.slot slot) total ms
-  closed = at-phase key words views me v slot may.piece (Places total may.closed) log s at may.places (Closed me total) was
+  closed = slot-is_at_phase key words views me v slot may.piece (Places total may.closed) log s at may.places (Closed me total) was
 
   sums : (0 + sum_of ms ≡ total) × AllByRecursion (LiesWithin total) ms
-  sums = tiles-sum 0 total total ms closed.joined.tiles (omega arith)
+  sums = pieces_tile-sum_within 0 total total ms closed.joined.tiles (omega arith)
 
   once : (j : ℕ) (z : View) → HasWorkingOwner log.groups log.parts log.ahead j z → OncePlaced log.groups groups from slot z.call
   once j z h = once-placed log.groups slot g me total from was refl z.call h.knows
@@ -142,7 +142,7 @@ module _ (key : Start) (words : Words) (views : List View) (me : ℕ) (v : View)
   awaiting seat piece among = let z : View = get_or views seat nobody in
       let h : HasWorkingOwner log.groups log.parts log.ahead seat z = s.owners seat in
       let m : IsMemberAt slot piece z.call = member-at slot piece z.call (subst (IsAmong piece) (h.joins slot) among) in
-      let p : IsPlacedAt me total from piece m.step = placed-step me total from piece m.step
+      let p : IsPlacedAt me total from piece m.step = knows_closed-placed_at me total from piece m.step
       (subst (KnowsPhase m.step) was (subst (KnowsGroup log.groups) m.is h.knows)) in
       ⊎_elim
       (λ (made : get_elem? views seat ≡ some z). record {
@@ -152,13 +152,13 @@ module _ (key : Start) (words : Words) (views : List View) (me : ℕ) (v : View)
             ∙ (ap (λ q. member_books q piece m.step z.books) was ∙ p.before z.books);
       })
       (λ (none : z ≡ nobody). absurd (let idle : Joined slot piece m.step ≡ Idle = sym m.is ∙ ap (λ (y : View). y.call) none in cc))
-      (seat-known views seat)
+      (seat-view_or_nobody views seat)
 
   abbrev Awaits : Member → Type 0
   Awaits m = AwaitsGroup log.groups views m.seat m.piece
 
   members : AllByRecursion Awaits ms
-  members = each-own (AwaitsGroup log.groups views) ms awaiting
+  members = own_pieces-all_members (AwaitsGroup log.groups views) ms awaiting
 
   abbrev bs : List Books
   bs = map (books_of log.groups) views
@@ -189,35 +189,35 @@ module _ (key : Start) (words : Words) (views : List View) (me : ℕ) (v : View)
       ∙ (history_from-append key.start [] (records_in log.parts) (records_in more)
       ∙ history-placed views from key.start 0 total (history_in key log.parts) ms
       (history-end key.start key.start from [] log.parts refl s.contiguous.parts s.filled.spelled ∙ sym (add-zero from)) closed.joined.tiles
-      (all-weaker Awaits (λ (m : Member). m.piece.size ≡ length (spelling m.piece.rec)) ms (λ m a. a.next.size_is) members))
+      (all-weaken Awaits (λ (m : Member). m.piece.size ≡ length (spelling m.piece.rec)) ms (λ m a. a.next.size_is) members))
 
   entrant-or-not : (j : ℕ) (z : View) → get_elem? views j ≡ some z
       → ((e : Entrant) × EntersAs j e es × (books_of groups z ≡ placing e.end e.rec e.books))
       ⊎ (EntersNot j es × (books_of groups z ≡ books_of log.groups z))
   entrant-or-not j z there =
-      let h = seat_at (HasWorkingOwner log.groups log.parts log.ahead) views j z there s.owners in ⊎_elim
+      let h = each_seat-at (HasWorkingOwner log.groups log.parts log.ahead) views j z there s.owners in ⊎_elim
       (λ (p : PlacesPiece groups from z.call (pieces_at slot z.call)). inl (
         entrant views from j p.piece,
         enters-as views from j p.piece ms (h.joins slot ∙ p.one),
         p.books z.books ∙ ap (λ (y : View). placing (from + p.piece.offset + p.piece.size) p.piece.rec y.books)
-            (sym (at_get views j z there)),
+            (sym (get_elem-get_or_nobody views j z there)),
       ))
       (λ (n : PlacesNone log.groups groups z.call (pieces_at slot z.call)). inr
       (enters-not views from j ms (h.joins slot ∙ n.none), n.books z.books))
       (once j z h).books
 
   entrants-apart : Rattle.log_rule.proofs.GroupEntering.AreApart es
-  entrants-apart = apart views from ms
-      (λ seat. subst IsOneAtMost (sym ((s.owners seat).joins slot)) (one-at slot (get_or views seat nobody).call))
+  entrants-apart = entrants-are_apart views from ms
+      (λ seat. subst IsOneAtMost (sym ((s.owners seat).joins slot)) (pieces_at-one_at_most slot (get_or views seat nobody).call))
 
   books-shown : books_with es bs ≡ map (books_of groups) (set views me new)
-  books-shown = entered-shows (books_of log.groups) (books_of groups) views es entrants-apart entrant-or-not
+  books-shown = books_with-map_views (books_of log.groups) (books_of groups) views es entrants-apart entrant-or-not
       ∙ sym (map-set_same (books_of groups) views me v new at (sym (ap (λ (c : Call). books_in groups c v.books) may.places)))
 
   accounts : KeepsAccounts (base_of key) words.account (history_in key after.parts) (map (books_of groups) (set views me new))
   accounts = subst (λ (p : List PlacedRecord × List Books). KeepsAccounts (base_of key) words.account p.0 p.1)
       (λ i. (sym history-is i, books-shown i))
-      (enter-all (base_of key) words.account (history_in key log.parts) bs es entrants-apart may-enter s.accounts)
+      (enter_all-keeps_accounts (base_of key) words.account (history_in key log.parts) bs es entrants-apart may-enter s.accounts)
 
   -- ---- who has what
 
@@ -235,36 +235,36 @@ module _ (key : Start) (words : Words) (views : List View) (me : ℕ) (v : View)
   owed-same j = picked-append (owes j) claim_of log.ahead (range ∷ []) ∙ append-nil (owed j log.ahead)
 
   mine : HasWorkingOwner log.groups log.parts log.ahead me v
-  mine = seat_at (HasWorkingOwner log.groups log.parts log.ahead) views me v at s.owners
+  mine = each_seat-at (HasWorkingOwner log.groups log.parts log.ahead) views me v at s.owners
 
   leads-mine : (q : ℕ) → led_phase me (groups q).phase ≡ phase_at me q call
   leads-mine = each-group (λ q (x : Group). led_phase me x.phase ≡ phase_at me q call) log.groups slot g
-      (here me (Placed me total (Granted from) ∷ []) ∙ sym (here slot (phase_led me (Stores total from))))
+      (cond-same_slot me (Placed me total (Granted from) ∷ []) ∙ sym (cond-same_slot slot (phase_led me (Stores total from))))
       (λ q differ. mine.leads q ∙ (ap (phase_at me q) may.places
-      ∙ (elsewhere slot q (phase_led me (Places total may.closed)) differ
-      ∙ sym (elsewhere slot q (phase_led me (Stores total from)) differ))))
+      ∙ (cond-other_slot slot q (phase_led me (Places total may.closed)) differ
+      ∙ sym (cond-other_slot slot q (phase_led me (Stores total from)) differ))))
 
   leads-others : (j : ℕ) (z : View) → j ≢ me → HasWorkingOwner log.groups log.parts log.ahead j z → (q : ℕ)
       → led_phase j (groups q).phase ≡ phase_at j q z.call
   leads-others j z differ h = each-group (λ q (x : Group). led_phase j x.phase ≡ phase_at j q z.call) log.groups slot g
-      (elsewhere me j (Placed me total (Granted from) ∷ []) differ
-      ∙ (sym (ap (led_phase j) was ∙ elsewhere me j (Closed me total ∷ []) differ) ∙ h.leads slot))
+      (cond-other_slot me j (Placed me total (Granted from) ∷ []) differ
+      ∙ (sym (ap (led_phase j) was ∙ cond-other_slot me j (Closed me total ∷ []) differ) ∙ h.leads slot))
       (λ q _. h.leads q)
 
   owners : EachSeat (HasWorkingOwner groups after.parts after.ahead) (set views me new)
-  owners = seats_move (HasWorkingOwner log.groups log.parts log.ahead)
+  owners = each_seat-set_weaken (HasWorkingOwner log.groups log.parts log.ahead)
       (HasWorkingOwner groups after.parts after.ahead) views me v new at s.owners
       record {
         owns = own-more me v mine ∙ ap (λ (c : Call). parts_of me true v.entries ++ parts_of me false (entries_in groups c)) may.places;
         owes = owed-same me ∙ (mine.owes ∙ ap claims_in may.places);
-        joins = λ q. ap (own_pieces me) (same-members log.groups slot g refl q) ∙ (mine.joins q ∙ ap (pieces_at q) may.places);
+        joins = λ q. ap (own_pieces me) (put_group-same_members log.groups slot g refl q) ∙ (mine.joins q ∙ ap (pieces_at q) may.places);
         leads = leads-mine;
         knows = tt;
       }
       (λ j z differ h. record {
         owns = own-more j z h;
         owes = owed-same j ∙ h.owes;
-        joins = λ q. ap (own_pieces j) (same-members log.groups slot g refl q) ∙ h.joins q;
+        joins = λ q. ap (own_pieces j) (put_group-same_members log.groups slot g refl q) ∙ h.joins q;
         leads = leads-others j z differ h;
         knows = (once j z h).knows;
       })
@@ -288,26 +288,26 @@ module _ (key : Start) (words : Words) (views : List View) (me : ℕ) (v : View)
   slots = each-group (λ q (x : Group). IsSoundSlot (key.ring / 4) (words.slot q) (words.base q) q after.ahead x) log.groups slot g
       record {
         range = picked-append (shares slot) claim_of log.ahead (range ∷ [])
-            ∙ ((λ i. ((s.slots slot).range ∙ ap range_of was) i ++ here slot (claim_of range ∷ []) i));
+            ∙ ((λ i. ((s.slots slot).range ∙ ap range_of was) i ++ cond-same_slot slot (claim_of range ∷ []) i));
         words = placed;
       }
       (λ q differ. record {
-        range = shared-push q log.ahead range (ne_eqb slot q (λ e. differ (sym e)))
+        range = shared-push_unshared q log.ahead range (ne_eqb slot q (λ e. differ (sym e)))
             ∙ (s.slots q).range;
         words = (s.slots q).words;
       })
 
   members-there : ms ≢ []
-  members-there = members-some (key.ring / 4) (words.slot slot) (words.base slot) ms (Placed me total (Granted from)) placed
+  members-there = range_of-some_members (key.ring / 4) (words.slot slot) (words.base slot) ms (Placed me total (Granted from)) placed
       (λ (e : range_of (Placed me total (Granted from)) ≡ []). cc)
 
   work : AllByRecursion (IsAtWork groups) after.ahead
-  work = all-append (IsAtWork groups) log.ahead (range ∷ []) (work-stays log.groups slot g log.ahead (λ _. members-there) s.at_work) (
+  work = all-append (IsAtWork groups) log.ahead (range ∷ []) (at_work-put_group log.groups slot g log.ahead (λ _. members-there) s.at_work) (
     inr (inr record {
       slot = slot;
       duty = refl;
       members = subst (λ (x : Group). x.members ≢ [])
-          (sym (group-here log.groups slot g)) members-there;
+          (sym (put_group-at log.groups slot g)) members-there;
     }),
     tt,
   )
@@ -342,7 +342,7 @@ module _ (key : Start) (words : Words) (views : List View) (me : ℕ) (v : View)
       record {
         members_seen = (grows slot).members_seen;
         outcome = record {
-          members_seen = all-weaker (HadSeenUpTo from words.durable) (HadSeenUnder (Granted from)) ms (λ m had. had.tail_seen)
+          members_seen = all-weaken (HadSeenUpTo from words.durable) (HadSeenUnder (Granted from)) ms (λ m had. had.tail_seen)
               (s.in_group slot).members_seen;
           is_true = tt;
           no_room = tt;
@@ -351,15 +351,15 @@ module _ (key : Start) (words : Words) (views : List View) (me : ℕ) (v : View)
       (λ q _. grows q)
     where
       grows : (q : ℕ) → HasSeenInGroup key.start key.ring to words.durable (ranges_of after) (log.groups q)
-      grows q = group-grows key.start key.ring from to words.durable words.durable (ranges_of log) (ranges_of after)
+      grows q = seen_in_group-more key.start key.ring from to words.durable words.durable (ranges_of log) (ranges_of after)
           (omega (arith, whole-range))
-          (le_refl _) (still key words views me v log s at on-duty to total more (Shared slot) groups call v.books) (log.groups q)
+          (le_refl _) (boundary-moved_log key words views me v log s at on-duty to total more (Shared slot) groups call v.books) (log.groups q)
           (s.in_group q)
 
   loads : EachView (λ _ z. LoadsForGroup groups z.seen z.call) (set views me new)
-  loads = each_moves (λ _ z. LoadsForGroup log.groups z.seen z.call) (λ _ z. LoadsForGroup groups z.seen z.call) views me new s.loads tt
-      (λ j z _ _ old. loads-move log.groups groups z.seen z.seen z.call
-      (λ q units since piece _ loaded. subst (LoadedSince since z.seen) (sym (same-members log.groups slot g refl q)) loaded) old)
+  loads = each_view-set_weaken (λ _ z. LoadsForGroup log.groups z.seen z.call) (λ _ z. LoadsForGroup groups z.seen z.call) views me new s.loads tt
+      (λ j z _ _ old. loads_for_group-weaken log.groups groups z.seen z.seen z.call
+      (λ q units since piece _ loaded. subst (LoadedSince since z.seen) (sym (put_group-same_members log.groups slot g refl q)) loaded) old)
 
   awaits : AwaitsPlace call v.books
   awaits = subst (λ (c : Call). AwaitsPlace c v.books) may.places (s.awaits me v at)
@@ -369,7 +369,7 @@ module _ (key : Start) (words : Words) (views : List View) (me : ℕ) (v : View)
       (λ flusher. subst (HasTotalAtPhase (length z.standing.made) ms) was (s.totals j z there slot flusher)) (λ q _. s.totals j z there q)
 
   sound : IsSound key (record words { tail = to }) (set views me new) after
-  sound = tail-moves key words views me v log s at on-duty to total more (Shared slot) groups call v.books
+  sound = tail_move-sound key words views me v log s at on-duty to total more (Shared slot) groups call v.books
       new-parts closed.joined.few may.within_log within_ring refl carries tt work slots owners accounts in_group loads awaits totals
 
   -- ---- the event
@@ -410,7 +410,7 @@ module _ (key : Start) (words : Words) (views : List View) (me : ℕ) (v : View)
     state-is = (λ i. record old_state {
       log = record old_state.log { reservations = reservations i; tail = sym whole-range i };
       hands = hands_of-set 0 me me views v new (omega arith) at i;
-      groups = shown-put 0 key.slots slot slot log.groups g (omega arith) i;
+      groups = groups_from-put_group 0 key.slots slot slot log.groups g (omega arith) i;
     })
         ∙ ((λ i. record old_state {
           log = reserved old_state.log (sym total-is i);
@@ -424,8 +424,8 @@ module _ (key : Start) (words : Words) (views : List View) (me : ℕ) (v : View)
         })
         ∙ ap (λ task. after_place old_state me from v.seen.durable (membership task)) (sym task-is)))
 
-    pub group-places : Leads key words (record words { tail = to }) views (set views me new) log (places me from v.seen.durable)
-    group-places = record {
+    pub place_group-leads : Leads key words (record words { tail = to }) views (set views me new) log (places me from v.seen.durable)
+    place_group-leads = record {
       after = after;
       sound = sound;
       shows = (
@@ -447,12 +447,12 @@ module _ (key : Start) (me : ℕ) (v : View) (from to : ℕ) (may : MayPlaceGrou
         (set views me (record v { seen = seen_tail to v.seen; call = p.1 })) log
         (places me p.0 v.seen.durable))
         (λ i. (is i, sym (ap (call_reserved (is i)) may.places) i))
-        (group-places key words views me v to log s at (subst (λ n. MayPlaceGroup n to v) (sym is) may)
-        (subst (λ (c : Constants). may.slot < c.slots) (s.constants me v at (ap is_spent (active key words views me v may.slot may.piece
+        (place_group-leads key words views me v to log s at (subst (λ n. MayPlaceGroup n to v) (sym is) may)
+        (subst (λ (c : Constants). may.slot < c.slots) (s.constants me v at (ap is_spent (joined-active key words views me v may.slot may.piece
         (Places may.total may.closed) log s at may.places))) may.there));
   }
 
   pub place-exchange : (n : ℕ) → IsStep key me Tail n (either (eqb n from) to n) v (after_exchange from to n v)
       (cond (n == from) (places me from v.seen.durable) none)
-  place-exchange = exchange-by key me v from to (reserved_group from to v) (places me from v.seen.durable)
+  place-exchange = tail_exchange-step key me v from to (reserved_group from to v) (places me from v.seen.durable)
       (ap (exchanged from to v) may.places) place-step

@@ -10,7 +10,7 @@ use Rattle.log_rule.specs.Log.{Log}
 use Rattle.log_rule.specs.Sound.{IsSound, Ruled}
 use Rattle.log_rule.specs.Words.{Words, words_in, word_at, with_word}
 use Rattle.log_rule.specs.Events.{IsStep, Leads, Event}
-use Rattle.log_rule.proofs.WordPlaces.{Fits, words_of-set, read-word}
+use Rattle.log_rule.proofs.WordPlaces.{Fits, words_of-set, get_or-word_at}
 
 -- what the rule tells of the word, whenever the seat has this view
 abbrev pub Tells : Start → ℕ → Word → View → (ℕ → Type 0) → Type 0
@@ -26,7 +26,7 @@ module _ (key : Start) (slots seat : ℕ) (me : Me (Unit {0}) View) (word : Word
       → Allows (Ruled key) slots seat me (index_of key.ring key.slots word) left (λ n new. (new ≡ (after n, me.1)) × P n)
   allowed-if_told left after event P told step s ruled deep here small =
       let n : ℕ = get_or s.words (index_of key.ring key.slots word) 0 in
-      let read : n ≡ word_at (words_in key s.words) word = read-word key.ring key.slots (length key.accounts.rows) s.words word fits in
+      let read : n ≡ word_at (words_in key s.words) word = get_or-word_at key.ring key.slots (length key.accounts.rows) s.words word fits in
       let led = (step n small).leads (words_in key s.words) s.views ruled.1.0 ruled.1.1 here (sym read) in (
         after n,
         keeps,

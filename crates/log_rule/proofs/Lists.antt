@@ -15,15 +15,15 @@ module _ {A : Type 0} {B : Type 0} (test : A → Bool) (tell : A → B) where
       by_test false rest = rest
 
   -- one is exchanged for another which neither function tells from it
-  pub picked-same : (ls rs : List A) (x x' : A) → test x' ≡ test x → (test x ≡ true → tell x' ≡ tell x)
+  pub picked-mid_replaced : (ls rs : List A) (x x' : A) → test x' ≡ test x → (test x ≡ true → tell x' ≡ tell x)
       → picked test tell (ls ++ x' ∷ rs) ≡ picked test tell (ls ++ x ∷ rs)
-  picked-same [] rs x x' same told = ap (λ b. cond b (tell x' ∷ picked test tell rs) (picked test tell rs)) same ∙ by_test (test x) told
+  picked-mid_replaced [] rs x x' same told = ap (λ b. cond b (tell x' ∷ picked test tell rs) (picked test tell rs)) same ∙ by_test (test x) told
     where
       by_test : (b : Bool) → (b ≡ true → tell x' ≡ tell x)
           → cond b (tell x' ∷ picked test tell rs) (picked test tell rs) ≡ cond b (tell x ∷ picked test tell rs) (picked test tell rs)
       by_test true told = ap (λ y. y ∷ picked test tell rs) (told refl)
       by_test false told = refl
-  picked-same (l ∷ ls) rs x x' same told = λ i. cond (test l) (tell l ∷ picked-same ls rs x x' same told i) (picked-same ls rs x x' same told i)
+  picked-mid_replaced (l ∷ ls) rs x x' same told = λ i. cond (test l) (tell l ∷ picked-mid_replaced ls rs x x' same told i) (picked-mid_replaced ls rs x x' same told i)
 
 -- where the last one that is picked stands: those before it, and those behind it, of which none is picked
 pub record Last {A : Type 0} {B : Type 0} (test : A → Bool) (tell : A → B) (xs : List A) (told : List B) (last : B) : Type 0 where
@@ -75,23 +75,23 @@ module _ {A : Type 0} where
   all-append P [] ys a b = b
   all-append P (x ∷ xs) ys a b = (a.0, all-append P xs ys a.1 b)
 
-  pub all-weaker : (P Q : A → Type 0) (xs : List A) → ((x : A) → P x → Q x) → AllByRecursion P xs → AllByRecursion Q xs
-  all-weaker P Q [] f a = tt
-  all-weaker P Q (x ∷ xs) f a = (f x a.0, all-weaker P Q xs f a.1)
+  pub all-weaken : (P Q : A → Type 0) (xs : List A) → ((x : A) → P x → Q x) → AllByRecursion P xs → AllByRecursion Q xs
+  all-weaken P Q [] f a = tt
+  all-weaken P Q (x ∷ xs) f a = (f x a.0, all-weaken P Q xs f a.1)
 
-  pub all-both : (P Q R : A → Type 0) (xs : List A) → ((x : A) → P x → Q x → R x) → AllByRecursion P xs → AllByRecursion Q xs → AllByRecursion R xs
-  all-both P Q R [] f a b = tt
-  all-both P Q R (x ∷ xs) f a b = (f x a.0 b.0, all-both P Q R xs f a.1 b.1)
+  pub all-weaken_both : (P Q R : A → Type 0) (xs : List A) → ((x : A) → P x → Q x → R x) → AllByRecursion P xs → AllByRecursion Q xs → AllByRecursion R xs
+  all-weaken_both P Q R [] f a b = tt
+  all-weaken_both P Q R (x ∷ xs) f a b = (f x a.0 b.0, all-weaken_both P Q R xs f a.1 b.1)
 
   -- one is exchanged for another
-  pub all-mid : (P : A → Type 0) (ls rs : List A) (x x' : A) → P x' → AllByRecursion P (ls ++ x ∷ rs) → AllByRecursion P (ls ++ x' ∷ rs)
-  all-mid P [] rs x x' now a = (now, a.1)
-  all-mid P (l ∷ ls) rs x x' now a = (a.0, all-mid P ls rs x x' now a.1)
+  pub all-mid_replaced : (P : A → Type 0) (ls rs : List A) (x x' : A) → P x' → AllByRecursion P (ls ++ x ∷ rs) → AllByRecursion P (ls ++ x' ∷ rs)
+  all-mid_replaced P [] rs x x' now a = (now, a.1)
+  all-mid_replaced P (l ∷ ls) rs x x' now a = (a.0, all-mid_replaced P ls rs x x' now a.1)
 
   -- the one in the middle
-  pub all-at : (P : A → Type 0) (ls rs : List A) (x : A) → AllByRecursion P (ls ++ x ∷ rs) → P x
-  all-at P [] rs x a = a.0
-  all-at P (l ∷ ls) rs x a = all-at P ls rs x a.1
+  pub all-middle : (P : A → Type 0) (ls rs : List A) (x : A) → AllByRecursion P (ls ++ x ∷ rs) → P x
+  all-middle P [] rs x a = a.0
+  all-middle P (l ∷ ls) rs x a = all-middle P ls rs x a.1
 
   -- those behind
   pub all-behind : (P : A → Type 0) (xs ys : List A) → AllByRecursion P (xs ++ ys) → AllByRecursion P ys
@@ -100,15 +100,15 @@ module _ {A : Type 0} where
 
 -- ---- numbers in a list
 
-pub or-right : (a b : Bool) → b ≡ true → (a || b) ≡ true
-or-right true b e = refl
-or-right false b e = e
+pub or-true_right : (a b : Bool) → b ≡ true → (a || b) ≡ true
+or-true_right true b e = refl
+or-true_right false b e = e
 
 pub among-first : (n : ℕ) (list : List ℕ) → list_any (eqb n) (n ∷ list) ≡ true
 among-first n list = ap (λ b. b || list_any (eqb n) list) (eq-eqb n n refl)
 
 pub among-more : (n x : ℕ) (list : List ℕ) → list_any (eqb n) list ≡ true → list_any (eqb n) (x ∷ list) ≡ true
-among-more n x list is = or-right (eqb n x) (list_any (eqb n) list) is
+among-more n x list is = or-true_right (eqb n x) (list_any (eqb n) list) is
 
 -- what holds of all numbers holds of one among them
 pub all-among : (P : ℕ → Type 0) (n : ℕ) (list : List ℕ) → AllByRecursion P list → list_any (eqb n) list ≡ true → P n

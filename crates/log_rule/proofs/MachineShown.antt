@@ -8,7 +8,7 @@ use Rattle.slot_core.specs.State.{Hand, task_of, with_task}
 use Rattle.log_rule.specs.declared.view.View.{View}
 use Rattle.log_rule.specs.Log.{Part, LogRange, Tiles, filled_in, is_released}
 use Rattle.log_rule.specs.Events.{reservation_of, task_in, hands_of}
-use Rattle.log_rule.proofs.RangeLists.{RangesApart, tiles-le, tiles-mid}
+use Rattle.log_rule.proofs.RangeLists.{RangesApart, tiles-le, tiles-split}
 
 -- a seat whose call shows the same changes nothing
 pub hands_of-set_same : (first me : ℕ) (views : List View) (v new : View) → get_elem? views me ≡ some v → task_in new.call ≡ task_in v.call
@@ -45,34 +45,34 @@ task_of-hands_of first (suc me) actor (x ∷ xs) v is at =
     ∙ task_of-hands_of (first + 1) me actor xs v (omega arith) at
 
 -- the reservation at a range's base is that range's
-pub find-range : (parts : List Part) (most from to : ℕ) (ls rs : List LogRange) (r : LogRange) → Tiles most from (ls ++ r ∷ rs) to
+pub find-reservation_at_base : (parts : List Part) (most from to : ℕ) (ls rs : List LogRange) (r : LogRange) → Tiles most from (ls ++ r ∷ rs) to
     → find (is_at r.base) (map (reservation_of parts) (ls ++ r ∷ rs)) ≡ Some (reservation_of parts r)
-find-range parts most from to [] rs r t =
+find-reservation_at_base parts most from to [] rs r t =
     ap (λ b. cond b (Some (reservation_of parts r)) (find (is_at r.base) (map (reservation_of parts) rs))) (eq-eqb r.base r.base refl)
-find-range parts most from to (q ∷ ls) rs r t = let h = tiles-mid most (from + q.size) to ls rs r t.3 in
+find-reservation_at_base parts most from to (q ∷ ls) rs r t = let h = tiles-split most (from + q.size) to ls rs r t.3 in
     ap (λ b. cond b (Some (reservation_of parts q)) (find (is_at r.base) (map (reservation_of parts) (ls ++ r ∷ rs))))
     (ne_eqb q.base r.base (λ e. omega (arith, tiles-le most (from + q.size) r.base ls h.0, t.0, t.1)))
-    ∙ find-range parts most (from + q.size) to ls rs r t.3
+    ∙ find-reservation_at_base parts most (from + q.size) to ls rs r t.3
 
 -- no range begins where the last one ends
-pub find-no_range : (parts : List Part) (most from to : ℕ) (rs : List LogRange) → Tiles most from rs to
+pub find-none_at_end : (parts : List Part) (most from to : ℕ) (rs : List LogRange) → Tiles most from rs to
     → find (is_at to) (map (reservation_of parts) rs) ≡ None
-find-no_range parts most from to [] t = refl
-find-no_range parts most from to (r ∷ rs) t =
+find-none_at_end parts most from to [] t = refl
+find-none_at_end parts most from to (r ∷ rs) t =
     ap (λ b. cond b (Some (reservation_of parts r)) (find (is_at to) (map (reservation_of parts) rs)))
     (ne_eqb r.base to (λ e. omega (arith, tiles-le most (from + r.size) to rs t.3, t.0, t.1)))
-    ∙ find-no_range parts most (from + r.size) to rs t.3
+    ∙ find-none_at_end parts most (from + r.size) to rs t.3
 
 -- a change of the reservation at a base leaves those that start elsewhere
 abbrev pub LeavesOthers : ℕ → (Reservation → Reservation) → Type 0
 LeavesOthers base change = (r : Reservation) → (r.base == base) ≡ false → change r ≡ r
 
 -- parts change, but no units that are filled
-pub same-shown : (parts parts' : List Part) (ranges : List LogRange) → ((base size : ℕ) → filled_in base size parts' ≡ filled_in base size parts)
+pub reservation_of-same_filled : (parts parts' : List Part) (ranges : List LogRange) → ((base size : ℕ) → filled_in base size parts' ≡ filled_in base size parts)
     → map (reservation_of parts') ranges ≡ map (reservation_of parts) ranges
-same-shown parts parts' [] same = refl
-same-shown parts parts' (r ∷ rs) same =
-    λ i. record { base = r.base; size = r.size; filled = same r.base r.size i; released = is_released r.duty } ∷ same-shown parts parts' rs same i
+reservation_of-same_filled parts parts' [] same = refl
+reservation_of-same_filled parts parts' (r ∷ rs) same =
+    λ i. record { base = r.base; size = r.size; filled = same r.base r.size i; released = is_released r.duty } ∷ reservation_of-same_filled parts parts' rs same i
 
 -- the units of one range alone change, and it is shown as the change of what it was
 module _ (parts parts' : List Part) (change : Reservation → Reservation) (r r' : LogRange) (leaves : LeavesOthers r.base change)
@@ -91,13 +91,13 @@ module _ (parts parts' : List Part) (change : Reservation → Reservation) (r r'
       λ i. other-shown q t.1 positive (inr (omega (arith, below, t.0))) i
       ∷ others-shown most (from + q.size) to qs t.3 (omega (arith, below)) positive i
 
-  pub changed-range : (most from to : ℕ) (ls rs : List LogRange) → Tiles most from (ls ++ r ∷ rs) to
+  pub reservation_of-range_changed : (most from to : ℕ) (ls rs : List LogRange) → Tiles most from (ls ++ r ∷ rs) to
       → map (reservation_of parts') (ls ++ r' ∷ rs) ≡ map change (map (reservation_of parts) (ls ++ r ∷ rs))
-  changed-range most from to [] rs t =
+  reservation_of-range_changed most from to [] rs t =
       λ i. is i ∷ others-shown most (from + r.size) to rs t.3 (omega (arith, t.0)) t.1 i
-  changed-range most from to (q ∷ ls) rs t = let h = tiles-mid most (from + q.size) to ls rs r t.3 in
+  reservation_of-range_changed most from to (q ∷ ls) rs t = let h = tiles-split most (from + q.size) to ls rs r t.3 in
       λ i. other-shown q t.1 h.1 (inl (omega (arith, t.0, tiles-le most (from + q.size) r.base ls h.0))) i
-      ∷ changed-range most (from + q.size) to ls rs t.3 i
+      ∷ reservation_of-range_changed most (from + q.size) to ls rs t.3 i
 
 pub filled_at-others : (base : ℕ) → LeavesOthers base (filled_at base)
 filled_at-others base r differs =

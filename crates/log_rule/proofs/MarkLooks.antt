@@ -13,11 +13,11 @@ use Rattle.log_rule.specs.Log.{Duty, Shared, Owed, Released, LogRange, Log, rang
 use Rattle.log_rule.specs.Marks.{IsReady, IsCurrentMark, HasTrueMark, IsFirstReleased, IsPassed}
 use Rattle.log_rule.specs.Sound.{IsSound}
 use Rattle.log_rule.specs.Words.{Words}
-use Rattle.log_rule.proofs.Lists.{all-append, all-at, all-behind, all-weaker}
+use Rattle.log_rule.proofs.Lists.{all-append, all-middle, all-behind, all-weaken}
 use Rattle.log_rule.proofs.Loads.{all-tile}
-use Rattle.log_rule.proofs.RangeLists.{tiles-le, tiles-mid, tiles-within}
-use Rattle.log_rule.proofs.MachineShown.{find-range, find-no_range}
-use Rattle.log_rule.proofs.TrueMarks.{IsFirstReady, first-marked, marked-first}
+use Rattle.log_rule.proofs.RangeLists.{tiles-le, tiles-split, tiles-within}
+use Rattle.log_rule.proofs.MachineShown.{find-reservation_at_base, find-none_at_end}
+use Rattle.log_rule.proofs.TrueMarks.{IsFirstReady, true_mark-above_exposed, current_mark-first_ready}
 
 -- one of the ranges begins there, and this stands around it
 pub record StartsAt (e : ℕ) (ranges : List LogRange) : Type 0 where
@@ -57,13 +57,13 @@ module _ (key : Start) (words : Words) (views : List View) (log : Log) (s : IsSo
   shown = map (reservation_of log.parts) (ranges_of log)
 
   -- where a range begins, the machine sees whether it is released
-  pub found-at : (e : ℕ) (r : StartsAt e (ranges_of log)) → find (is_at e) shown ≡ Some (reservation_of log.parts r.here)
-  found-at e r = (λ i. find (is_at (sym r.base i)) (map (reservation_of log.parts) (r.split i)))
-      ∙ find-range log.parts _ _ _ r.before r.behind r.here
+  pub starts_at-reservation_found : (e : ℕ) (r : StartsAt e (ranges_of log)) → find (is_at e) shown ≡ Some (reservation_of log.parts r.here)
+  starts_at-reservation_found e r = (λ i. find (is_at (sym r.base i)) (map (reservation_of log.parts) (r.split i)))
+      ∙ find-reservation_at_base log.parts _ _ _ r.before r.behind r.here
       (subst (λ l. Tiles (size / 4) key.start l words.tail) r.split (all-tile _ _ _ _ _ log s.contiguous))
 
   sees-released : (e : ℕ) (r : StartsAt e (ranges_of log)) → is_marked e shown ≡ is_released r.here.duty
-  sees-released e r = ap (λ o. option_map_or (λ (q : Reservation). q.released) o false) (found-at e r)
+  sees-released e r = ap (λ o. option_map_or (λ (q : Reservation). q.released) o false) (starts_at-reservation_found e r)
 
   tiles : Tiles (size / 4) words.exposed log.ahead words.tail
   tiles = s.contiguous.to_tail
@@ -76,17 +76,17 @@ module _ (key : Start) (words : Words) (views : List View) (log : Log) (s : IsSo
   current-now = s.marks.current words.exposed (le_refl _) (omega (arith, s.ordered.least_ring))
 
   -- the first range ahead is released exactly where the mark at exposed is above exposed
-  pub ready-marked : IsFirstReleased log.ahead → words.exposed < words.mark (words.exposed % size)
-  ready-marked = first-marked (size / 4) size words.exposed words.tail words.mark log.ahead tiles true-ahead
+  pub first_released-mark_above : IsFirstReleased log.ahead → words.exposed < words.mark (words.exposed % size)
+  first_released-mark_above = true_mark-above_exposed (size / 4) size words.exposed words.tail words.mark log.ahead tiles true-ahead
 
-  pub marked-ready : words.exposed < words.mark (words.exposed % size) → IsFirstReady words.exposed (words.mark (words.exposed % size)) log.ahead
-  marked-ready = marked-first (size / 4) size words.exposed words.tail words.mark log.ahead tiles current-now
+  pub mark_above-first_ready : words.exposed < words.mark (words.exposed % size) → IsFirstReady words.exposed (words.mark (words.exposed % size)) log.ahead
+  mark_above-first_ready = current_mark-first_ready (size / 4) size words.exposed words.tail words.mark log.ahead tiles current-now
 
   -- what lies below exposed is released
   released-below : AllByRecursion (λ (r : LogRange). r.base < words.exposed → IsReleased r) (ranges_of log)
   released-below = subst (AllByRecursion (λ (r : LogRange). r.base < words.exposed → IsReleased r)) (append_assoc log.flushed log.exposed log.ahead)
       (all-append (λ (r : LogRange). r.base < words.exposed → IsReleased r) (log.flushed ++ log.exposed) log.ahead
-      (all-weaker IsReleased (λ (r : LogRange). r.base < words.exposed → IsReleased r) (log.flushed ++ log.exposed) (λ r is _. is) s.below.ranges)
+      (all-weaken IsReleased (λ (r : LogRange). r.base < words.exposed → IsReleased r) (log.flushed ++ log.exposed) (λ r is _. is) s.below.ranges)
       (tiles-within (λ _. Unit {0}) (λ (r : LogRange). r.base < words.exposed → IsReleased r) _ _ _ log.ahead tiles (anything log.ahead)
       (λ r _ _ lo _ low. absurd (omega (arith, lo, low)))))
     where
@@ -95,19 +95,19 @@ module _ (key : Start) (words : Words) (views : List View) (log : Log) (s : IsSo
       anything (r ∷ rs) = (tt, anything rs)
 
   -- An older LSN always has a mark above it, at a range that is released.
-  pub old-look : (e : ℕ) → IsRangeBoundary key.start (ranges_of log) e → e < words.exposed
+  pub below_exposed-marked : (e : ℕ) → IsRangeBoundary key.start (ranges_of log) e → e < words.exposed
       → (e < words.mark (e % size)) × (is_marked e shown ≡ true)
-  old-look e boundary low = found (starts-at _ _ _ e (ranges_of log) (all-tile _ _ _ _ _ log s.contiguous) boundary (omega (arith, low, tiles-le _ _ _ log.ahead tiles)))
+  below_exposed-marked e boundary low = found (starts-at _ _ _ e (ranges_of log) (all-tile _ _ _ _ _ log s.contiguous) boundary (omega (arith, low, tiles-le _ _ _ log.ahead tiles)))
     where
       found : StartsAt e (ranges_of log) → (e < words.mark (e % size)) × (is_marked e shown ≡ true)
       found r =
           let all = subst (λ l. Tiles (size / 4) key.start l words.tail) r.split (all-tile _ _ _ _ _ log s.contiguous) in
-          let is = all-at (λ (q : LogRange). q.base < words.exposed → IsReleased q) r.before r.behind r.here
+          let is = all-middle (λ (q : LogRange). q.base < words.exposed → IsReleased q) r.before r.behind r.here
           (subst (AllByRecursion (λ (q : LogRange). q.base < words.exposed → IsReleased q)) r.split released-below) (omega (arith, r.base, low)) in
-          let high = all-at (HasTrueMark size words.mark) r.before r.behind r.here
+          let high = all-middle (HasTrueMark size words.mark) r.before r.behind r.here
           (subst (AllByRecursion (HasTrueMark size words.mark)) r.split s.marks.true_marks) is in
           let same : words.mark (r.here.base % size) ≡ words.mark (e % size) = ap (λ n. words.mark (n % size)) r.base in
-          let some' = (tiles-mid _ _ _ r.before r.behind r.here all).1 in (
+          let some' = (tiles-split _ _ _ r.before r.behind r.here all).1 in (
             omega (arith, high, same, r.base, some'),
             sees-released e r ∙ ap is_released is,
           )
@@ -124,8 +124,8 @@ module _ (key : Start) (words : Words) (views : List View) (log : Log) (s : IsSo
       by_ahead [] is = unmarked
           (ap (λ o. option_map_or (λ (r : Reservation). r.released) o false)
           (subst (λ n. find (is_at n) shown ≡ None) (sym (subst (λ l. Tiles (size / 4) words.exposed l words.tail) is tiles))
-          (find-no_range log.parts _ _ _ (ranges_of log) (all-tile _ _ _ _ _ log s.contiguous))))
-          (λ high. subst (IsFirstReady words.exposed (words.mark (words.exposed % size))) is (marked-ready high))
+          (find-none_at_end log.parts _ _ _ (ranges_of log) (all-tile _ _ _ _ _ log s.contiguous))))
+          (λ high. subst (IsFirstReady words.exposed (words.mark (words.exposed % size))) is (mark_above-first_ready high))
       by_ahead (r ∷ rest) is = by_duty (is_released r.duty) refl
         where
           here : StartsAt words.exposed (ranges_of log)
@@ -139,24 +139,24 @@ module _ (key : Start) (words : Words) (views : List View) (log : Log) (s : IsSo
 
           by_duty : (b : Bool) → is_released r.duty ≡ b → is_marked words.exposed shown ≡ nat_lt words.exposed (words.mark (words.exposed % size))
           by_duty true done = sees-released words.exposed here ∙ (done
-              ∙ sym (lt-ltb words.exposed (words.mark (words.exposed % size)) (ready-marked (subst IsFirstReleased (sym is) (duty-released r.duty done)))))
+              ∙ sym (lt-ltb words.exposed (words.mark (words.exposed % size)) (first_released-mark_above (subst IsFirstReleased (sym is) (duty-released r.duty done)))))
           by_duty false open' = unmarked (sees-released words.exposed here ∙ open')
               (λ high. let ready : IsReady words.exposed (words.mark (words.exposed % size)) r =
-              subst (IsFirstReady words.exposed (words.mark (words.exposed % size))) is (marked-ready high) in
+              subst (IsFirstReady words.exposed (words.mark (words.exposed % size))) is (mark_above-first_ready high) in
               true≢false (sym (ap is_released ready.released) ∙ open'))
 
   -- So the load of a mark is the machine's look at it. A mark that is not above the LSN tells that it is exposed itself, and that the range that
   -- begins there, if there is one, is not released.
-  pub look-tells : (e : ℕ) → IsPassed key.start words.exposed log e → is_marked e shown ≡ nat_lt e (words.mark (e % size))
-  look-tells e passed = dite (dec_lt e words.exposed)
-      (λ old. let look = old-look e passed.boundary old in look.1 ∙ sym (lt-ltb e (words.mark (e % size)) look.0))
+  pub is_marked-mark_above : (e : ℕ) → IsPassed key.start words.exposed log e → is_marked e shown ≡ nat_lt e (words.mark (e % size))
+  is_marked-mark_above e passed = dite (dec_lt e words.exposed)
+      (λ old. let look = below_exposed-marked e passed.boundary old in look.1 ∙ sym (lt-ltb e (words.mark (e % size)) look.0))
       (λ now. let is : e ≡ words.exposed = omega (arith, now, passed.passed) in
       subst (λ n. is_marked n shown ≡ nat_lt n (words.mark (n % size))) (sym is) new-look)
 
-  pub not_ready-at_exposed : (e : ℕ) → IsPassed key.start words.exposed log e → words.mark (e % size) ≤ e
+  pub mark_not_above-at_exposed : (e : ℕ) → IsPassed key.start words.exposed log e → words.mark (e % size) ≤ e
       → (e ≡ words.exposed) × (IsFirstReleased log.ahead → ⊥)
-  not_ready-at_exposed e passed low = dite (dec_lt e words.exposed)
-      (λ old. absurd (omega (arith, low, (old-look e passed.boundary old).0)))
+  mark_not_above-at_exposed e passed low = dite (dec_lt e words.exposed)
+      (λ old. absurd (omega (arith, low, (below_exposed-marked e passed.boundary old).0)))
       (λ now. let is : e ≡ words.exposed = omega (arith, now, passed.passed) in
       let same : words.mark (e % size) ≡ words.mark (words.exposed % size) = ap (λ n. words.mark (n % size)) is in
-      (is, (λ first. omega (arith, ready-marked first, same, is, low))))
+      (is, (λ first. omega (arith, first_released-mark_above first, same, is, low))))

@@ -25,9 +25,9 @@ use Rattle.log_rule.specs.Slots.{led_phase, phase_led, phase_at}
 use Rattle.log_rule.specs.Sound.{EachView, EachPair, IsSound}
 use Rattle.log_rule.specs.Views.{seen_tail, seen_durable, seen_exposed}
 use Rattle.log_rule.specs.Words.{Words}
-use Rattle.log_rule.proofs.Groups.{group-here, put-keeps, known-led, known-whole}
-use Rattle.log_rule.proofs.Lists.{all-weaker, or-right, among-first, among-more}
-use Rattle.log_rule.proofs.ViewChanges.{pairs_move}
+use Rattle.log_rule.proofs.Groups.{put_group-at, put_group-all, led_phase-known_phase, known_phase-equal_if_whole}
+use Rattle.log_rule.proofs.Lists.{all-weaken, or-true_right, among-first, among-more}
+use Rattle.log_rule.proofs.ViewChanges.{each_pair-set}
 
 -- ---- what a seat saw last
 
@@ -38,13 +38,13 @@ pub record KeepsSeen (groups : ℕ → Group) (old now : Seen) : Type 0 where
   pub refusals : now.refusals ≡ old.refusals
 
 -- it saw nothing
-pub seen-still : (groups : ℕ → Group) (seen : Seen) → KeepsSeen groups seen seen
-seen-still groups seen = record { last = λ last. last; loads = λ _ _ loaded. loaded; refusals = refl }
+pub keeps_seen-refl : (groups : ℕ → Group) (seen : Seen) → KeepsSeen groups seen seen
+keeps_seen-refl groups seen = record { last = λ last. last; loads = λ _ _ loaded. loaded; refusals = refl }
 
 -- it saw neither the tail nor durable
-pub steps-on : (groups : ℕ → Group) (old now : Seen) → now.steps ≡ old.steps + 1 → now.tail ≡ old.tail → now.tail_step ≡ old.tail_step
+pub one_step_more-keeps_seen : (groups : ℕ → Group) (old now : Seen) → now.steps ≡ old.steps + 1 → now.tail ≡ old.tail → now.tail_step ≡ old.tail_step
     → now.durable ≡ old.durable → now.durable_step ≡ old.durable_step → now.lsns ≡ old.lsns → now.refusals ≡ old.refusals → KeepsSeen groups old now
-steps-on groups old now steps tail tail_step durable durable_step lsns refusals = record {
+one_step_more-keeps_seen groups old now steps tail tail_step durable durable_step lsns refusals = record {
   last = λ last. record {
     tail_among = subst (λ (p : ℕ × List ℕ). list_any (eqb p.0) p.1 ≡ true) (λ i. (sym tail i, sym lsns i)) last.tail_among;
     durable_among = subst (λ (p : ℕ × List ℕ). list_any (eqb p.0) p.1 ≡ true) (λ i. (sym durable i, sym lsns i)) last.durable_among;
@@ -61,8 +61,8 @@ steps-on groups old now steps tail tail_step durable durable_step lsns refusals 
 }
 
 -- it saw exposed
-pub exposed-on : (groups : ℕ → Group) (n : ℕ) (seen : Seen) → KeepsSeen groups seen (seen_exposed n seen)
-exposed-on groups n seen = record {
+pub seen_exposed-keeps_seen : (groups : ℕ → Group) (n : ℕ) (seen : Seen) → KeepsSeen groups seen (seen_exposed n seen)
+seen_exposed-keeps_seen groups n seen = record {
   last = λ last. record {
     tail_among = among-more seen.tail n seen.lsns last.tail_among;
     durable_among = among-more seen.durable n seen.lsns last.durable_among;
@@ -76,8 +76,8 @@ exposed-on groups n seen = record {
 module _ (start ring tail durable : ℕ) (ranges : List LogRange) (groups : ℕ → Group) (seen : Seen)
     (in_group : (slot : ℕ) → HasSeenInGroup start ring tail durable ranges (groups slot)) where
   -- it saw the tail: no member of a group had seen more of it
-  pub tail-on : KeepsSeen groups seen (seen_tail tail seen)
-  tail-on = record {
+  pub seen_tail-keeps_seen : KeepsSeen groups seen (seen_tail tail seen)
+  seen_tail-keeps_seen = record {
     last = λ last. record {
       tail_among = among-first tail seen.lsns;
       durable_among = among-more seen.durable tail seen.lsns last.durable_among;
@@ -85,7 +85,7 @@ module _ (start ring tail durable : ℕ) (ranges : List LogRange) (groups : ℕ 
       durable_made = omega (arith, last.durable_made);
     };
     loads = λ slot closed loaded. record {
-      tail_loaded = λ _. all-weaker (HadSeenUpTo tail durable) (λ (member : Member). member.piece.tail ≤ tail) (groups slot).members
+      tail_loaded = λ _. all-weaken (HadSeenUpTo tail durable) (λ (member : Member). member.piece.tail ≤ tail) (groups slot).members
           (λ _ had. had.tail_seen) (in_group slot).members_seen;
       durable_loaded = loaded.durable_loaded;
     };
@@ -93,8 +93,8 @@ module _ (start ring tail durable : ℕ) (ranges : List LogRange) (groups : ℕ 
   }
 
   -- it saw durable
-  pub durable-on : KeepsSeen groups seen (seen_durable durable seen)
-  durable-on = record {
+  pub seen_durable-keeps_seen : KeepsSeen groups seen (seen_durable durable seen)
+  seen_durable-keeps_seen = record {
     last = λ last. record {
       tail_among = among-more seen.tail durable seen.lsns last.tail_among;
       durable_among = among-first durable seen.lsns;
@@ -103,7 +103,7 @@ module _ (start ring tail durable : ℕ) (ranges : List LogRange) (groups : ℕ 
     };
     loads = λ slot closed loaded. record {
       tail_loaded = loaded.tail_loaded;
-      durable_loaded = λ _. all-weaker (HadSeenUpTo tail durable) (λ (member : Member). member.piece.durable ≤ durable) (groups slot).members
+      durable_loaded = λ _. all-weaken (HadSeenUpTo tail durable) (λ (member : Member). member.piece.durable ≤ durable) (groups slot).members
           (λ _ had. had.durable_seen) (in_group slot).members_seen;
     };
     refusals = refl;
@@ -113,7 +113,7 @@ module _ (start ring tail durable : ℕ) (ranges : List LogRange) (groups : ℕ 
 pub among-max : (a b : ℕ) (xs ys : List ℕ) → list_any (eqb a) xs ≡ true → list_any (eqb b) ys ≡ true → list_any (eqb (max a b)) (xs ++ ys) ≡ true
 among-max a b xs ys first second = dite (dec_le a b)
     (λ le. let is : max a b ≡ b = omega (arith, le) in
-    subst (λ n. list_any (eqb n) (xs ++ ys) ≡ true) (sym is) (list_any-append (eqb b) xs ys ∙ or-right (list_any (eqb b) xs) (list_any (eqb b) ys) second))
+    subst (λ n. list_any (eqb n) (xs ++ ys) ≡ true) (sym is) (list_any-append (eqb b) xs ys ∙ or-true_right (list_any (eqb b) xs) (list_any (eqb b) ys) second))
     (λ gt. let is : max a b ≡ a = omega (arith, gt) in
     subst (λ n. list_any (eqb n) (xs ++ ys) ≡ true) (sym is) (list_any-append (eqb a) xs ys ∙ ap (λ t. t || list_any (eqb a) ys) first))
 
@@ -132,28 +132,28 @@ step-loads_move old now members after (Tells total outcome) move loads = tt
 step-loads_move old now members after (Fills base units) move loads = tt
 step-loads_move old now members after (Leaves tail durable) move loads = tt
 
-pub loads-move : (groups after : ℕ → Group) (old now : Seen) (call : Call)
+pub loads_for_group-weaken : (groups after : ℕ → Group) (old now : Seen) (call : Call)
     → ((slot total closed : ℕ) (piece : Piece) → call ≡ Joined slot piece (Places total closed) → LoadedSince closed old (groups slot).members
     → LoadedSince closed now (after slot).members)
     → LoadsForGroup groups old call → LoadsForGroup after now call
-loads-move groups after old now Idle move loads = tt
-loads-move groups after old now (Filling entry) move loads = tt
-loads-move groups after old now (Joined slot piece step) move loads = step-loads_move old now (groups slot).members (after slot).members step
+loads_for_group-weaken groups after old now Idle move loads = tt
+loads_for_group-weaken groups after old now (Filling entry) move loads = tt
+loads_for_group-weaken groups after old now (Joined slot piece step) move loads = step-loads_move old now (groups slot).members (after slot).members step
     (λ total closed is. move slot total closed piece (ap (Joined slot piece) is)) loads
-loads-move groups after old now (Emptying slot base total) move loads = tt
-loads-move groups after old now (Marked next) move loads = tt
-loads-move groups after old now (Holding at next) move loads = tt
-loads-move groups after old now (Raising from to next) move loads = tt
-loads-move groups after old now (Reopening slot) move loads = tt
+loads_for_group-weaken groups after old now (Emptying slot base total) move loads = tt
+loads_for_group-weaken groups after old now (Marked next) move loads = tt
+loads_for_group-weaken groups after old now (Holding at next) move loads = tt
+loads_for_group-weaken groups after old now (Raising from to next) move loads = tt
+loads_for_group-weaken groups after old now (Reopening slot) move loads = tt
 
 -- a group at a slot changes, which is not closed, or of which the members stay
-pub loads-put : (groups : ℕ → Group) (slot : ℕ) (g : Group) (seat : ℕ) (seen : Seen) (call : Call)
+pub loads_for_group-put_group : (groups : ℕ → Group) (slot : ℕ) (g : Group) (seat : ℕ) (seen : Seen) (call : Call)
     → ((total closed : ℕ) → (groups slot).phase ≡ Closed seat total → LoadedSince closed seen (groups slot).members → LoadedSince closed seen g.members)
     → led_phase seat (groups slot).phase ≡ phase_at seat slot call → LoadsForGroup groups seen call → LoadsForGroup (put_group groups slot g) seen call
-loads-put groups slot g seat seen call stay leads = loads-move groups (put_group groups slot g) seen seen call (λ other total closed piece is loaded.
-    put-keeps (λ (x : Group). LoadedSince closed seen x.members) groups slot other g
+loads_for_group-put_group groups slot g seat seen call stay leads = loads_for_group-weaken groups (put_group groups slot g) seen seen call (λ other total closed piece is loaded.
+    put_group-all (λ (x : Group). LoadedSince closed seen x.members) groups slot other g
     (λ same. stay total closed
-    (known-whole (groups slot).phase (Closed seat total) (known-led seat (groups slot).phase (Closed seat total)
+    (known_phase-equal_if_whole (groups slot).phase (Closed seat total) (led_phase-known_phase seat (groups slot).phase (Closed seat total)
     (leads ∙ (ap (phase_at seat slot) is ∙ ap (λ b. cond {A = List GroupPhase} b (phase_led seat (Places total closed)) []) (eq-eqb other slot same)))) tt)
     (subst (λ n. LoadedSince closed seen (groups n).members) same loaded)) loaded)
 
@@ -191,9 +191,9 @@ module _ (start ring tail tail' durable durable' : ℕ) (ranges ranges' : List L
       outcome-grows start ring tail tail' durable durable' ranges ranges' members total outcome more later still o
   phase-grows members (Emptied last) o = tt
 
-  pub group-grows : (g : Group) → HasSeenInGroup start ring tail durable ranges g → HasSeenInGroup start ring tail' durable' ranges' g
-  group-grows g s = record {
-    members_seen = all-weaker (HadSeenUpTo tail durable) (HadSeenUpTo tail' durable') g.members
+  pub seen_in_group-more : (g : Group) → HasSeenInGroup start ring tail durable ranges g → HasSeenInGroup start ring tail' durable' ranges' g
+  seen_in_group-more g s = record {
+    members_seen = all-weaken (HadSeenUpTo tail durable) (HadSeenUpTo tail' durable') g.members
         (λ member had. record { tail_seen = omega (arith, had.tail_seen, more); durable_seen = omega (arith, had.durable_seen, later) }) s.members_seen;
     outcome = phase-grows g.members g.phase s.outcome;
   }
@@ -201,37 +201,37 @@ module _ (start ring tail tail' durable durable' : ℕ) (ranges ranges' : List L
 -- ---- totals
 
 total-more : (workers : ℕ) (total : ℕ) (members : List Member) → IsTotalOfEach workers total members → IsTotalOfEach (suc workers) total members
-total-more workers total members = all-weaker (λ (member : Member). IsTotalOf workers member.piece.size total)
+total-more workers total members = all-weaken (λ (member : Member). IsTotalOf workers member.piece.size total)
     (λ (member : Member). IsTotalOf (suc workers) member.piece.size total) members (λ member is. omega (arith, is))
 
 -- one worker more was made
-pub totals-more : (workers : ℕ) (members : List Member) (phase : GroupPhase) → HasTotalAtPhase workers members phase
+pub total_at_phase-more_workers : (workers : ℕ) (members : List Member) (phase : GroupPhase) → HasTotalAtPhase workers members phase
     → HasTotalAtPhase (suc workers) members phase
-totals-more workers members Vacant is = tt
-totals-more workers members (Gathering leader total) is = tt
-totals-more workers members (Closed leader total) is = total-more workers total members is
-totals-more workers members (Placed leader total outcome) is = total-more workers total members is
-totals-more workers members (Ready leader total outcome) is = total-more workers total members is
-totals-more workers members (Told total outcome remaining) is = total-more workers total members is
-totals-more workers members (Emptied last) is = tt
+total_at_phase-more_workers workers members Vacant is = tt
+total_at_phase-more_workers workers members (Gathering leader total) is = tt
+total_at_phase-more_workers workers members (Closed leader total) is = total-more workers total members is
+total_at_phase-more_workers workers members (Placed leader total outcome) is = total-more workers total members is
+total_at_phase-more_workers workers members (Ready leader total outcome) is = total-more workers total members is
+total_at_phase-more_workers workers members (Told total outcome remaining) is = total-more workers total members is
+total_at_phase-more_workers workers members (Emptied last) is = tt
 
-pub refusals-more : (workers : ℕ) (refusals : List HeardRefusal) → AllByRecursion (IsRefusalOf workers) refusals
+pub refusals-more_workers : (workers : ℕ) (refusals : List HeardRefusal) → AllByRecursion (IsRefusalOf workers) refusals
     → AllByRecursion (IsRefusalOf (suc workers)) refusals
-refusals-more workers refusals = all-weaker (IsRefusalOf workers) (IsRefusalOf (suc workers)) refusals
+refusals-more_workers workers refusals = all-weaken (IsRefusalOf workers) (IsRefusalOf (suc workers)) refusals
     (λ refusal is. record { within = is.within; most = omega (arith, is.most) })
 
 -- ---- refusals that seats heard
 
 -- the changed seat, as the flusher's, knows of no fewer workers, and it heard no refusal that is not accounted for
-pub heard-moves : (views : List View) (me : ℕ) (v new : View) → EachPair (λ _ y _ z. HeardOfWorkers y z) views → get_elem? views me ≡ some v
+pub heard_of_workers-set : (views : List View) (me : ℕ) (v new : View) → EachPair (λ _ y _ z. HeardOfWorkers y z) views → get_elem? views me ≡ some v
     → ((z : View) → HeardOfWorkers v z → HeardOfWorkers new z) → ((z : View) → HeardOfWorkers z v → HeardOfWorkers z new)
     → EachPair (λ _ y _ z. HeardOfWorkers y z) (set views me new)
-heard-moves views me v new all at first second = pairs_move (λ _ y _ z. HeardOfWorkers y z) views me v new at all
+heard_of_workers-set views me v new all at first second = each_pair-set (λ _ y _ z. HeardOfWorkers y z) views me v new at all
     (second new (first v (all me v at me v at))) (λ j z _ there. (first z (all me v at j z there), second z (all j z there me v at)))
 
-pub heard-same : (views : List View) (me : ℕ) (v new : View) → EachPair (λ _ y _ z. HeardOfWorkers y z) views → get_elem? views me ≡ some v
+pub heard_of_workers-set_same : (views : List View) (me : ℕ) (v new : View) → EachPair (λ _ y _ z. HeardOfWorkers y z) views → get_elem? views me ≡ some v
     → new.standing ≡ v.standing → new.seen.refusals ≡ v.seen.refusals → EachPair (λ _ y _ z. HeardOfWorkers y z) (set views me new)
-heard-same views me v new all at standing refusals = heard-moves views me v new all at
+heard_of_workers-set_same views me v new all at standing refusals = heard_of_workers-set views me v new all at
     (λ z. subst (λ (x : Standing). x.role ≡ Flusher → AllByRecursion (IsRefusalOf (length x.made)) z.seen.refusals) (sym standing))
     (λ z. subst (λ (l : List HeardRefusal). z.standing.role ≡ Flusher → AllByRecursion (IsRefusalOf (length z.standing.made)) l) (sym refusals))
 
@@ -248,12 +248,12 @@ pub record KeepsView (groups : ℕ → Group) (views : List View) (me : ℕ) (ne
 module _ (key : Start) (words : Words) (views : List View) (me : ℕ) (v : View) (log : Log) (s : IsSound key words views log)
     (at : get_elem? views me ≡ some v) where
   -- the call stays
-  pub loads-stay : (seen : Seen) → KeepsSeen log.groups v.seen seen → LoadsForGroup log.groups seen v.call
-  loads-stay seen keeps =
-      loads-move log.groups log.groups v.seen seen v.call (λ slot total closed piece is. keeps.loads slot closed) (s.loads me v at)
+  pub keeps_seen-loads_for_group : (seen : Seen) → KeepsSeen log.groups v.seen seen → LoadsForGroup log.groups seen v.call
+  keeps_seen-loads_for_group seen keeps =
+      loads_for_group-weaken log.groups log.groups v.seen seen v.call (λ slot total closed piece is. keeps.loads slot closed) (s.loads me v at)
 
-  pub last-stays : (new : View) → new.standing ≡ v.standing → KeepsSeen log.groups v.seen new.seen → HasSeenLast new
-  last-stays new standing keeps unspent = keeps.last (s.lasts me v at (ap (λ (x : Standing). is_spent x.role) (sym standing) ∙ unspent))
+  pub keeps_seen-seen_last : (new : View) → new.standing ≡ v.standing → KeepsSeen log.groups v.seen new.seen → HasSeenLast new
+  keeps_seen-seen_last new standing keeps unspent = keeps.last (s.lasts me v at (ap (λ (x : Standing). is_spent x.role) (sym standing) ∙ unspent))
 
   -- the seat stands where it stood, and heard no refusal
   pub keeps-view : (new : View) → new.standing ≡ v.standing → KeepsSeen log.groups v.seen new.seen → LoadsForGroup log.groups new.seen new.call
@@ -263,8 +263,8 @@ module _ (key : Start) (words : Words) (views : List View) (me : ℕ) (v : View)
     awaits = awaits;
     totals = λ slot. subst (λ (x : Standing). x.role ≡ Flusher → HasTotalAtPhase (length x.made) (log.groups slot).members (log.groups slot).phase)
         (sym standing) (s.totals me v at slot);
-    heard = heard-same views me v new s.heard at standing keeps.refusals;
-    last = last-stays new standing keeps;
+    heard = heard_of_workers-set_same views me v new s.heard at standing keeps.refusals;
+    last = keeps_seen-seen_last new standing keeps;
   }
 
 -- ---- where the group at a slot changes
@@ -285,16 +285,16 @@ pub record KeepsMembers (key : Start) (words : Words) (views : List View) (v : V
 module _ (key : Start) (words : Words) (views : List View) (me : ℕ) (v : View) (log : Log) (s : IsSound key words views log)
     (at : get_elem? views me ≡ some v) (active : v.standing.role ≡ Active) (slot : ℕ) where
   -- a member makes a step, the group comes to another phase, and no member joins or releases
-  pub members-stay : (piece : Piece) (step : MemberStep) (phase : GroupPhase) (seen : Seen) (books : Books)
+  pub keeps_seen-keeps_members : (piece : Piece) (step : MemberStep) (phase : GroupPhase) (seen : Seen) (books : Books)
       → KeepsSeen log.groups v.seen seen
       → HasPhaseOutcome key.start key.ring words.tail words.durable (ranges_of log) (log.groups slot).members phase
       → LoadsAtStep step seen (log.groups slot).members → AwaitsAtStep step piece books
       → EachView (λ _ z. HasTotalOfWorkers (record { members = (log.groups slot).members; phase = phase }) z) views
       → KeepsMembers key words views v log slot (record { members = (log.groups slot).members; phase = phase }) seen (Joined slot piece step) books
-  members-stay piece step phase seen books keeps outcome loads awaits totals = record {
+  keeps_seen-keeps_members piece step phase seen books keeps outcome loads awaits totals = record {
     in_group = record { members_seen = (s.in_group slot).members_seen; outcome = outcome };
     loads = subst (λ (x : Group). LoadsAtStep step seen x.members)
-        (sym (group-here log.groups slot (record { members = (log.groups slot).members; phase = phase }))) loads;
+        (sym (put_group-at log.groups slot (record { members = (log.groups slot).members; phase = phase }))) loads;
     awaits = awaits;
     totals = totals;
     heard = λ j z there. subst (λ (l : List HeardRefusal). z.standing.role ≡ Flusher → AllByRecursion (IsRefusalOf (length z.standing.made)) l)
@@ -304,8 +304,8 @@ module _ (key : Start) (words : Words) (views : List View) (me : ℕ) (v : View)
   }
 
   -- the total that each member could bring is that of the phase before
-  pub totals-stay : (old new : GroupPhase) → (log.groups slot).phase ≡ old
+  pub total_of_workers-new_phase : (old new : GroupPhase) → (log.groups slot).phase ≡ old
       → ((workers : ℕ) → HasTotalAtPhase workers (log.groups slot).members old → HasTotalAtPhase workers (log.groups slot).members new)
       → EachView (λ _ z. HasTotalOfWorkers (record { members = (log.groups slot).members; phase = new }) z) views
-  totals-stay old new was stay j z there flusher = stay (length z.standing.made)
+  total_of_workers-new_phase old new was stay j z there flusher = stay (length z.standing.made)
       (subst (HasTotalAtPhase (length z.standing.made) (log.groups slot).members) was (s.totals j z there slot flusher))

@@ -8,7 +8,7 @@ use Rattle.lock_core.specs.History.{history_from}
 use Rattle.log_rule.specs.declared.view.Books.{Books}
 use Rattle.log_rule.specs.Accounts.{KeepsAccounts}
 use Rattle.log_rule.specs.Books.{no_books, merging}
-use Rattle.log_rule.proofs.GatheredSeats.{joins}
+use Rattle.log_rule.proofs.GatheredSeats.{join-keeps_accounts}
 use Rattle.log_rule.specs.declared.start.Start.{Start}
 use Rattle.log_rule.specs.declared.view.Call.TheVariants.{Idle}
 use Rattle.log_rule.specs.declared.view.View.{View}
@@ -22,15 +22,15 @@ use Rattle.log_rule.specs.Slots.{pieces_at, phase_at}
 use Rattle.log_rule.specs.Views.{nobody, entries_in, claims_in}
 use Rattle.log_rule.specs.CrewViews.{takes_in}
 use Rattle.log_rule.specs.Words.{Words, words_in}
-use Rattle.log_rule.proofs.Carriers.{carrier-set, ends-move}
-use Rattle.log_rule.proofs.CrewMerging.{ended-rests, ended-unspent, not-flusher, without, at-without, each-merged, crew-merges}
+use Rattle.log_rule.proofs.Carriers.{carrier-set, true_ends-log_changes}
+use Rattle.log_rule.proofs.CrewMerging.{has_ended-not_active, ended-unspent, other_seat-not_flusher, without, at-without, each-merged, merge-sound_crew}
 use Rattle.log_rule.proofs.AccountsKept.{books-at, books-set}
-use Rattle.log_rule.proofs.Lists.{all-append, all-weaker}
-use Rattle.log_rule.proofs.Members.{among-max, heard-moves}
-use Rattle.log_rule.proofs.Renaming.{rename, own-renamed, own-renamed-from, own-renamed-else, all-renamed, laid-renamed, unreleased_in-renamed, boundary-renamed, records-renamed}
-use Rattle.log_rule.proofs.Roles.{quiet-moves}
-use Rattle.log_rule.proofs.Stopping.{either-read}
-use Rattle.log_rule.proofs.ViewChanges.{seats_move, seat_at, pairs_move}
+use Rattle.log_rule.proofs.Lists.{all-append, all-weaken}
+use Rattle.log_rule.proofs.Members.{among-max, heard_of_workers-set}
+use Rattle.log_rule.proofs.Renaming.{rename, own-renamed_merged, own-renamed-from, own-renamed-else, all-renamed, laid-renamed, unreleased_in-renamed, boundary-renamed, records-renamed}
+use Rattle.log_rule.proofs.Roles.{rests_if_quiet-set}
+use Rattle.log_rule.proofs.Stopping.{cond-zero_or_stop}
+use Rattle.log_rule.proofs.ViewChanges.{each_seat-set_weaken, each_seat-at, each_pair-set}
 
 set-swap : (views : List View) (a b : ℕ) (x y : View) → a ≢ b → set (set views a x) b y ≡ set (set views b y) a x
 set-swap [] a b x y differ = refl
@@ -48,13 +48,13 @@ module _ (key : Start) (words : Words) (views : List View) (me other : ℕ) (v o
   idle = s.resting me v at (ap is_active may.flusher)
 
   idle' : o.call ≡ Idle
-  idle' = s.resting other o there (ended-rests o.standing.role may.ended)
+  idle' = s.resting other o there (has_ended-not_active o.standing.role may.ended)
 
   mine : HasWorkingOwner log.groups log.parts log.ahead me v
-  mine = seat_at (HasWorkingOwner log.groups log.parts log.ahead) views me v at s.owners
+  mine = each_seat-at (HasWorkingOwner log.groups log.parts log.ahead) views me v at s.owners
 
   his : HasWorkingOwner log.groups log.parts log.ahead other o
-  his = seat_at (HasWorkingOwner log.groups log.parts log.ahead) views other o there s.owners
+  his = each_seat-at (HasWorkingOwner log.groups log.parts log.ahead) views other o there s.owners
 
   abbrev parts : List Part
   parts = rename other me log.parts
@@ -67,12 +67,12 @@ module _ (key : Start) (words : Words) (views : List View) (me other : ℕ) (v o
   Half j z = ((j ≡ other) × HasWorkingOwner log.groups parts log.ahead j z) ⊎ ((j ≢ other) × HasWorkingOwner log.groups log.parts log.ahead j z)
 
   owners : Rattle.log_rule.specs.Sound.EachSeat (HasWorkingOwner log.groups parts log.ahead) (set (without views other) me new)
-  owners = seats_move Half (HasWorkingOwner log.groups parts log.ahead) (without views other) me v new (at-without views me other v at apart)
-      (seats_move (HasWorkingOwner log.groups log.parts log.ahead) Half views other o nobody there s.owners
+  owners = each_seat-set_weaken Half (HasWorkingOwner log.groups parts log.ahead) (without views other) me v new (at-without views me other v at apart)
+      (each_seat-set_weaken (HasWorkingOwner log.groups log.parts log.ahead) Half views other o nobody there s.owners
       (inl (refl, record { owns = own-renamed-from other me log.parts apart; owes = his.owes ∙ ap claims_in idle'; joins = λ slot. his.joins slot ∙ ap (pieces_at slot) idle'; leads = λ slot. his.leads slot ∙ ap (phase_at other slot) idle'; knows = tt }))
       (λ j z differ h. inr (differ, h)))
       record {
-        owns = own-renamed other me _ _ log.parts v.entries o.entries s.contiguous.parts apart
+        owns = own-renamed_merged other me _ _ log.parts v.entries o.entries s.contiguous.parts apart
             (mine.owns ∙ (ap (λ c. parts_of me true v.entries ++ parts_of me false (entries_in log.groups c)) idle ∙ append-nil _))
             (his.owns ∙ (ap (λ c. parts_of other true o.entries ++ parts_of other false (entries_in log.groups c)) idle' ∙ append-nil _))
             ∙ (sym (append-nil _) ∙ ap (λ c. parts_of me true new.entries ++ parts_of me false (entries_in log.groups c)) (sym idle));
@@ -112,17 +112,17 @@ module _ (key : Start) (words : Words) (views : List View) (me other : ℕ) (v o
   accounts-merged = subst (KeepsAccounts (base_of key) words.account (history_in key parts)) (sym books-merged)
       (subst (λ records. KeepsAccounts (base_of key) words.account (history_from key.start [] records) (set (set bs me (merging v.books o.books)) other no_books))
       (sym (records-renamed other me log.parts))
-      (joins (base_of key) words.account (history_in key log.parts) bs me other v.books o.books apart (books-at log.groups views me v idle at)
-      (books-at log.groups views other o idle' there) ((s.unheld other o there).0 (ended-rests o.standing.role may.ended)) s.accounts))
+      (join-keeps_accounts (base_of key) words.account (history_in key log.parts) bs me other v.books o.books apart (books-at log.groups views me v idle at)
+      (books-at log.groups views other o idle' there) ((s.unheld other o there).0 (has_ended-not_active o.standing.role may.ended)) s.accounts))
 
   -- what both heard
   heard-merged : EachPair (λ _ y _ z. HeardOfWorkers y z) (set (without views other) me new)
-  heard-merged = pairs_move (λ _ y _ z. HeardOfWorkers y z) (without views other) me v new (at-without views me other v at apart)
-      (heard-moves views other o nobody s.heard there (λ _ _ f. absurd (cc)) (λ _ _ _. tt))
+  heard-merged = each_pair-set (λ _ y _ z. HeardOfWorkers y z) (without views other) me v new (at-without views me other v at apart)
+      (heard_of_workers-set views other o nobody s.heard there (λ _ _ f. absurd (cc)) (λ _ _ _. tt))
       (λ f. all-append (IsRefusalOf (length v.standing.made)) v.seen.refusals o.seen.refusals (s.heard me v at me v at f) (s.heard me v at other o there f))
       (λ j z differ here. (
-        heard-moves views other o nobody s.heard there (λ _ _ f. absurd (cc)) (λ _ _ _. tt) me v (at-without views me other v at apart) j z here,
-        λ f. not-flusher words.crew views me other v o s.roles at there apart may j z differ here f,
+        heard_of_workers-set views other o nobody s.heard there (λ _ _ f. absurd (cc)) (λ _ _ _. tt) me v (at-without views me other v at apart) j z here,
+        λ f. other_seat-not_flusher words.crew views me other v o s.roles at there apart may j z differ here f,
       ))
 
   saw-merged : SawLast v.seen → SawLast o.seen → SawLast new.seen
@@ -149,9 +149,9 @@ module _ (key : Start) (words : Words) (views : List View) (me other : ℕ) (v o
       to_exposed = s.contiguous.to_exposed;
       to_tail = s.contiguous.to_tail;
       parts = laid-renamed other me _ _ log.parts s.contiguous.parts;
-      remaining = all-weaker (CountsRemaining log.parts) (CountsRemaining parts) log.ahead
+      remaining = all-weaken (CountsRemaining log.parts) (CountsRemaining parts) log.ahead
           (λ r counts. unreleased_in-renamed other me r.base r.size log.parts ∙ counts) s.contiguous.remaining;
-      aligned = all-weaker (EndsWithPart key.start log.parts) (EndsWithPart key.start parts) (ranges_of log)
+      aligned = all-weaken (EndsWithPart key.start log.parts) (EndsWithPart key.start parts) (ranges_of log)
           (λ r. boundary-renamed other me key.start (r.base + r.size) log.parts) s.contiguous.aligned;
     };
     filled = record {
@@ -171,21 +171,21 @@ module _ (key : Start) (words : Words) (views : List View) (me other : ℕ) (v o
         (λ c. absurd (subst (Carries words.exposed) idle c))
         (carrier-set words.exposed views other o nobody there (λ c. absurd (subst (Carries words.exposed) idle' c)) (s.carried first));
     ends = each-merged views me other new (λ _ z. HasTrueEnds key.start words.exposed after z.call)
-        (λ j z here. ends-move key.start words.exposed log after z.call (λ _ b. b) (λ _ e. e) (s.ends j z here)) tt
-        (ends-move key.start words.exposed log after v.call (λ _ b. b) (λ _ e. e) (s.ends me v at));
+        (λ j z here. true_ends-log_changes key.start words.exposed log after z.call (λ _ b. b) (λ _ e. e) (s.ends j z here)) tt
+        (true_ends-log_changes key.start words.exposed log after v.call (λ _ b. b) (λ _ e. e) (s.ends me v at));
     owners = owners;
     constants = each-merged views me other new (λ _ z. HasConstants key z) s.constants (λ e. absurd (true≢false e)) (s.constants me v at);
     resting = each-merged views me other new (λ _ z. RestsUnlessActive z) s.resting (λ _. refl) (s.resting me v at);
     entries = each-merged views me other new (λ _ z. OwnsIfWorker z) s.entries (λ _. refl)
         (λ off. absurd (true≢false (sym (ap Rattle.log_rule.specs.Roles.may_own may.flusher) ∙ off)));
-    roles = crew-merges words.crew views me other v o s.roles at there apart may;
+    roles = merge-sound_crew words.crew views me other v o s.roles at there apart may;
     sends = each-merged views me other new (λ _ z. SendsIfFlusher key.start words.exposed words.durable after z) (λ j z here. sends z (s.sends j z here))
         (λ f. absurd (cc)) (sends v (s.sends me v at));
     stops = each-merged views me other new (λ _ z. StoresStop words.stop z) s.stops (λ f. absurd (cc)) (s.stops me v at);
     read_stop = each-merged views me other new (λ _ z. HasReadStop words.stop z) s.read_stop (inl refl)
-        (either-read words.stop v.seen.stop o.seen.stop (o.seen.stop == 0) (s.read_stop me v at) (s.read_stop other o there));
-    quiet = quiet-moves (without views other) me v new
-        (quiet-moves views other o nobody s.quiet there (λ _ _ _ _ f. absurd (cc)) (λ _ _ _ _. refl)) (at-without views me other v at apart) (λ _ _ _ h. h) (λ _ h. h);
+        (cond-zero_or_stop words.stop v.seen.stop o.seen.stop (o.seen.stop == 0) (s.read_stop me v at) (s.read_stop other o there));
+    quiet = rests_if_quiet-set (without views other) me v new
+        (rests_if_quiet-set views other o nobody s.quiet there (λ _ _ _ _ f. absurd (cc)) (λ _ _ _ _. refl)) (at-without views me other v at apart) (λ _ _ _ h. h) (λ _ h. h);
     looked = each-merged views me other new (λ _ z. LookedIfQuiet words.exposed z) s.looked (λ f. absurd (cc)) (s.looked me v at);
     unheld = each-merged views me other new (λ _ z. HoldsIfActive z) s.unheld ((λ _. refl), (λ _. refl))
         ((s.unheld me v at).0, (λ off. absurd (true≢false (sym (ap Rattle.log_rule.specs.Roles.may_own may.flusher) ∙ off))));
@@ -200,8 +200,8 @@ module _ (key : Start) (words : Words) (views : List View) (me other : ℕ) (v o
         (λ unspent. saw-merged (s.lasts me v at unspent) (s.lasts other o there (ended-unspent o.standing.role may.ended)));
   }
 
-  pub merges : IsSound key words (set (set views me new) other nobody) after
-  merges = subst (λ l. IsSound key words l after) (set-swap views other me nobody new apart) merges'
+  pub merge-sound : IsSound key words (set (set views me new) other nobody) after
+  merge-sound = subst (λ l. IsSound key words l after) (set-swap views other me nobody new apart) merges'
 
 pub merge-allowed : (key : Start) (seat : ℕ) (v : View) (other : ℕ) (o : View) → MayMerge v o
     → Joins {S = Unit {0}} (Ruled key) seat v other o (takes_in v o) nobody
@@ -209,7 +209,7 @@ merge-allowed key seat v other o may s ruled at apart there = (
   ruled.0,
   (
     _,
-    merges key (words_in key s.words) s.views seat other v o ruled.1.0 ruled.1.1 at
+    merge-sound key (words_in key s.words) s.views seat other v o ruled.1.0 ruled.1.1 at
         (⊎_elim (λ (t : (other ≡ seat) × (takes_in v o ≡ o)). absurd (apart t.0))
         (λ (t : (other ≢ seat) × (get_elem? s.views other ≡ some o)). t.1) (at_set s.views seat other (takes_in v o) o there)) apart may,
   ),

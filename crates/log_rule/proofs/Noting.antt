@@ -11,9 +11,9 @@ use Rattle.log_rule.specs.Sound.{RestsIfQuiet, HasSoundRole, HasSoundRoles, HasS
 use Rattle.log_rule.specs.Roles.{is_spent}
 use Rattle.log_rule.specs.CrewViews.{noted}
 use Rattle.log_rule.specs.Words.{Words, words_in}
-use Rattle.log_rule.proofs.Adding.{adds}
-use Rattle.log_rule.proofs.Roles.{unbound}
-use Rattle.log_rule.proofs.ViewChanges.{each_push, pairs_push}
+use Rattle.log_rule.proofs.Adding.{add_seat-sound}
+use Rattle.log_rule.proofs.Roles.{not_flusher_nor_worker-sound_roles}
+use Rattle.log_rule.proofs.ViewChanges.{each_view-push, each_pair-push}
 
 set-same : (views : List View) (me : ℕ) (v : View) → get_elem? views me ≡ some v → set views me v ≡ views
 set-same [] me v at = refl
@@ -29,12 +29,12 @@ module _ (key : Start) (words : Words) (views : List View) (me : ℕ) (v : View)
   crew-notes : HasSoundCrew words.crew (views ++ note ∷ [])
   crew-notes = record {
     count = s.roles.count ∙ sym (sum_by_push (λ (z : View). cond (is_active_view z) 1 0) views note ∙ none _);
-    each = each_push (λ seat z. HasSoundRole seat z.standing) (λ seat z. HasSoundRole seat z.standing) views note s.roles.each
+    each = each_view-push (λ seat z. HasSoundRole seat z.standing) (λ seat z. HasSoundRole seat z.standing) views note s.roles.each
         record { small = λ e. absurd (true≢false (sym e)); first = λ e. absurd (cc) } (λ _ _ _ p. p);
-    pairs = pairs_push (λ i y j z. HasSoundRoles i y.standing j z.standing) views note s.roles.pairs
-        (unbound _ note.standing _ note.standing refl (λ e. absurd (cc)))
+    pairs = each_pair-push (λ i y j z. HasSoundRoles i y.standing j z.standing) views note s.roles.pairs
+        (not_flusher_nor_worker-sound_roles _ note.standing _ note.standing refl (λ e. absurd (cc)))
         (λ j z there. let by = s.roles.pairs j z there me v at in (
-          unbound _ note.standing j z.standing refl (λ e. absurd (cc)),
+          not_flusher_nor_worker-sound_roles _ note.standing j z.standing refl (λ e. absurd (cc)),
           record {
             apart = λ _ e. absurd (true≢false (sym e));
             made = λ _ e. absurd (true≢false (sym e));
@@ -49,9 +49,9 @@ module _ (key : Start) (words : Words) (views : List View) (me : ℕ) (v : View)
       none : (k : ℕ) → k + 0 ≡ k
       none k = omega arith
 
-  pub notes : IsSound key words (views ++ note ∷ []) log
-  notes = adds key words views log s note refl refl (λ f. absurd (cc)) (s.seen me v at) (s.read_stop me v at) (λ _. s.constants me v at unspent) crew-notes
-      (pairs_push (λ _ y _ z. RestsIfQuiet y z) views note s.quiet (λ f. absurd (cc)) (λ j z there. ((λ f. absurd (cc)), (λ _ _. refl)))) refl
+  pub note-sound : IsSound key words (views ++ note ∷ []) log
+  note-sound = add_seat-sound key words views log s note refl refl (λ f. absurd (cc)) (s.seen me v at) (s.read_stop me v at) (λ _. s.constants me v at unspent) crew-notes
+      (each_pair-push (λ _ y _ z. RestsIfQuiet y z) views note s.quiet (λ f. absurd (cc)) (λ j z there. ((λ f. absurd (cc)), (λ _ _. refl)))) refl
       (λ j z there. s.heard j z there me v at) (λ _. s.lasts me v at unspent)
 
 pub note-allowed : (key : Start) (seat : ℕ) (v : View) → is_spent v.standing.role ≡ false → Splits {S = Unit {0}} (Ruled key) seat v v (noted v)
@@ -60,6 +60,6 @@ note-allowed key seat v unspent s ruled at = (
   (
     ruled.1.0,
     subst (λ l. IsSound key (words_in key s.words) (l ++ noted v ∷ []) ruled.1.0) (sym (set-same s.views seat v at))
-        (notes key (words_in key s.words) s.views seat v ruled.1.0 ruled.1.1 at unspent),
+        (note-sound key (words_in key s.words) s.views seat v ruled.1.0 ruled.1.1 at unspent),
   ),
 )

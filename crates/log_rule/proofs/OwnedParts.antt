@@ -2,7 +2,7 @@
 use Rattle.std.proofs.Common.{◌≡◌, ◌≢◌, ℕ, cond, Bool, true, false, true≢false, List, [], ◌∷◌, ◌++◌, sym, refl, ap, ◌∙◌, eq-eqb, ne_eqb, eqb-true, append-nil}
 use Rattle.log_rule.specs.declared.view.Entry.{Entry}
 use Rattle.log_rule.specs.Log.{Part, Duty, Shared, Owed, Released, LogRange, Claim, own, owed, is_by, whole, owes, is_owed_by, claim_of, part_of, parts_of}
-use Rattle.log_rule.proofs.Lists.{picked-append, picked-same, picked-last}
+use Rattle.log_rule.proofs.Lists.{picked-append, picked-mid_replaced, picked-last}
 
 -- the seat's last part, which is not released, and what stands around it
 pub record LastPart (me : ℕ) (parts before_it : List Part) (entry : Entry) : Type 0 where
@@ -12,9 +12,9 @@ pub record LastPart (me : ℕ) (parts before_it : List Part) (entry : Entry) : T
   pub own_before : own me before ≡ before_it
   pub none_behind : own me behind ≡ []
 
-pub last_part : (me : ℕ) (parts before_it : List Part) (entry : Entry) → own me parts ≡ before_it ++ part_of me false entry ∷ []
+pub own-last_part : (me : ℕ) (parts before_it : List Part) (entry : Entry) → own me parts ≡ before_it ++ part_of me false entry ∷ []
     → LastPart me parts before_it entry
-last_part me parts before_it entry e = let s = picked-last (is_by me) whole parts before_it (part_of me false entry) e in
+own-last_part me parts before_it entry e = let s = picked-last (is_by me) whole parts before_it (part_of me false entry) e in
     record {
       before = s.before;
       behind = s.behind;
@@ -25,16 +25,16 @@ last_part me parts before_it entry e = let s = picked-last (is_by me) whole part
     }
 
 -- the seat's last part is exchanged for another of its own
-pub own-last : (me : ℕ) (ls rs before_it : List Part) (flag : Bool) (entry : Entry) → own me ls ≡ before_it → own me rs ≡ []
+pub own-last_replaced : (me : ℕ) (ls rs before_it : List Part) (flag : Bool) (entry : Entry) → own me ls ≡ before_it → own me rs ≡ []
     → own me (ls ++ part_of me flag entry ∷ rs) ≡ before_it ++ part_of me flag entry ∷ []
-own-last me ls rs before_it flag entry a b = picked-append (is_by me) whole ls (part_of me flag entry ∷ rs)
+own-last_replaced me ls rs before_it flag entry a b = picked-append (is_by me) whole ls (part_of me flag entry ∷ rs)
     ∙ (λ i. a i ++ cond (eq-eqb me me refl i) (part_of me flag entry ∷ b i) (b i))
 
 -- which another seat does not see
-pub own-others : (me other : ℕ) (ls rs : List Part) (flag flag' : Bool) (entry entry' : Entry) → other ≢ me
+pub own-mid_replaced_others : (me other : ℕ) (ls rs : List Part) (flag flag' : Bool) (entry entry' : Entry) → other ≢ me
     → own other (ls ++ part_of me flag' entry' ∷ rs) ≡ own other (ls ++ part_of me flag entry ∷ rs)
-own-others me other ls rs flag flag' entry entry' differ =
-    picked-same (is_by other) whole ls rs (part_of me flag entry) (part_of me flag' entry') refl (λ e. absurd (differ (sym (eqb-true me other e))))
+own-mid_replaced_others me other ls rs flag flag' entry entry' differ =
+    picked-mid_replaced (is_by other) whole ls rs (part_of me flag entry) (part_of me flag' entry') refl (λ e. absurd (differ (sym (eqb-true me other e))))
 
 pub own-push : (me : ℕ) (parts : List Part) (flag : Bool) (entry : Entry)
     → own me (parts ++ part_of me flag entry ∷ []) ≡ own me parts ++ part_of me flag entry ∷ []

@@ -23,11 +23,11 @@ use Rattle.log_rule.specs.Slots.{IsToldOf, KnowsGroup}
 use Rattle.log_rule.specs.Sound.{HasWorkingOwner, IsSound}
 use Rattle.log_rule.specs.Views.{call_with_unit, counted, filled}
 use Rattle.log_rule.specs.Words.{Words, put}
-use Rattle.log_rule.proofs.Filling.{FillsEntry, after, sound, reservations, run-step}
-use Rattle.log_rule.proofs.Groups.{shown-at}
+use Rattle.log_rule.proofs.Filling.{FillsEntry, after, fill-sound, reservations-filled_at, run-step}
+use Rattle.log_rule.proofs.Groups.{group_at-groups_from}
 use Rattle.log_rule.proofs.MachineShown.{hands_of-set, task_of-hands_of}
-use Rattle.log_rule.proofs.ToldMembers.{lies-within, group-range}
-use Rattle.log_rule.proofs.ViewChanges.{seat_at}
+use Rattle.log_rule.proofs.ToldMembers.{piece-within_total, group_range-last_ahead}
+use Rattle.log_rule.proofs.ViewChanges.{each_seat-at}
 
 -- a member has the piece's entry with one more unit filled, and all else as before
 piece-fills : (groups : ℕ → Group) (seat slot : ℕ) (piece : Piece) (base : ℕ) (units : List ℕ) (unit : ℕ) (old : Call)
@@ -70,20 +70,20 @@ module _ (key : Start) (words : Words) (views : List View) (me : ℕ) (v : View)
 
   -- the group has this base
   known : IsToldOf (Granted base) (log.groups slot).phase
-  known = subst (KnowsGroup log.groups) filling (seat_at (HasWorkingOwner log.groups log.parts log.ahead) views me v at s.owners).knows
+  known = subst (KnowsGroup log.groups) filling (each_seat-at (HasWorkingOwner log.groups log.parts log.ahead) views me v at s.owners).knows
 
   in-range : piece.offset < known.total
-  in-range = let within = lies-within key words views me v slot piece (Fills base units) log s at filling known.total (Granted base)
+  in-range = let within = piece-within_total key words views me v slot piece (Fills base units) log s at filling known.total (Granted base)
       known.remaining known.told in omega (arith, within.0, within.1)
 
   shown : map (reservation_of (after key words views me v entry unit log s at call fill unfilled unit-is).parts) (ranges_of log)
       ≡ map (filled_at base) (map (reservation_of log.parts) (ranges_of log))
-  shown = reservations key words views me v entry unit log s at call fill unfilled unit-is
-      (group-range key words views me v slot piece (Fills base units) log s at filling known.total base known.remaining known.told)
+  shown = reservations-filled_at key words views me v entry unit log s at call fill unfilled unit-is
+      (group_range-last_ahead key words views me v slot piece (Fills base units) log s at filling known.total base known.remaining known.told)
       (omega arith) (omega (arith, in-range))
 
   base-shown : granted_base (told_outcome (group_at slot old_state.groups).phase) ≡ Some base
-  base-shown = ap (λ (x : MachineGroup). granted_base (told_outcome x.phase)) (shown-at 0 key.slots slot slot log.groups (omega arith) below)
+  base-shown = ap (λ (x : MachineGroup). granted_base (told_outcome x.phase)) (group_at-groups_from 0 key.slots slot slot log.groups (omega arith) below)
       ∙ ap (λ (p : GroupPhase). granted_base (told_outcome p)) known.told
 
   task-is : task_of me (hands_of 0 views) ≡ joined slot piece.offset piece.size (stage.Fills (length units))
@@ -96,11 +96,11 @@ module _ (key : Start) (words : Words) (views : List View) (me : ℕ) (v : View)
   hands-are = hands_of-set 0 me me views v new (omega arith) at
       ∙ ap (λ count. with_task me (filling_on count) (hands_of 0 views)) (length-append units (unit ∷ []))
 
-  pub piece-filled : Leads key words (record words { ring = put words.ring ((base + piece.offset + length units) % key.ring) unit }) views
+  pub piece_fill-leads : Leads key words (record words { ring = put words.ring ((base + piece.offset + length units) % key.ring) unit }) views
       (set views me new) log (fills me)
-  piece-filled = record {
+  piece_fill-leads = record {
     after = after key words views me v entry unit log s at call fill unfilled unit-is;
-    sound = sound key words views me v entry unit log s at call fill unfilled unit-is;
+    sound = fill-sound key words views me v entry unit log s at call fill unfilled unit-is;
     shows = (
       subst (MayFillNow old_state) (sym task-is) unfilled,
       (λ i. record old_state { log = record old_state.log { reservations = shown i }; hands = hands-are i })
@@ -121,7 +121,7 @@ module _ (key : Start) (me : ℕ) (v : View) (at ring number unit : ℕ) (same :
         ap (call_with_unit unit) (sym may.filling) in
         subst (λ (x : ℕ × Call). Leads key words (record words { ring = put words.ring x.0 unit }) views
         (set views me (record v { seen = counted v.seen; call = x.1 })) log (fills me)) (λ i. (index i, call i))
-        (piece-filled key words views me v may.slot may.piece may.base may.units unit log s there may.filling may.unfilled may.unit_is
+        (piece_fill-leads key words views me v may.slot may.piece may.base may.units unit log s there may.filling may.unfilled may.unit_is
         (subst (λ k. may.slot < k) (sym slotted) may.slot_below));
   }
 

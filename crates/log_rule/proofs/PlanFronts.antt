@@ -10,8 +10,8 @@ use Rattle.lsn_space.specs.declared.lsn.TheConstants.{LAST}
 use Rattle.lock_core.specs.Transactions.{has_end, in_order}
 use Rattle.lock_core.specs.Alone.{lacks, overfills, after_leg, with_note, leg_updates, planned_from, planned_records}
 use Rattle.lock_core.specs.Serial.{NumberedTransfer}
-use Rattle.log_rule.proofs.Deltas.{more-delta, less-delta}
-use Rattle.log_rule.proofs.Planning.{Walk, walk-at, IsNoteStep}
+use Rattle.log_rule.proofs.Deltas.{delta-positive, delta-negated}
+use Rattle.log_rule.proofs.Planning.{Walk, walk-in_order_rest, IsNoteStep}
 
 abbrev pub FirstIfNote : NumberedTransfer → List Rec → Rec → Type 0
 FirstIfNote task before (Note txn text) = IsNoteStep task before txn text
@@ -59,8 +59,8 @@ module _ (task : NumberedTransfer) (last_commit : ℕ → ℕ) (txn-fits : IsTxn
       by_case true over rest = (record { unended = unended; spellable = (txn-fits, (omega arith, omega (arith, few))); note = tt }, tt)
       by_case false true rest = (record { unended = unended; spellable = (txn-fits, (omega arith, omega (arith, few))); note = tt }, tt)
       by_case false false rest = (
-        record { unended = unended; spellable = (txn-fits, small.0.payer, less-delta leg.2 small.0.least small.0.most, marks leg.0); note = tt },
-        (record { unended = unended; spellable = (txn-fits, small.0.payee, more-delta leg.2 small.0.least small.0.most, marks leg.1); note = tt }, rest),
+        record { unended = unended; spellable = (txn-fits, small.0.payer, delta-negated leg.2 small.0.least small.0.most, marks leg.0); note = tt },
+        (record { unended = unended; spellable = (txn-fits, small.0.payee, delta-positive leg.2 small.0.least small.0.most, marks leg.1); note = tt }, rest),
       )
 
   front-plan : (balance : ℕ → ℕ) → 1 ≤ length task.job.legs → length task.job.legs ≤ 8 → AllByRecursion IsSmallLeg task.job.legs
@@ -90,4 +90,4 @@ module _ (task : NumberedTransfer) (last_commit : ℕ → ℕ) (txn-fits : IsTxn
       → (task.job.note ≡ []) ⊎ IsNoteText task.job.note → (before : List Rec) (rec : Rec) (rest : List Rec)
       → in_order before (rec ∷ rest) ≡ planned_records txn task.job last_commit balance → IsPlanned task before rec rest
   next-planned balance least few small text before rec rest next =
-      (walk-at T before (rec ∷ rest) (subst (Walk T []) (sym next) (front-plan balance least few small text))).0
+      (walk-in_order_rest T before (rec ∷ rest) (subst (Walk T []) (sym next) (front-plan balance least few small text))).0

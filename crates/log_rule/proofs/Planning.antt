@@ -13,16 +13,16 @@ use Rattle.lock_core.specs.Sums.{moved}
 use Rattle.lock_core.specs.Tests.{IsPaired, IsOpposite}
 use Rattle.lock_core.specs.Alone.{lacks, overfills, after_leg, with_note, leg_updates, planned_from, planned_records}
 use Rattle.lock_core.specs.Serial.{NumberedTransfer}
-use Rattle.log_rule.proofs.Deltas.{lowers-less, gain-less, loss-less, less-twice}
+use Rattle.log_rule.proofs.Deltas.{lowers-negated, gain-negated, loss-negated, negated-twice}
 
 -- each record of a list has this, with the records before it, newest first, and those behind it
 abbrev pub Walk : (List Rec → Rec → List Rec → Type 0) → List Rec → List Rec → Type 0
 Walk T before [] = Unit {0}
 Walk T before (rec ∷ rest) = T before rec rest × Walk T (rec ∷ before) rest
 
-pub walk-at : (T : List Rec → Rec → List Rec → Type 0) (before rest : List Rec) → Walk T [] (in_order before rest) → Walk T before rest
-walk-at T [] rest walk = walk
-walk-at T (rec ∷ before) rest walk = (walk-at T before (rec ∷ rest) walk).1
+pub walk-in_order_rest : (T : List Rec → Rec → List Rec → Type 0) (before rest : List Rec) → Walk T [] (in_order before rest) → Walk T before rest
+walk-in_order_rest T [] rest walk = walk
+walk-in_order_rest T (rec ∷ before) rest walk = (walk-in_order_rest T before (rec ∷ rest) walk).1
 
 -- the records are a front of the transfer's Note and Updates
 pub record IsFront (task : NumberedTransfer) (records : List Rec) : Type 0 where
@@ -79,7 +79,7 @@ pub walk-last_commits : (task : NumberedTransfer) (P : ℕ → Type 0) (last_com
     → Walk (Step task P last_commit balance) [] (in_order before rest) → AllByRecursion (NamesLastCommit P last_commit) (changes_in before)
 walk-last_commits task P last_commit balance [] rest walk = tt
 walk-last_commits task P last_commit balance (rec ∷ before) rest walk =
-    more rec (walk-at (Step task P last_commit balance) before (rec ∷ rest) walk).0 (walk-last_commits task P last_commit balance before (rec ∷ rest) walk)
+    more rec (walk-in_order_rest (Step task P last_commit balance) before (rec ∷ rest) walk).0 (walk-last_commits task P last_commit balance before (rec ∷ rest) walk)
   where
     more : (rec : Rec) → Step task P last_commit balance before rec rest → AllByRecursion (NamesLastCommit P last_commit) (changes_in before)
         → AllByRecursion (NamesLastCommit P last_commit) (changes_in (rec ∷ before))
@@ -91,11 +91,11 @@ walk-last_commits task P last_commit balance (rec ∷ before) rest walk =
     more (Note txn text) step all = all
 
 -- an account that is not held is not changed
-pub untouched : (P : ℕ → Type 0) (last_commit : ℕ → ℕ) (changes : List Change) (account : ℕ) → (P account → ⊥) → AllByRecursion (NamesLastCommit P last_commit) changes
+pub unheld-not_touched : (P : ℕ → Type 0) (last_commit : ℕ → ℕ) (changes : List Change) (account : ℕ) → (P account → ⊥) → AllByRecursion (NamesLastCommit P last_commit) changes
     → touches account changes ≡ false
-untouched P last_commit [] account none all = refl
-untouched P last_commit (change ∷ changes) account none all =
-    λ i. ne_eqb change.account account (λ same. none (subst P same all.0.1)) i || untouched P last_commit changes account none all.1 i
+unheld-not_touched P last_commit [] account none all = refl
+unheld-not_touched P last_commit (change ∷ changes) account none all =
+    λ i. ne_eqb change.account account (λ same. none (subst P same all.0.1)) i || unheld-not_touched P last_commit changes account none all.1 i
 
 -- the balances after a leg are those before it with what its Updates move
 leg-moves : (payer payee : Bool) (balance amount taken added start less : ℕ) → less ≡ amount → (payer ≡ true → amount ≤ balance)
@@ -116,9 +116,9 @@ pub leg-sums : (leg : ℕ × ℕ × ℕ) (balance start : ℕ → ℕ) (changes 
 leg-sums leg balance start changes prev prev' account two enough sums =
     subst (λ (amount : ℕ). after_leg leg balance account + (cond (leg.1 == account) 0 0 + (cond (leg.0 == account) (loss (neg_ℤ (pos leg.2))) 0 + moved loss account changes))
     ≡ start account + (cond (leg.1 == account) leg.2 0 + (cond (leg.0 == account) amount 0 + moved gain account changes)))
-    (sym (gain-less leg.2))
+    (sym (gain-negated leg.2))
     (leg-moves (leg.0 == account) (leg.1 == account) (balance account) leg.2 (moved loss account changes) (moved gain account changes) (start account)
-    (loss (neg_ℤ (pos leg.2))) (loss-less leg.2) (λ is. subst (λ a. leg.2 ≤ balance a) (eqb-true leg.0 account is) enough)
+    (loss (neg_ℤ (pos leg.2))) (loss-negated leg.2) (λ is. subst (λ a. leg.2 ≤ balance a) (eqb-true leg.0 account is) enough)
     (λ payer payee. two (eqb-true leg.0 account payer ∙ sym (eqb-true leg.1 account payee))) sums)
 
 leg-range : (payer payee : Bool) (balance amount : ℕ) → balance ≤ MOST_BALANCE → (payee ≡ true → balance + amount ≤ MOST_BALANCE)
@@ -159,15 +159,15 @@ module _ (task : NumberedTransfer) (P : ℕ → Type 0) (last_commit start : ℕ
   Goes leg legs balance k before = Ranges (after_leg leg balance) → Sums (after_leg leg balance) (changes_in (more leg ∷ less leg ∷ before))
       → Walk T (more leg ∷ less leg ∷ before) (planned_from txn last_commit (after_leg leg balance) (k + 1) legs)
 
-  pub walk-from : (legs : List (ℕ × ℕ × ℕ)) (balance : ℕ → ℕ) (k : ℕ) (before : List Rec) → has_end before ≡ false
+  pub planned_from-walk : (legs : List (ℕ × ℕ × ℕ)) (balance : ℕ → ℕ) (k : ℕ) (before : List Rec) → has_end before ≡ false
       → length (changes_in before) ≡ 2 * k → IsClosed (changes_in before) → k + length legs ≤ 8 → AllByRecursion (IsHeldLeg P) legs
       → Ranges balance → Sums balance (changes_in before)
       → in_order (all_without_prev before) (leg_updates txn legs) ≡ with_note txn task.job.note (leg_updates txn task.job.legs)
       → Walk T before (planned_from txn last_commit balance k legs)
-  walk-from [] balance k before unended count closed few held range sums front =
+  planned_from-walk [] balance k before unended count closed few held range sums front =
       (record { own = refl; unended = unended; count = count; last = refl; balances = λ account. record { now = balance account; range = range account; sum = sums account } }, tt)
-  walk-from (leg ∷ legs) balance k before unended count closed few held range sums front = by_short (lacks leg balance) refl
-      (λ ranges moves. walk-from legs (after_leg leg balance) (k + 1) (more leg ∷ less leg ∷ before) unended (omega (arith, count)) (λ change down. down)
+  planned_from-walk (leg ∷ legs) balance k before unended count closed few held range sums front = by_short (lacks leg balance) refl
+      (λ ranges moves. planned_from-walk legs (after_leg leg balance) (k + 1) (more leg ∷ less leg ∷ before) unended (omega (arith, count)) (λ change down. down)
       (omega (arith, few)) held.1 ranges moves front)
     where
       two : Goes leg legs balance k before → leg.2 ≤ balance leg.0 → balance leg.1 + leg.2 ≤ MOST_BALANCE
@@ -177,7 +177,7 @@ module _ (task : NumberedTransfer) (P : ℕ → Type 0) (last_commit start : ℕ
           own = refl;
           unended = unended;
           legs = omega (arith, few, count);
-          paired = closed _ (lowers-less leg.2 held.0.1);
+          paired = closed _ (lowers-negated leg.2 held.0.1);
           marked = (refl, held.0.2);
           cut = record { rest = Update txn leg.1 (pos leg.2) 0 ∷ leg_updates txn legs; front = front };
         },
@@ -187,8 +187,8 @@ module _ (task : NumberedTransfer) (P : ℕ → Type 0) (last_commit start : ℕ
             unended = unended;
             legs = omega (arith, few, count);
             paired = subst (λ (b : Bool). MatchBool b (IsOpposite (record { account = leg.0; delta = neg_ℤ (pos leg.2); prev = last_commit leg.0 })
-                (record { account = leg.1; delta = pos leg.2; prev = last_commit leg.1 })) (lowers (pos leg.2) ≡ true)) (sym (lowers-less leg.2 held.0.1))
-                (less-twice leg.2, λ same. held.0.0 (sym same));
+                (record { account = leg.1; delta = pos leg.2; prev = last_commit leg.1 })) (lowers (pos leg.2) ≡ true)) (sym (lowers-negated leg.2 held.0.1))
+                (negated-twice leg.2, λ same. held.0.0 (sym same));
             marked = (refl, held.0.3);
             cut = record { rest = leg_updates txn legs; front = front };
           },
@@ -209,15 +209,15 @@ module _ (task : NumberedTransfer) (P : ℕ → Type 0) (last_commit start : ℕ
       by_short true is go = (record { own = refl; unended = unended; count = omega (arith, count); last = refl }, tt)
       by_short false is go = by_over go (overfills leg balance) refl (ltb-false (balance leg.0) leg.2 is)
 
-  pub walk-plan : length task.job.legs ≤ 8 → AllByRecursion (IsHeldLeg P) task.job.legs → Ranges start
+  pub planned_records-walk : length task.job.legs ≤ 8 → AllByRecursion (IsHeldLeg P) task.job.legs → Ranges start
       → Walk T [] (planned_records txn task.job last_commit start)
-  walk-plan few held range = by_note task.job.note refl
+  planned_records-walk few held range = by_note task.job.note refl
     where
       by_note : (note : List ℕ) → note ≡ task.job.note → Walk T [] (with_note txn note (planned_from txn last_commit start 0 task.job.legs))
-      by_note [] is = walk-from task.job.legs start 0 [] refl refl (λ change down. down) (omega (arith, few)) held range (λ account. refl)
+      by_note [] is = planned_from-walk task.job.legs start 0 [] refl refl (λ change down. down) (omega (arith, few)) held range (λ account. refl)
           (ap (λ n. with_note txn n (leg_updates txn task.job.legs)) is)
       by_note (byte ∷ bytes) is =
           let front : with_note txn (byte ∷ bytes) (leg_updates txn task.job.legs) ≡ with_note txn task.job.note (leg_updates txn task.job.legs) = ap (λ n. with_note txn n (leg_updates txn task.job.legs)) is in (
             record { own = refl; unended = refl; cut = record { rest = leg_updates txn task.job.legs; front = front } },
-            walk-from task.job.legs start 0 (Note txn (byte ∷ bytes) ∷ []) refl refl (λ change down. down) (omega (arith, few)) held range (λ account. refl) front,
+            planned_from-walk task.job.legs start 0 (Note txn (byte ∷ bytes) ∷ []) refl refl (λ change down. down) (omega (arith, few)) held range (λ account. refl) front,
           )

@@ -31,20 +31,20 @@ use Rattle.log_rule.specs.Sound.{HasSeenBoundaries, HasContiguousReservations, S
 use Rattle.log_rule.specs.Slots.{pieces_at, is_shared_at, phase_at}
 use Rattle.log_rule.specs.Views.{entries_in, books_in, claims_in, seen_exposed}
 use Rattle.log_rule.specs.Words.{Words}
-use Rattle.log_rule.proofs.Carriers.{carrier-here}
-use Rattle.log_rule.proofs.Exposing.{raise-misses}
-use Rattle.log_rule.proofs.AccountsKept.{accounts-stay}
+use Rattle.log_rule.proofs.Carriers.{carrier-set_carrying}
+use Rattle.log_rule.proofs.Exposing.{missed_raise-leads}
+use Rattle.log_rule.proofs.AccountsKept.{same_books-keeps_accounts}
 use Rattle.log_rule.proofs.Lifting.{Tells}
-use Rattle.log_rule.proofs.Lists.{all-append, all-both, all-weaker}
+use Rattle.log_rule.proofs.Lists.{all-append, all-weaken_both, all-weaken}
 use Rattle.log_rule.proofs.Loads.{exposed-boundary}
-use Rattle.log_rule.proofs.Members.{KeepsView, exposed-on, group-grows, keeps-view}
-use Rattle.log_rule.proofs.MarkLooks.{StartsAt, found-at, ready-marked, marked-ready}
-use Rattle.log_rule.proofs.RangeLists.{tiles-le, tiles-push, all-released}
-use Rattle.log_rule.proofs.Roles.{busy-not_quiet, crew-same, quiet-moves}
-use Rattle.log_rule.proofs.Sharing.{shared-rest, slots-stay}
+use Rattle.log_rule.proofs.Members.{KeepsView, seen_exposed-keeps_seen, seen_in_group-more, keeps-view}
+use Rattle.log_rule.proofs.MarkLooks.{StartsAt, starts_at-reservation_found, first_released-mark_above, mark_above-first_ready}
+use Rattle.log_rule.proofs.RangeLists.{tiles-le, tiles-push, unreleased_in_none-all_released}
+use Rattle.log_rule.proofs.Roles.{busy-not_quiet, crew-set_same, rests_if_quiet-set}
+use Rattle.log_rule.proofs.Sharing.{shared-first_unshared, sound_slot-same_shared}
 use Rattle.log_rule.proofs.MachineShown.{hands_of-set, task_of-hands_of}
-use Rattle.log_rule.proofs.TrueMarks.{IsFirstReady, current-raise}
-use Rattle.log_rule.proofs.ViewChanges.{each_moves, each_set, seats_move, seat_at}
+use Rattle.log_rule.proofs.TrueMarks.{IsFirstReady, current_mark-raise}
+use Rattle.log_rule.proofs.ViewChanges.{each_view-set_weaken, each_view-set, each_seat-set_weaken, each_seat-at}
 
 -- the first range, which is released, and those behind it
 record FirstRange (ranges : List LogRange) (to : ℕ) : Type 0 where
@@ -64,7 +64,7 @@ module _ (key : Start) (words : Words) (views : List View) (me : ℕ) (v : View)
   new = record v { seen = seen_exposed to v.seen; call = Holding to may.after }
 
   mine : HasWorkingOwner log.groups log.parts log.ahead me v
-  mine = seat_at (HasWorkingOwner log.groups log.parts log.ahead) views me v at s.owners
+  mine = each_seat-at (HasWorkingOwner log.groups log.parts log.ahead) views me v at s.owners
 
   abbrev first : FirstRange log.ahead to
   first = first-range log.ahead to ((subst (HasTrueEnds key.start words.exposed log) may.raising (s.ends me v at)).1 (sym same))
@@ -99,14 +99,14 @@ module _ (key : Start) (words : Words) (views : List View) (me : ℕ) (v : View)
 
   stills : (lsns : List ℕ) → AllByRecursion (IsRangeBoundary key.start (ranges_of log)) lsns
       → AllByRecursion (IsRangeBoundary key.start (ranges_of after)) lsns
-  stills lsns = all-weaker (IsRangeBoundary key.start (ranges_of log)) (IsRangeBoundary key.start (ranges_of after)) lsns still
+  stills lsns = all-weaken (IsRangeBoundary key.start (ranges_of log)) (IsRangeBoundary key.start (ranges_of after)) lsns still
 
   -- nothing of the range remains
   none-left : unreleased_in range.base range.size log.parts ≡ 0
   none-left =
       let ready : IsReady words.exposed (words.mark (words.exposed % key.ring)) range =
       subst (IsFirstReady words.exposed (words.mark (words.exposed % key.ring))) first.split
-      (marked-ready key words views log s (ready-marked key words views log s (subst IsFirstReleased (sym first.split) first.released))) in
+      (mark_above-first_ready key words views log s (first_released-mark_above key words views log s (subst IsFirstReleased (sym first.split) first.released))) in
       (subst (AllByRecursion (CountsRemaining log.parts)) first.split s.contiguous.remaining).0 ∙ ready.remaining
 
   contiguous : HasContiguousReservations key.start key.ring words.tail to words.durable after
@@ -155,12 +155,12 @@ module _ (key : Start) (words : Words) (views : List View) (me : ℕ) (v : View)
   not-quiet = busy-not_quiet key words views me v log s at busy
 
   kept : KeepsView log.groups views me new
-  kept = keeps-view key words views me v log s at new refl (exposed-on log.groups to v.seen) tt tt
+  kept = keeps-view key words views me v log s at new refl (seen_exposed-keeps_seen log.groups to v.seen) tt tt
 
   sound : IsSound key (record words { exposed = to }) (set views me new) after
   sound = record {
     ordered = s.ordered;
-    seen = each_moves (λ _ z. HasSeenBoundaries key.start words.tail words.exposed words.durable (ranges_of log) z.seen)
+    seen = each_view-set_weaken (λ _ z. HasSeenBoundaries key.start words.tail words.exposed words.durable (ranges_of log) z.seen)
         (λ _ z. HasSeenBoundaries key.start words.tail to words.durable (ranges_of after) z.seen) views me new s.seen
         (let old = s.seen me v at in record {
           tail_seen = old.tail_seen;
@@ -178,27 +178,27 @@ module _ (key : Start) (words : Words) (views : List View) (me : ℕ) (v : View)
     filled = s.filled;
     below = record {
       full = s.below.full;
-      below = all-both (IsReleasedBelow words.exposed) (λ (q : Part). range.base ≤ q.entry.start → q.entry.start < range.base + range.size
+      below = all-weaken_both (IsReleasedBelow words.exposed) (λ (q : Part). range.base ≤ q.entry.start → q.entry.start < range.base + range.size
           → q.released ≡ true) (IsReleasedBelow to) log.parts
           (λ q low here lt. dite (dec_lt q.entry.start words.exposed) (λ yes'. low yes') (λ no'. here (omega (arith, tiles.0)) (omega (arith, tiles.0, end, lt))))
-          s.below.below (all-released _ _ range.base range.size log.parts s.contiguous.parts none-left);
+          s.below.below (unreleased_in_none-all_released _ _ range.base range.size log.parts s.contiguous.parts none-left);
       ranges = subst (AllByRecursion IsReleased) (append_assoc log.flushed log.exposed (range ∷ []))
           (all-append IsReleased (log.flushed ++ log.exposed) (range ∷ []) s.below.ranges (first.released, tt));
     };
     at_work = behind-of (IsAtWork log.groups) s.at_work;
-    slots = slots-stay (key.ring / 4) words.slot words.base log.ahead rest log.groups
-        (λ slot. shared-rest slot log.ahead rest range first.split (ap (is_shared_at slot) first.released)) s.slots;
+    slots = sound_slot-same_shared (key.ring / 4) words.slot words.base log.ahead rest log.groups
+        (λ slot. shared-first_unshared slot log.ahead rest range first.split (ap (is_shared_at slot) first.released)) s.slots;
     marks = record {
-      current = λ place lo hi. current-raise (key.ring / 4) key.ring words.exposed words.tail words.mark range rest tiles (div-le_self key.ring 4)
+      current = λ place lo hi. current_mark-raise (key.ring / 4) key.ring words.exposed words.tail words.mark range rest tiles (div-le_self key.ring 4)
           (subst (λ l. (x : ℕ) → words.exposed ≤ x → x < words.exposed + key.ring → IsCurrentMark key.ring words.mark l x) first.split s.marks.current)
           place (omega (arith, lo, end)) (omega (arith, hi, end));
       true_marks = subst (AllByRecursion (HasTrueMark key.ring words.mark)) same-ranges s.marks.true_marks;
       below_tail = s.marks.below_tail;
     };
-    carried = λ _. carrier-here to views me v new at refl;
-    ends = each_moves (λ _ z. HasTrueEnds key.start words.exposed log z.call) (λ _ z. HasTrueEnds key.start to after z.call) views me new s.ends
+    carried = λ _. carrier-set_carrying to views me v new at refl;
+    ends = each_view-set_weaken (λ _ z. HasTrueEnds key.start words.exposed log z.call) (λ _ z. HasTrueEnds key.start to after z.call) views me new s.ends
         (record { boundary = exposed-boundary _ _ _ _ _ after contiguous; passed = le_refl _ }) (λ _ z _ _. ends z.call);
-    owners = seats_move (HasWorkingOwner log.groups log.parts log.ahead) (HasWorkingOwner log.groups log.parts rest) views me v new at s.owners
+    owners = each_seat-set_weaken (HasWorkingOwner log.groups log.parts log.ahead) (HasWorkingOwner log.groups log.parts rest) views me v new at s.owners
         record {
           owns = mine.owns ∙ ap (λ c. parts_of me true v.entries ++ parts_of me false (entries_in log.groups c)) may.raising;
           owes = fewer me ∙ (mine.owes ∙ ap claims_in may.raising);
@@ -207,27 +207,27 @@ module _ (key : Start) (words : Words) (views : List View) (me : ℕ) (v : View)
           knows = tt;
         }
         (λ j z _ h. record { owns = h.owns; owes = fewer j ∙ h.owes; joins = h.joins; leads = h.leads; knows = h.knows });
-    constants = each_set (λ _ z. HasConstants key z) views me new s.constants (s.constants me v at);
-    resting = each_set (λ _ z. RestsUnlessActive z) views me new s.resting (λ off. absurd (busy (s.resting me v at off)));
-    entries = each_set (λ _ z. OwnsIfWorker z) views me new s.entries (s.entries me v at);
-    roles = crew-same words.crew views me v new s.roles at refl;
-    sends = each_moves (λ _ z. SendsIfFlusher key.start words.exposed words.durable log z)
+    constants = each_view-set (λ _ z. HasConstants key z) views me new s.constants (s.constants me v at);
+    resting = each_view-set (λ _ z. RestsUnlessActive z) views me new s.resting (λ off. absurd (busy (s.resting me v at off)));
+    entries = each_view-set (λ _ z. OwnsIfWorker z) views me new s.entries (s.entries me v at);
+    roles = crew-set_same words.crew views me v new s.roles at refl;
+    sends = each_view-set_weaken (λ _ z. SendsIfFlusher key.start words.exposed words.durable log z)
         (λ _ z. SendsIfFlusher key.start to words.durable after z) views me new s.sends (sends v (s.sends me v at)) (λ _ z _ _. sends z);
-    stops = each_set (λ _ z. StoresStop words.stop z) views me new s.stops (s.stops me v at);
-    read_stop = each_set (λ _ z. HasReadStop words.stop z) views me new s.read_stop (s.read_stop me v at);
-    quiet = quiet-moves views me v new s.quiet at (λ _ _ _ h. h) (λ _ h. h);
-    looked = each_moves (λ _ z. LookedIfQuiet words.exposed z) (λ _ z. LookedIfQuiet to z) views me new s.looked
+    stops = each_view-set (λ _ z. StoresStop words.stop z) views me new s.stops (s.stops me v at);
+    read_stop = each_view-set (λ _ z. HasReadStop words.stop z) views me new s.read_stop (s.read_stop me v at);
+    quiet = rests_if_quiet-set views me v new s.quiet at (λ _ _ _ h. h) (λ _ h. h);
+    looked = each_view-set_weaken (λ _ z. LookedIfQuiet words.exposed z) (λ _ z. LookedIfQuiet to z) views me new s.looked
         (λ f q _. absurd (not-quiet me v at f q)) (λ j z _ there _ f q _. absurd (not-quiet j z there f q));
-    unheld = each_set (λ _ z. HoldsIfActive z) views me new s.unheld (s.unheld me v at);
-    accounts = accounts-stay key words.account log.parts log.groups views me v new at
+    unheld = each_view-set (λ _ z. HoldsIfActive z) views me new s.unheld (s.unheld me v at);
+    accounts = same_books-keeps_accounts key words.account log.parts log.groups views me v new at
         (sym (ap (λ call. books_in log.groups call v.books) may.raising)) s.accounts;
-    in_group = λ slot. group-grows key.start key.ring words.tail words.tail words.durable words.durable (ranges_of log) (ranges_of after)
+    in_group = λ slot. seen_in_group-more key.start key.ring words.tail words.tail words.durable words.durable (ranges_of log) (ranges_of after)
         (le_refl _) (le_refl _) still (log.groups slot) (s.in_group slot);
-    loads = each_set (λ _ z. LoadsForGroup log.groups z.seen z.call) views me new s.loads kept.loads;
-    awaits = each_set (λ _ z. AwaitsPlace z.call z.books) views me new s.awaits kept.awaits;
-    totals = each_set (λ _ z. (slot : ℕ) → HasTotalOfWorkers (log.groups slot) z) views me new s.totals kept.totals;
+    loads = each_view-set (λ _ z. LoadsForGroup log.groups z.seen z.call) views me new s.loads kept.loads;
+    awaits = each_view-set (λ _ z. AwaitsPlace z.call z.books) views me new s.awaits kept.awaits;
+    totals = each_view-set (λ _ z. (slot : ℕ) → HasTotalOfWorkers (log.groups slot) z) views me new s.totals kept.totals;
     heard = kept.heard;
-    lasts = each_set (λ _ z. HasSeenLast z) views me new s.lasts kept.last;
+    lasts = each_view-set (λ _ z. HasSeenLast z) views me new s.lasts kept.last;
   }
 
   abbrev was : SlotState
@@ -239,7 +239,7 @@ module _ (key : Start) (words : Words) (views : List View) (me : ℕ) (v : View)
   -- the machine finds the range's end
   raised-to : to ≡ cond (words.exposed == from) (end_at from was.log.reservations) words.exposed
   raised-to = first.ends
-      ∙ (sym (ap (λ o. option_map_or end_of o from) (found-at key words views log s from here))
+      ∙ (sym (ap (λ o. option_map_or end_of o from) (starts_at-reservation_found key words views log s from here))
       ∙ sym (ap (λ b. cond b (end_at from was.log.reservations) words.exposed) (eq-eqb words.exposed from same)))
     where
       here : StartsAt from (ranges_of log)
@@ -251,8 +251,8 @@ module _ (key : Start) (words : Words) (views : List View) (me : ℕ) (v : View)
         base = tiles.0 ∙ same;
       }
 
-  pub raise-hits : Leads key words (record words { exposed = to }) views (set views me new) log (raises me)
-  raise-hits = record {
+  pub raise-leads : Leads key words (record words { exposed = to }) views (set views me new) log (raises me)
+  raise-leads = record {
     after = after;
     sound = sound;
     shows = (
@@ -270,7 +270,7 @@ module _ (key : Start) (me : ℕ) (v : View) (from to : ℕ) (may : MayRaise fro
   raise-won = record {
     leads = λ words views log s at is. subst
         (λ c. Leads key words (record words { exposed = to }) views (set views me (record v { seen = seen_exposed to v.seen; call = c })) log (raises me))
-        (sym (ap (call_with_exposed to) may.raising)) (raise-hits key words views me v from to log s at may is);
+        (sym (ap (call_with_exposed to) may.raising)) (raise-leads key words views me v from to log s at may is);
   }
 
   pub raise-lost : (n : ℕ) → (n ≡ from → ⊥) → IsStep key me Exposed n n v (after_raise n v) (raises me)
@@ -279,7 +279,7 @@ module _ (key : Start) (me : ℕ) (v : View) (from to : ℕ) (may : MayRaise fro
         (λ x. Leads key words (record words { exposed = x }) views (set views me (after_raise x v)) log (raises me)) is
         (subst (λ c. Leads key words words views (set views me (record v { seen = seen_exposed words.exposed v.seen; call = c })) log (raises me))
         (sym (ap (call_with_exposed words.exposed) may.raising))
-        (raise-misses key words views me v from to log s at may (λ e. differ (sym is ∙ e))));
+        (missed_raise-leads key words views me v from to log s at may (λ e. differ (sym is ∙ e))));
   }
 
   pub raise-step : (n : ℕ) → IsStep key me Exposed n (either (eqb n from) to n) v (after_raise (cond (n == from) to n) v) (raises me)
@@ -290,8 +290,8 @@ module _ (key : Start) (me : ℕ) (v : View) (from to : ℕ) (may : MayRaise fro
       (raise-lost n differ))
 
   -- the word that is found is not below the LSN in hand, nor what was seen of exposed
-  pub raise-tells : Tells key me Exposed v (λ n. (from ≤ n) × (v.seen.exposed ≤ n) × (n ≤ LAST))
-  raise-tells words views log s at = (
+  pub raise-tells_bounds : Tells key me Exposed v (λ n. (from ≤ n) × (v.seen.exposed ≤ n) × (n ≤ LAST))
+  raise-tells_bounds words views log s at = (
     (subst (HasTrueEnds key.start words.exposed log) may.raising (s.ends me v at)).0.passed,
     (s.seen me v at).exposed_seen,
     omega (arith, tiles-le _ _ _ log.ahead s.contiguous.to_tail, s.ordered.within_log),

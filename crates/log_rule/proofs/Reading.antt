@@ -15,16 +15,16 @@ use Rattle.log_rule.specs.Sound.{StoresStop, HasReadStop, SendsInsertedUnits, Is
 use Rattle.log_rule.specs.Roles.{is_spent}
 use Rattle.log_rule.specs.Views.{counted, has_read, sent_to}
 use Rattle.log_rule.specs.Words.{Words, put}
-use Rattle.log_rule.proofs.AgreedUnits.{agrees-push, entries-from}
+use Rattle.log_rule.proofs.AgreedUnits.{agrees-push, between_boundaries-are_entries}
 use Rattle.log_rule.proofs.Lifting.{Tells}
-use Rattle.log_rule.proofs.Lists.{all-both}
-use Rattle.log_rule.proofs.Loads.{looks, durable-boundary, part-boundary}
-use Rattle.log_rule.proofs.Members.{steps-on}
-use Rattle.log_rule.proofs.ViewChanges.{each_set}
+use Rattle.log_rule.proofs.Lists.{all-weaken_both}
+use Rattle.log_rule.proofs.Loads.{change_sending-leads, durable-boundary, ranges_of-part_boundary}
+use Rattle.log_rule.proofs.Members.{one_step_more-keeps_seen}
+use Rattle.log_rule.proofs.ViewChanges.{each_view-set}
 
 -- what stands at a place, put there again, changes nothing
-pub put-same : (f : ℕ → ℕ) (at n k : ℕ) → f at ≡ n → put f at n k ≡ f k
-put-same f at n k is = by_test (k == at) refl
+pub put-same_value : (f : ℕ → ℕ) (at n k : ℕ) → f at ≡ n → put f at n k ≡ f k
+put-same_value f at n k is = by_test (k == at) refl
   where
     by_test : (b : Bool) → (k == at) ≡ b → cond b n (f k) ≡ f k
     by_test true same = sym is ∙ ap f (sym (eqb-true k at same))
@@ -50,39 +50,39 @@ module _ (key : Start) (words : Words) (views : List View) (me : ℕ) (v : View)
   next : lsn ≡ words.durable + length v.sending.read
   next = omega (arith, may.next, sent-is)
 
-  pub sends-more : SendsInsertedUnits key.start words.exposed words.durable log v.sending.exposed v.sending.sent read
-  sends-more = record {
+  pub has_read-sends_inserted_units : SendsInsertedUnits key.start words.exposed words.durable log v.sending.exposed v.sending.sent read
+  has_read-sends_inserted_units = record {
     sent_to = sends.sent_to;
     read_to = omega (arith, length-append v.sending.read (unit ∷ []), next, may.below);
     loaded_seen = sends.loaded_seen;
     boundary = sends.boundary;
     sent_agrees = sends.sent_agrees;
-    read_agrees = all-both (AgreesFrom words.durable v.sending.read) (StandsInRing key.ring words.durable words.ring)
+    read_agrees = all-weaken_both (AgreesFrom words.durable v.sending.read) (StandsInRing key.ring words.durable words.ring)
         (AgreesFrom words.durable read) log.parts
         (λ p old stands. agrees-push words.durable v.sending.read unit p old
         (λ i lt here. ap (λ x. words.ring (x % key.ring)) (next ∙ sym here) ∙ stands i lt (omega (arith, here)))) sends.read_agrees s.filled.stands;
   }
 
   full : AllByRecursion (λ (p : Part). p.entry.start < v.sending.exposed → IsFull p.entry) log.parts
-  full = all-both IsFullIfReleased (IsReleasedBelow words.exposed) (λ (p : Part). p.entry.start < v.sending.exposed → IsFull p.entry) log.parts
+  full = all-weaken_both IsFullIfReleased (IsReleasedBelow words.exposed) (λ (p : Part). p.entry.start < v.sending.exposed → IsFull p.entry) log.parts
       (λ p is_full below low. is_full (below (omega (arith, low, sends.loaded_seen)))) s.below.full s.below.below
 
-  pub whole : ReadsWholeEntries (has_read unit v)
-  whole all = subst (λ n. AreEntries n v.sending.exposed read) (sym sent-is)
-      (entries-from key.start words.tail words.durable v.sending.exposed log.parts read s.contiguous.parts
-      (part-boundary _ _ _ _ _ log s.contiguous words.durable (durable-boundary _ _ _ _ _ log s.contiguous))
-      (part-boundary _ _ _ _ _ log s.contiguous v.sending.exposed sends.boundary) (omega (arith, all, sent-is)) full s.filled.spelled sends-more.read_agrees)
+  pub has_read-whole_entries : ReadsWholeEntries (has_read unit v)
+  has_read-whole_entries all = subst (λ n. AreEntries n v.sending.exposed read) (sym sent-is)
+      (between_boundaries-are_entries key.start words.tail words.durable v.sending.exposed log.parts read s.contiguous.parts
+      (ranges_of-part_boundary _ _ _ _ _ log s.contiguous words.durable (durable-boundary _ _ _ _ _ log s.contiguous))
+      (ranges_of-part_boundary _ _ _ _ _ log s.contiguous v.sending.exposed sends.boundary) (omega (arith, all, sent-is)) full s.filled.spelled has_read-sends_inserted_units.read_agrees)
 
-  pub ring-reads : Leads key words words views (set views me (has_read unit v)) log none
-  ring-reads = let old = s.seen me v at in
-      looks key words words.stop views me v log (counted v.seen) (record v.sending { read = read }) s at record {
+  pub ring_read-leads : Leads key words words views (set views me (has_read unit v)) log none
+  ring_read-leads = let old = s.seen me v at in
+      change_sending-leads key words words.stop views me v log (counted v.seen) (record v.sending { read = read }) s at record {
         tail_seen = old.tail_seen;
         exposed_seen = old.exposed_seen;
         durable_seen = old.durable_seen;
         boundaries = old.boundaries;
-      } (λ _. sends-more) (each_set (λ _ z. StoresStop words.stop z) views me (has_read unit v) s.stops (s.stops me v at))
-      (each_set (λ _ z. HasReadStop words.stop z) views me (has_read unit v) s.read_stop (s.read_stop me v at))
-      (λ _ _ _ h. h) (s.looked me v at) (steps-on log.groups v.seen _ refl refl refl refl refl refl refl)
+      } (λ _. has_read-sends_inserted_units) (each_view-set (λ _ z. StoresStop words.stop z) views me (has_read unit v) s.stops (s.stops me v at))
+      (each_view-set (λ _ z. HasReadStop words.stop z) views me (has_read unit v) s.read_stop (s.read_stop me v at))
+      (λ _ _ _ h. h) (s.looked me v at) (one_step_more-keeps_seen log.groups v.seen _ refl refl refl refl refl refl refl)
 
 module _ (key : Start) (me : ℕ) (v : View) (lsn ring : ℕ) (same : key.ring ≡ ring) (may : MayRead lsn v) where
   pub read-step : (n : ℕ) → IsStep key me (Ring (lsn % ring)) n n v (has_read n v) none
@@ -90,10 +90,10 @@ module _ (key : Start) (me : ℕ) (v : View) (lsn ring : ℕ) (same : key.ring �
     leads = λ words views log s at is.
         let found : words.ring (lsn % key.ring) ≡ n = ap (λ r. words.ring (lsn % r)) same ∙ is in
         subst (λ (f : ℕ → ℕ). Leads key words (record words { ring = f }) views (set views me (has_read n v)) log none)
-        (λ i k. sym (put-same words.ring (lsn % ring) n k is) i)
-        (subst (λ x. Leads key words words views (set views me (has_read x v)) log none) found (ring-reads key words views me v log s at lsn may));
+        (λ i k. sym (put-same_value words.ring (lsn % ring) n k is) i)
+        (subst (λ x. Leads key words words views (set views me (has_read x v)) log none) found (ring_read-leads key words views me v log s at lsn may));
   }
 
-  pub read-tells : Tells key me (Ring (lsn % ring)) v (λ n. ReadsWholeEntries (has_read n v))
-  read-tells words views log s at =
-      subst (λ r. ReadsWholeEntries (has_read (words.ring (lsn % r)) v)) same (whole key words views me v log s at lsn may)
+  pub read-tells_whole_entries : Tells key me (Ring (lsn % ring)) v (λ n. ReadsWholeEntries (has_read n v))
+  read-tells_whole_entries words views log s at =
+      subst (λ r. ReadsWholeEntries (has_read (words.ring (lsn % r)) v)) same (has_read-whole_entries key words views me v log s at lsn may)

@@ -18,12 +18,12 @@ get_or-in_order placed records other = ap (λ n. get_or (in_order (recs_of place
         ∙ behind placed (entry.rec ∷ records) (suc k)
 
 -- the record that comes next is the only one
-pub next-is : (rec : Rec) (books : Books) → IsNext rec books → next_of books ≡ rec
-next-is rec books next = ap (λ plan. get_or plan (length books.placed) (Note 0 [])) (sym next.plan) ∙ get_or-in_order books.placed (rec ∷ next.rest) (Note 0 [])
+pub is_next-next_of : (rec : Rec) (books : Books) → IsNext rec books → next_of books ≡ rec
+is_next-next_of rec books next = ap (λ plan. get_or plan (length books.placed) (Note 0 [])) (sym next.plan) ∙ get_or-in_order books.placed (rec ∷ next.rest) (Note 0 [])
 
 -- a record that comes next may be placed
 pub may-enter : (rec : Rec) (books : Books) → 1 ≤ books.last.number → IsNext rec books → IsNote rec ⊎ HoldsAccounts books → MayEnter (next_of books) books
-may-enter rec books some_job next accounts = subst (λ r. MayEnter r books) (sym (next-is rec books next))
+may-enter rec books some_job next accounts = subst (λ r. MayEnter r books) (sym (is_next-next_of rec books next))
     record { some_job = some_job; next = next; accounts = accounts }
 
 -- the Note of a job that has one is the first

@@ -23,19 +23,19 @@ use Rattle.log_rule.specs.SlotViews.{seen_slot}
 use Rattle.log_rule.specs.Sound.{HasSeenBoundaries, IsSound}
 use Rattle.log_rule.specs.Views.{entries_in, books_in, claims_in}
 use Rattle.log_rule.specs.Words.{Words, put}
-use Rattle.log_rule.proofs.Filling.{put-here, put-other}
-use Rattle.log_rule.proofs.GroupLeaving.{ToldMember, Left, turns, group-is, left-kept}
+use Rattle.log_rule.proofs.Filling.{put-at, put-other}
+use Rattle.log_rule.proofs.GroupLeaving.{ToldMember, Left, task_in-left, group_shown-left, left-keeps_members}
 use Rattle.log_rule.proofs.Groups.{Keeps, Others}
 use Rattle.log_rule.proofs.MachineShown.{task_of-hands_of}
-use Rattle.log_rule.proofs.SlotLeading.{active}
-use Rattle.log_rule.proofs.SlotShowing.{group-shown, shows-moved}
-use Rattle.log_rule.proofs.SlotChanges.{Mine, elsewhere, slot-sound}
+use Rattle.log_rule.proofs.SlotLeading.{joined-active}
+use Rattle.log_rule.proofs.SlotShowing.{group-shown, slots_of-moved}
+use Rattle.log_rule.proofs.SlotChanges.{Mine, cond-other_slot, slot-sound}
 
 module _ (key : Start) (words : Words) (views : List View) (me : ℕ) (v : View) (slot : ℕ) (piece : Piece) (tail durable : ℕ) (log : Log)
     (s : IsSound key words views log) (at : get_elem? views me ≡ some v) (leaves : v.call ≡ Joined slot piece (Leaves tail durable))
     (m : ToldMember (key.ring / 4) (words.slot slot) (words.base slot) me piece (Refused tail durable) (log.groups slot)) where
-  pub on-duty : v.standing.role ≡ Active
-  on-duty = active key words views me v slot piece (Leaves tail durable) log s at leaves
+  pub releasing-active : v.standing.role ≡ Active
+  releasing-active = joined-active key words views me v slot piece (Leaves tail durable) log s at leaves
 
   module _ (phase : GroupPhase) (call : Call) (word : ℕ) (word-is : word ≡ told_word (Refused tail durable) m.total (m.remaining - piece.size))
       (l : Left (key.ring / 4) (words.slot slot) (words.base slot) me piece (Refused tail durable) (log.groups slot) m slot phase call)
@@ -59,8 +59,8 @@ module _ (key : Start) (words : Words) (views : List View) (me : ℕ) (v : View)
       joins = m.own ∙ sym (l.pieces slot);
       leads = l.leads;
       else = λ q differ. (
-        l.pieces q ∙ sym (ap (pieces_at q) leaves ∙ elsewhere slot q (piece ∷ []) differ),
-        l.else q differ ∙ sym (ap (phase_at me q) leaves ∙ elsewhere slot q [] differ),
+        l.pieces q ∙ sym (ap (pieces_at q) leaves ∙ cond-other_slot slot q (piece ∷ []) differ),
+        l.else q differ ∙ sym (ap (phase_at me q) leaves ∙ cond-other_slot slot q [] differ),
       );
       knows = l.knows (put_group log.groups slot g);
       carries = λ place carries. absurd (subst (Carries place) leaves carries);
@@ -80,12 +80,12 @@ module _ (key : Start) (words : Words) (views : List View) (me : ℕ) (v : View)
         record { tail_seen = old.tail_seen; exposed_seen = old.exposed_seen; durable_seen = old.durable_seen; boundaries = old.boundaries }
 
     sound : IsSound key (record words { slot = states }) (set views me new) after
-    sound = slot-sound key words views me v log s at on-duty slot g states words.base (seen_slot slot (words.slot slot) v.seen) call v.books v.contended moves
+    sound = slot-sound key words views me v log s at releasing-active slot g states words.base (seen_slot slot (words.slot slot) v.seen) call v.books v.contended moves
         (l.books (put_group log.groups slot g) v.books ∙ sym (ap (λ c. books_in log.groups c v.books) leaves)) others
         (no_range ∙ sym (ap range_of m.told))
-        (subst (λ w. IsAtPhase (key.ring / 4) w (words.base slot) (m.before ++ m.behind) phase) (sym (put-here words.slot slot word ∙ word-is)) l.is)
+        (subst (λ w. IsAtPhase (key.ring / 4) w (words.base slot) (m.before ++ m.behind) phase) (sym (put-at words.slot slot word ∙ word-is)) l.is)
         (λ q differ. (put-other words.slot slot word q differ, refl)) sees refl
-        (left-kept key words views me v slot piece (Refused tail durable) log s at on-duty m phase call l)
+        (left-keeps_members key words views me v slot piece (Refused tail durable) log s at releasing-active m phase call l)
 
     abbrev old_state : SlotState
     old_state = slots_of key words views log
@@ -102,19 +102,19 @@ module _ (key : Start) (words : Words) (views : List View) (me : ℕ) (v : View)
 
       turns-to : task_in call ≡ task_released slot piece.size shown.phase
       turns-to =
-          turns (key.ring / 4) (words.slot slot) (words.base slot) me piece (Refused tail durable) (log.groups slot) m slot phase call l shown shown-is
+          task_in-left (key.ring / 4) (words.slot slot) (words.base slot) me piece (Refused tail durable) (log.groups slot) m slot phase call l shown shown-is
 
       left-is : group_shown g ≡ group (without me shown.members) (phase_released me piece.size shown.phase)
       left-is =
-          group-is (key.ring / 4) (words.slot slot) (words.base slot) me piece (Refused tail durable) (log.groups slot) m slot phase call l shown shown-is
+          group_shown-left (key.ring / 4) (words.slot slot) (words.base slot) me piece (Refused tail durable) (log.groups slot) m slot phase call l shown shown-is
 
-      pub refused-released : Leads key words (record words { slot = states }) views (set views me new) log (releases me)
-      refused-released = record {
+      pub refused_release-leads : Leads key words (record words { slot = states }) views (set views me new) log (releases me)
+      refused_release-leads = record {
         after = after;
         sound = sound;
         shows = (
           subst (λ task. IsSomeAnd (membership task) (λ (m : Membership). HasDone m.size m.stage)) (sym task-is) tt,
-          shows-moved key words states words.base views me v new log slot g at below (task_released slot piece.size shown.phase) turns-to
+          slots_of-moved key words states words.base views me v new log slot g at below (task_released slot piece.size shown.phase) turns-to
               ∙ (ap (moved old_state me slot (task_released slot piece.size shown.phase)) left-is
               ∙ ap (λ task. after_release old_state me (membership task)) (sym task-is)),
         );

@@ -8,7 +8,7 @@ use Rattle.log_rule.specs.declared.view.Entry.{Entry}
 use Rattle.log_rule.specs.Log.{Part, picked, own, is_by, parts_of, Laid, unreleased_in, records_in}
 use Rattle.log_rule.specs.CrewViews.{inserted, merged_entries}
 use Rattle.log_rule.proofs.Boundaries.{part_size}
-use Rattle.log_rule.proofs.Lists.{all-weaker}
+use Rattle.log_rule.proofs.Lists.{all-weaken}
 
 abbrev pub rename_one : ℕ → ℕ → Part → Part
 rename_one from to p = record { owner = cond (p.owner == from) to p.owner; entry = p.entry; released = p.released }
@@ -88,7 +88,7 @@ its-above : (j a b : ℕ) (xs : List Part) → Laid a xs b → Above a (its j xs
 its-above j a b [] t = tt
 its-above j a b (x ∷ xs) t =
     by_test (x.owner == j)
-    (all-weaker (λ (p : Entry). a + x.entry.size ≤ p.start) (λ (p : Entry). a ≤ p.start) (its j xs) (λ p h. omega arith)
+    (all-weaken (λ (p : Entry). a + x.entry.size ≤ p.start) (λ (p : Entry). a ≤ p.start) (its j xs) (λ p h. omega arith)
     (its-above j (a + x.entry.size) b xs t.2))
   where
     by_test : (c : Bool) → Above a (its j xs) → Above a (cond c (x.entry ∷ its j xs) (its j xs))
@@ -140,9 +140,9 @@ its-renamed from to a b (x ∷ xs) t n = let a' : ℕ = a + x.entry.size in let 
     (λ h. its-else to y (rename from to xs) (λ g. h (sym is ∙ g)) ∙ ih ∙ sym (λ i. merged_entries (its-else to x xs h i) (its-else from x xs f i))))
 
 -- two seats with freed parts alone: the one that takes in has both, by starts
-pub own-renamed : (from to a b : ℕ) (xs : List Part) (es fs : List Entry) → Laid a xs b → from ≢ to → own to xs ≡ parts_of to true es
+pub own-renamed_merged : (from to a b : ℕ) (xs : List Part) (es fs : List Entry) → Laid a xs b → from ≢ to → own to xs ≡ parts_of to true es
     → own from xs ≡ parts_of from true fs → own to (rename from to xs) ≡ parts_of to true (merged_entries es fs)
-own-renamed from to a b xs es fs t n e f =
+own-renamed_merged from to a b xs es fs t n e f =
     are-parts to true (own to (rename from to xs))
     (renamed-are from to true xs (subst (AllByRecursion (λ (p : Part). p.released ≡ true)) (sym e) (all-are to true es))
     (subst (AllByRecursion (λ (p : Part). p.released ≡ true)) (sym f) (all-are from true fs)))

@@ -33,17 +33,17 @@ use Rattle.lock_core.specs.History.{end_from, history_from}
 use Rattle.log_rule.specs.declared.view.Books.{Books}
 use Rattle.log_rule.specs.Accounts.{KeepsAccounts}
 use Rattle.log_rule.specs.Books.{next_of, placing}
-use Rattle.log_rule.proofs.Entering.{enters, enters-spellable}
+use Rattle.log_rule.proofs.Entering.{may_enter-keeps_accounts, enters-spellable}
 use Rattle.log_rule.proofs.AccountsKept.{books-at, records-push, history-push, history-end}
 use Rattle.std.proofs.lemmas.List.{map-set}
 use Rattle.log_rule.proofs.Lists.{all-append}
-use Rattle.log_rule.proofs.Members.{group-grows}
+use Rattle.log_rule.proofs.Members.{seen_in_group-more}
 use Rattle.log_rule.proofs.OwnedParts.{own-push, own-push_others, owed-push, owed-push_others}
-use Rattle.log_rule.proofs.RangeLists.{inside-here}
-use Rattle.log_rule.proofs.Sharing.{shared-push, slots-stay}
+use Rattle.log_rule.proofs.RangeLists.{inside-starting_within}
+use Rattle.log_rule.proofs.Sharing.{shared-push_unshared, sound_slot-same_shared}
 use Rattle.log_rule.proofs.MachineShown.{hands_of-set, task_of-hands_of}
-use Rattle.log_rule.proofs.TailMoving.{AreNewParts, still, tail-moves, reservations-more, exchange-by}
-use Rattle.log_rule.proofs.ViewChanges.{each_set, seats_move, seat_at}
+use Rattle.log_rule.proofs.TailMoving.{AreNewParts, boundary-moved_log, tail_move-sound, reservations-more, tail_exchange-step}
+use Rattle.log_rule.proofs.ViewChanges.{each_view-set, each_seat-set_weaken, each_seat-at}
 
 pub spelling-some : (r : Rec) → 1 ≤ length (spelling r)
 spelling-some (rec.Genesis account balance) = omega arith
@@ -131,13 +131,13 @@ module _ (key : Start) (words : Words) (views : List View) (me : ℕ) (v : View)
   accounts : KeepsAccounts (base_of key) words.account (history_in key after.parts) (map (books_of log.groups) (set views me new))
   accounts = subst (λ (p : List Placed × List Books). KeepsAccounts (base_of key) words.account p.0 p.1)
       (λ i. (sym history-is i, sym (map-set (books_of log.groups) views me new) i))
-      (enters (base_of key) words.account (history_in key log.parts) bs me v.books my-books to next may.enters s.accounts)
+      (may_enter-keeps_accounts (base_of key) words.account (history_in key log.parts) bs me v.books my-books to next may.enters s.accounts)
 
   mine : HasWorkingOwner log.groups log.parts log.ahead me v
-  mine = seat_at (HasWorkingOwner log.groups log.parts log.ahead) views me v at s.owners
+  mine = each_seat-at (HasWorkingOwner log.groups log.parts log.ahead) views me v at s.owners
 
   owners : EachSeat (HasWorkingOwner log.groups after.parts after.ahead) (set views me new)
-  owners = seats_move (HasWorkingOwner log.groups log.parts log.ahead)
+  owners = each_seat-set_weaken (HasWorkingOwner log.groups log.parts log.ahead)
       (HasWorkingOwner log.groups after.parts after.ahead) views me v new at s.owners
       record {
         owns = own-push me log.parts false entry
@@ -166,7 +166,7 @@ module _ (key : Start) (words : Words) (views : List View) (me : ℕ) (v : View)
     laid = (refl, positive, whole);
     empty = (record { unreleased = refl; no_units = refl }, tt);
     spelled = (spelled, tt);
-    remain = let here = inside-here from size entry (le_refl _) (omega (arith, positive)) in omega (arith, here);
+    remain = let here = inside-starting_within from size entry (le_refl _) (omega (arith, positive)) in omega (arith, here);
   }
 
   within_ring : to ≤ words.durable + key.ring
@@ -176,23 +176,23 @@ module _ (key : Start) (words : Words) (views : List View) (me : ℕ) (v : View)
   work = all-append (IsAtWork log.groups) log.ahead (range ∷ []) s.at_work (inr (inl record { seat = me; duty = refl }), tt)
 
   slots : (slot : ℕ) → IsSoundSlot (key.ring / 4) (words.slot slot) (words.base slot) slot after.ahead (log.groups slot)
-  slots = slots-stay (key.ring / 4) words.slot words.base log.ahead after.ahead log.groups
-      (λ slot. shared-push slot log.ahead range refl) s.slots
+  slots = sound_slot-same_shared (key.ring / 4) words.slot words.base log.ahead after.ahead log.groups
+      (λ slot. shared-push_unshared slot log.ahead range refl) s.slots
 
   carries : (place : ℕ) → Carries place v.call → ⊥
   carries place c = subst (Carries place) may.rests.idle c
 
   in_group : (slot : ℕ) → HasSeenInGroup key.start key.ring to words.durable (ranges_of after) (log.groups slot)
-  in_group slot = group-grows key.start key.ring from to words.durable words.durable (ranges_of log) (ranges_of after)
+  in_group slot = seen_in_group-more key.start key.ring from to words.durable words.durable (ranges_of log) (ranges_of after)
       (omega (arith, whole)) (le_refl _)
-      (still key words views me v log s at may.rests.active to size more (Owed me) log.groups (Filling entry) (placing to next v.books))
+      (boundary-moved_log key words views me v log s at may.rests.active to size more (Owed me) log.groups (Filling entry) (placing to next v.books))
       (log.groups slot) (s.in_group slot)
 
   loads : EachView (λ _ z. LoadsForGroup log.groups z.seen z.call) (set views me new)
-  loads = each_set (λ _ z. LoadsForGroup log.groups z.seen z.call) views me new s.loads tt
+  loads = each_view-set (λ _ z. LoadsForGroup log.groups z.seen z.call) views me new s.loads tt
 
   sound : IsSound key (record words { tail = to }) (set views me new) after
-  sound = tail-moves key words views me v log s at may.rests.active to size more (Owed me) log.groups (Filling entry)
+  sound = tail_move-sound key words views me v log s at may.rests.active to size more (Owed me) log.groups (Filling entry)
       (placing to next v.books)
       new-parts quarter may.within_log within_ring refl carries tt work slots owners accounts in_group loads tt s.totals
 
@@ -203,8 +203,8 @@ module _ (key : Start) (words : Words) (views : List View) (me : ℕ) (v : View)
   abbrev old_state : SlotState
   old_state = slots_of key words views log
 
-  pub tail-reserves : Leads key words (record words { tail = to }) views (set views me new) log (reserves me size)
-  tail-reserves = record {
+  pub reserve-leads : Leads key words (record words { tail = to }) views (set views me new) log (reserves me size)
+  reserve-leads = record {
     after = after;
     sound = sound;
     shows = (
@@ -229,10 +229,10 @@ module _ (key : Start) (me : ℕ) (v : View) (from to : ℕ) (may : MayReserve f
   reserve-step = record {
     leads = λ words views log s at is. subst
         (λ n. Leads key words (record words { tail = to }) views (set views me (reserved n to v)) log (reserves me (to - n))) is
-        (tail-reserves key words views me v to log s at (subst (λ n. MayReserve n to v) (sym is) may));
+        (reserve-leads key words views me v to log s at (subst (λ n. MayReserve n to v) (sym is) may));
   }
 
-  pub reserve-exchange : (n : ℕ) → IsStep key me Tail n (either (eqb n from) to n) v (after_exchange from to n v)
+  pub reserve_exchange-step : (n : ℕ) → IsStep key me Tail n (either (eqb n from) to n) v (after_exchange from to n v)
       (cond (n == from) (reserves me (to - from)) none)
-  reserve-exchange = exchange-by key me v from to (reserved from to v) (reserves me (to - from))
+  reserve_exchange-step = tail_exchange-step key me v from to (reserved from to v) (reserves me (to - from))
       (ap (exchanged from to v) may.rests.idle) reserve-step

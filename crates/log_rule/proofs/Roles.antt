@@ -24,15 +24,15 @@ use Rattle.log_rule.specs.Accounts.{KeepsAccounts}
 use Rattle.log_rule.proofs.Carriers.{carrier-set}
 use Rattle.log_rule.proofs.Members.{KeepsView}
 use Rattle.log_rule.proofs.MachineShown.{hands_of-set_same}
-use Rattle.log_rule.proofs.ViewChanges.{each_set, seats_set, seat_at, pairs_move, count-set}
+use Rattle.log_rule.proofs.ViewChanges.{each_view-set, each_seat-set, each_seat-at, each_pair-set, count-set}
 
 -- a seat's standing stays
-pub crew-same : (crew : ℕ) (views : List View) (me : ℕ) (v new : View) → HasSoundCrew crew views → get_elem? views me ≡ some v
+pub crew-set_same : (crew : ℕ) (views : List View) (me : ℕ) (v new : View) → HasSoundCrew crew views → get_elem? views me ≡ some v
     → new.standing ≡ v.standing → HasSoundCrew crew (set views me new)
-crew-same crew views me v new s at same = record {
+crew-set_same crew views me v new s at same = record {
   count = s.count ∙ sym (counts (count-set is_active_view views me v new at) (ap (λ (z : Standing). is_active z.role) same));
-  each = each_set (λ seat z. HasSoundRole seat z.standing) views me new s.each (subst (HasSoundRole me) (sym same) (s.each me v at));
-  pairs = pairs_move (λ i y j z. HasSoundRoles i y.standing j z.standing) views me v new at s.pairs
+  each = each_view-set (λ seat z. HasSoundRole seat z.standing) views me new s.each (subst (HasSoundRole me) (sym same) (s.each me v at));
+  pairs = each_pair-set (λ i y j z. HasSoundRoles i y.standing j z.standing) views me v new at s.pairs
       (subst (λ (z : Standing). HasSoundRoles me z me z) (sym same) (s.pairs me v at me v at))
       (λ j z differ there. (
         subst (λ (y : Standing). HasSoundRoles me y j z.standing) (sym same) (s.pairs me v at j z there),
@@ -44,9 +44,9 @@ crew-same crew views me v new s at same = record {
     counts {a} {b} {p} {q} e is = let f : a + cond p 1 0 ≡ b + cond p 1 0 = e ∙ ap (λ (x : Bool). b + cond x 1 0) is in omega arith
 
 -- a seat that is neither the flusher's nor a worker's is bound to nothing by the others
-pub unbound : (seat : ℕ) (standing : Standing) (other : ℕ) (others : Standing) → is_worker standing.role ≡ false → (standing.role ≡ Flusher → ⊥)
+pub not_flusher_nor_worker-sound_roles : (seat : ℕ) (standing : Standing) (other : ℕ) (others : Standing) → is_worker standing.role ≡ false → (standing.role ≡ Flusher → ⊥)
     → HasSoundRoles seat standing other others
-unbound seat standing other others off no-flusher = record {
+not_flusher_nor_worker-sound_roles seat standing other others off no-flusher = record {
   apart = λ w. absurd (true≢false (sym w ∙ off));
   made = λ f. absurd (no-flusher f);
   enrolled = λ f. absurd (no-flusher f);
@@ -56,11 +56,11 @@ unbound seat standing other others off no-flusher = record {
 }
 
 -- a seat that is quiet no less, and at work no more, than it was
-pub quiet-moves : (views : List View) (me : ℕ) (v new : View) → EachPair (λ _ y _ z. RestsIfQuiet y z) views
+pub rests_if_quiet-set : (views : List View) (me : ℕ) (v new : View) → EachPair (λ _ y _ z. RestsIfQuiet y z) views
     → get_elem? views me ≡ some v → ((j : ℕ) (z : View) → get_elem? views j ≡ some z → RestsIfQuiet v z → RestsIfQuiet new z)
     → ((z : View) → RestsIfQuiet z v → RestsIfQuiet z new)
     → EachPair (λ _ y _ z. RestsIfQuiet y z) (set views me new)
-quiet-moves views me v new all at first second = pairs_move (λ _ y _ z. RestsIfQuiet y z) views me v new at all
+rests_if_quiet-set views me v new all at first second = each_pair-set (λ _ y _ z. RestsIfQuiet y z) views me v new at all
     (second new (first me v at (all me v at me v at)))
     (λ j z _ there. (first j z there (all me v at j z there), second z (all j z there me v at)))
 
@@ -111,10 +111,10 @@ module _ (key : Start) (words : Words) (stop crew : ℕ) (account : ℕ → ℕ)
     (unheld : HoldsIfActive new)
     (accounts : KeepsAccounts (base_of key) account (history_in key log.parts) (map (books_of log.groups) (set views me new)))
     (kept : KeepsView log.groups views me new) where
-  pub recalls-sound : IsSound key (record words { stop = stop; crew = crew; account = account }) (set views me new) log
-  recalls-sound = record {
+  pub change_view-sound : IsSound key (record words { stop = stop; crew = crew; account = account }) (set views me new) log
+  change_view-sound = record {
     ordered = s.ordered;
-    seen = each_set (λ _ z. HasSeenBoundaries key.start words.tail words.exposed words.durable (ranges_of log) z.seen) views me new s.seen sees;
+    seen = each_view-set (λ _ z. HasSeenBoundaries key.start words.tail words.exposed words.durable (ranges_of log) z.seen) views me new s.seen sees;
     contiguous = s.contiguous;
     filled = s.filled;
     below = s.below;
@@ -122,32 +122,32 @@ module _ (key : Start) (words : Words) (stop crew : ℕ) (account : ℕ → ℕ)
     slots = s.slots;
     marks = s.marks;
     carried = λ first. carrier-set words.exposed views me v new at (carries first) (s.carried first);
-    ends = each_set (λ _ z. HasTrueEnds key.start words.exposed log z.call) views me new s.ends ends;
-    owners = seats_set (HasWorkingOwner log.groups log.parts log.ahead) views me v new at s.owners
-        (let mine = seat_at (HasWorkingOwner log.groups log.parts log.ahead) views me v at s.owners in record {
+    ends = each_view-set (λ _ z. HasTrueEnds key.start words.exposed log z.call) views me new s.ends ends;
+    owners = each_seat-set (HasWorkingOwner log.groups log.parts log.ahead) views me v new at s.owners
+        (let mine = each_seat-at (HasWorkingOwner log.groups log.parts log.ahead) views me v at s.owners in record {
           owns = mine.owns ∙ (λ i. parts_of me true (sym entries i) ++ parts_of me false (sym same.entries i));
           owes = mine.owes ∙ sym same.claims;
           joins = λ slot. mine.joins slot ∙ sym (same.pieces slot);
           leads = λ slot. mine.leads slot ∙ sym (same.phases slot);
           knows = same.knows mine.knows;
         });
-    constants = each_set (λ _ z. HasConstants key z) views me new s.constants constants;
-    resting = each_set (λ _ z. RestsUnlessActive z) views me new s.resting rests;
-    entries = each_set (λ _ z. OwnsIfWorker z) views me new s.entries owns;
+    constants = each_view-set (λ _ z. HasConstants key z) views me new s.constants constants;
+    resting = each_view-set (λ _ z. RestsUnlessActive z) views me new s.resting rests;
+    entries = each_view-set (λ _ z. OwnsIfWorker z) views me new s.entries owns;
     roles = roles;
-    sends = each_set (λ _ z. SendsIfFlusher key.start words.exposed words.durable log z) views me new s.sends sends;
+    sends = each_view-set (λ _ z. SendsIfFlusher key.start words.exposed words.durable log z) views me new s.sends sends;
     stops = stops;
     read_stop = read_stop;
     quiet = quiet;
-    looked = each_set (λ _ z. LookedIfQuiet words.exposed z) views me new s.looked looked;
-    unheld = each_set (λ _ z. HoldsIfActive z) views me new s.unheld unheld;
+    looked = each_view-set (λ _ z. LookedIfQuiet words.exposed z) views me new s.looked looked;
+    unheld = each_view-set (λ _ z. HoldsIfActive z) views me new s.unheld unheld;
     accounts = accounts;
     in_group = s.in_group;
-    loads = each_set (λ _ z. LoadsForGroup log.groups z.seen z.call) views me new s.loads kept.loads;
-    awaits = each_set (λ _ z. AwaitsPlace z.call z.books) views me new s.awaits kept.awaits;
-    totals = each_set (λ _ z. (slot : ℕ) → HasTotalOfWorkers (log.groups slot) z) views me new s.totals kept.totals;
+    loads = each_view-set (λ _ z. LoadsForGroup log.groups z.seen z.call) views me new s.loads kept.loads;
+    awaits = each_view-set (λ _ z. AwaitsPlace z.call z.books) views me new s.awaits kept.awaits;
+    totals = each_view-set (λ _ z. (slot : ℕ) → HasTotalOfWorkers (log.groups slot) z) views me new s.totals kept.totals;
     heard = kept.heard;
-    lasts = each_set (λ _ z. HasSeenLast z) views me new s.lasts kept.last;
+    lasts = each_view-set (λ _ z. HasSeenLast z) views me new s.lasts kept.last;
   }
 
 -- nor what it has under way
@@ -161,14 +161,14 @@ module _ (key : Start) (words : Words) (stop crew : ℕ) (account : ℕ → ℕ)
     (unheld : HoldsIfActive new)
     (accounts : KeepsAccounts (base_of key) account (history_in key log.parts) (map (books_of log.groups) (set views me new)))
     (kept : KeepsView log.groups views me new) where
-  pub restands-sound : IsSound key (record words { stop = stop; crew = crew; account = account }) (set views me new) log
-  restands-sound = recalls-sound key words stop crew account views me v new log s at (same-call log.groups me v.call new.call call)
+  pub change_standing-sound : IsSound key (record words { stop = stop; crew = crew; account = account }) (set views me new) log
+  change_standing-sound = change_view-sound key words stop crew account views me v new log s at (same-call log.groups me v.call new.call call)
       (λ _. subst (Carries words.exposed) (sym call)) (subst (HasTrueEnds key.start words.exposed log) (sym call) (s.ends me v at)) entries
       sees constants rests owns roles sends stops read_stop quiet looked unheld accounts kept
 
-  pub restands : Leads key words (record words { stop = stop; crew = crew; account = account }) views (set views me new) log none
-  restands = record {
+  pub change_standing-leads : Leads key words (record words { stop = stop; crew = crew; account = account }) views (set views me new) log none
+  change_standing-leads = record {
     after = log;
     shows = λ i. record (slots_of key words views log) { hands = hands_of-set_same 0 me views v new at (ap task_in call) i };
-    sound = restands-sound;
+    sound = change_standing-sound;
   }

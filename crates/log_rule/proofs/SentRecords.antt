@@ -13,10 +13,10 @@ use Rattle.lock_core.specs.Lawful.{IsLawful}
 use Rattle.lock_core.specs.Serial.{IsPartlySerialAfter}
 use Rattle.lock_core.specs.Soundness.{IsSoundAfter}
 use Rattle.lock_core.specs.Sums.{as_opening}
-use Rattle.lock_core.proofs.Appending.{none-genesis}
-use Rattle.lock_core.proofs.Fronts.{history_from-append, history_from-onto, lawful-records}
+use Rattle.lock_core.proofs.Appending.{lawful-no_genesis}
+use Rattle.lock_core.proofs.Fronts.{history_from-append, history_from-extends, lawful-records_front}
 use Rattle.lock_core.proofs.SerialFronts.{partly_serial-front}
-use Rattle.lock_core.proofs.SoundLemmas.{sound-lawful}
+use Rattle.lock_core.proofs.SoundLemmas.{lawful-sound_after}
 use Rattle.log_rule.specs.declared.start.Start.{Start}
 use Rattle.log_rule.specs.declared.view.Books.{Books}
 use Rattle.log_rule.specs.declared.view.Constants.{Constants}
@@ -31,13 +31,13 @@ use Rattle.log_rule.specs.Moments.{HoldsAtOnce, books_of_all, jobs_of_all, RunsL
 use Rattle.log_rule.specs.Roles.{is_spent}
 use Rattle.log_rule.specs.Views.{read_to}
 use Rattle.log_rule.specs.Sound.{SendsInsertedUnits, IsSound, base_of, history_in, books_of}
-use Rattle.log_rule.proofs.AgreedUnits.{agrees-append, joined, whole-record, first-units, rest-agrees}
+use Rattle.log_rule.proofs.AgreedUnits.{agrees-append, joined, full_part-is_spelled, agrees-first_entry_units, agrees-drop}
 use Rattle.log_rule.proofs.Bookings.{times_taken-append}
-use Rattle.log_rule.proofs.Boundaries.{part_size, boundary-least}
-use Rattle.log_rule.proofs.GatheredSeats.{all-jobs_run}
+use Rattle.log_rule.proofs.Boundaries.{part_size, boundary-start_le}
+use Rattle.log_rule.proofs.GatheredSeats.{all_jobs-partly_serial}
 use Rattle.log_rule.proofs.GroupPlacing.{records-append}
-use Rattle.log_rule.proofs.Lists.{all-append, all-both, all-weaker}
-use Rattle.log_rule.proofs.Loads.{part-boundary, durable-boundary}
+use Rattle.log_rule.proofs.Lists.{all-append, all-weaken_both, all-weaken}
+use Rattle.log_rule.proofs.Loads.{ranges_of-part_boundary, durable-boundary}
 use Rattle.log_rule.proofs.MemberBooks.{jobs-books_in}
 
 -- the parts that hold these units, whole records, and those behind them
@@ -64,18 +64,18 @@ sent-parts start to until (p ∷ ps) units laid end size full spells agrees = �
         → ((us : List ℕ) → start + p.entry.size + length us ≡ until → AllByRecursion (AgreesFrom (start + p.entry.size) us) ps → SentParts ps us)
         → SentParts (p ∷ ps) units
     longer later go =
-        let least = boundary-least part_size (start + p.entry.size) until ps later in
+        let least = boundary-start_le part_size (start + p.entry.size) until ps later in
         let is : IsFull p.entry = full.0 (omega (arith, laid.0, laid.1, least)) in
         let fits : p.entry.size ≤ length units = omega (arith, least, size) in
         let rest = go (drop p.entry.size units) (omega (arith, length-drop p.entry.size units, fits, size))
-        (all-weaker (AgreesFrom start units) (AgreesFrom (start + p.entry.size) (drop p.entry.size units)) ps
-        (λ q. rest-agrees start p.entry.size units q fits) agrees.1) in record {
+        (all-weaken (AgreesFrom start units) (AgreesFrom (start + p.entry.size) (drop p.entry.size units)) ps
+        (λ q. agrees-drop start p.entry.size units q fits) agrees.1) in record {
           before = p ∷ rest.before;
           behind = rest.behind;
           split = ap (λ l. p ∷ l) rest.split;
-          spelled = (whole-record p spells.0 is, rest.spelled);
+          spelled = (full_part-is_spelled p spells.0 is, rest.spelled);
           units_are = sym (take-append-drop p.entry.size units)
-              ∙ (λ i. first-units start units p agrees.0 is laid.0 fits i ++ rest.units_are i);
+              ∙ (λ i. agrees-first_entry_units start units p agrees.0 is laid.0 fits i ++ rest.units_are i);
         }
 
 -- whole parts spell their records
@@ -101,10 +101,10 @@ takers-shown : (number : ℕ) (groups : ℕ → Group) (views : List View)
 takers-shown number groups [] = refl
 takers-shown number groups (v ∷ vs) = λ i. times_taken number (jobs-books_in groups v.call v.books i) + takers-shown number groups vs i
 
-pub takers-all : (number : ℕ) (views : List View) → takers number (books_of_all views) ≡ times_taken number (jobs_of_all views)
-takers-all number [] = refl
-takers-all number (v ∷ vs) =
-    ap (λ n. times_taken number v.books.jobs + n) (takers-all number vs) ∙ sym (times_taken-append number v.books.jobs (jobs_of_all vs))
+pub takers-times_taken : (number : ℕ) (views : List View) → takers number (books_of_all views) ≡ times_taken number (jobs_of_all views)
+takers-times_taken number [] = refl
+takers-times_taken number (v ∷ vs) =
+    ap (λ n. times_taken number v.books.jobs + n) (takers-times_taken number vs) ∙ sym (times_taken-append number v.books.jobs (jobs_of_all vs))
 
 all-jobs : (P : TakenJob → Type 0) (groups : ℕ → Group) (views : List View)
     → Everywhere (λ (books : Books). AllByRecursion P books.jobs) (map (books_of groups) views) → AllByRecursion P (jobs_of_all views)
@@ -123,12 +123,12 @@ module _ (key : Start) (seat : ℕ) (view : View) (once : HoldsAtOnce key seat v
   s = once.rule
 
   full : AllByRecursion (λ (p : Part). p.entry.start < until → IsFull p.entry) once.log.parts
-  full = all-both IsFullIfReleased (IsReleasedBelow once.words.exposed) (λ (p : Part). p.entry.start < until → IsFull p.entry) once.log.parts
+  full = all-weaken_both IsFullIfReleased (IsReleasedBelow once.words.exposed) (λ (p : Part). p.entry.start < until → IsFull p.entry) once.log.parts
       (λ p is_full released low. is_full (released (omega (arith, low, below)))) s.below.full s.below.below
 
   sent : SentParts once.log.parts units
   sent = sent-parts key.start once.words.tail until once.log.parts units s.contiguous.parts
-      (part-boundary _ _ _ _ _ once.log s.contiguous until boundary) size full s.filled.spelled agrees
+      (ranges_of-part_boundary _ _ _ _ _ once.log s.contiguous until boundary) size full s.filled.spelled agrees
 
   abbrev records : List Rec
   unfolding sent
@@ -156,26 +156,26 @@ module _ (key : Start) (seat : ℕ) (view : View) (once : HoldsAtOnce key seat v
       follows = s.accounts.follows shown
 
       lawful : IsLawful (as_opening (base_of key)) list
-      lawful = lawful-records (as_opening (base_of key)) key.start records (records_in sent.behind)
+      lawful = lawful-records_front (as_opening (base_of key)) key.start records (records_in sent.behind)
           (subst (IsLawful (as_opening (base_of key))) whole follows.lawful)
 
       all : IsPartlySerialAfter (base_of key) (map task_of (jobs_of_all once.views)) (history_in key once.log.parts)
-      all = all-jobs_run (base_of key) once.words.account (history_in key once.log.parts) (map (books_of once.log.groups) once.views) (jobs_of_all once.views)
+      all = all_jobs-partly_serial (base_of key) once.words.account (history_in key once.log.parts) (map (books_of once.log.groups) once.views) (jobs_of_all once.views)
           (all-jobs _ once.log.groups once.views follows.runs)
-          (λ number. takers-shown number once.log.groups once.views ∙ takers-all number once.views) follows
+          (λ number. takers-shown number once.log.groups once.views ∙ takers-times_taken number once.views) follows
 
       serial : IsPartlySerialAfter (base_of key) (map task_of (jobs_of_all once.views)) list
       serial =
-          let more = history_from-onto key.start list (records_in sent.behind) in
+          let more = history_from-extends key.start list (records_in sent.behind) in
           partly_serial-front (base_of key) (map task_of (jobs_of_all once.views)) more.0 list
           (subst (IsPartlySerialAfter (base_of key) (map task_of (jobs_of_all once.views)))
           (whole ∙ history_from-append key.start [] records (records_in sent.behind) ∙ more.1) all)
 
       sound : IsSoundAfter (as_opening (base_of key)) [] list
       sound = subst (IsSoundAfter (as_opening (base_of key)) []) (append-nil list)
-          (sound-lawful (as_opening (base_of key)) [] list once.accounts.balances
+          (lawful-sound_after (as_opening (base_of key)) [] list once.accounts.balances
           (subst (IsLawful (as_opening (base_of key))) (sym (append-nil list)) lawful)
-          (none-genesis (as_opening (base_of key)) list (omega (arith, once.accounts.some_accounts)) lawful)
+          (lawful-no_genesis (as_opening (base_of key)) list (omega (arith, once.accounts.some_accounts)) lawful)
           (subst (AllByRecursion (λ (entry : Placed). IsSpellable entry.rec)) (sym (append-nil list))
           (spellable-history key.start [] records tt spelled.spellable)))
 
@@ -196,7 +196,7 @@ module _ (key : Start) (seat : ℕ) (view : View) (once : HoldsAtOnce key seat v
       let start : view.constants.start ≡ key.start = ap (λ (c : Constants). c.start) (once.rule.constants seat view once.own (ap is_spent flusher)) in
       spells-lawfully key seat view once (view.sending.sent ++ view.sending.read) view.sending.exposed sends.boundary
       (omega (arith, length-append view.sending.sent view.sending.read, all, start)) sends.loaded_seen
-      (all-both (AgreesFrom key.start view.sending.sent) (AgreesFrom once.words.durable view.sending.read)
+      (all-weaken_both (AgreesFrom key.start view.sending.sent) (AgreesFrom once.words.durable view.sending.read)
       (AgreesFrom key.start (view.sending.sent ++ view.sending.read)) once.log.parts
       (λ p first second. agrees-append key.start view.sending.sent view.sending.read p first
       (subst (λ n. AgreesFrom n view.sending.read p) (sym sends.sent_to) second)) sends.sent_agrees sends.read_agrees)

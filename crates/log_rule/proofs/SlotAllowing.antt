@@ -15,14 +15,14 @@ use Rattle.log_rule.specs.May.{MayJoinSlot, MayCloseSlot, MayStoreBase, MayStore
 use Rattle.log_rule.specs.SlotViews.{own_slot_of, saw_slot, after_join, closed_slot, stored_base, published, heard_base, reopened, IsGatheringWord, TellsMember, TellsWaiting}
 use Rattle.log_rule.specs.Sound.{Ruled}
 use Rattle.log_rule.proofs.Lifting.{allowed-if_step}
-use Rattle.log_rule.proofs.SlotClosing.{close-step, close-tells}
-use Rattle.log_rule.proofs.SlotHearing.{hear-step, hear-tells}
+use Rattle.log_rule.proofs.SlotClosing.{close-step, close-tells_gathering_word}
+use Rattle.log_rule.proofs.SlotHearing.{hear-step, hear-tells_member}
 use Rattle.log_rule.proofs.SlotJoining.{join-event, join-step}
-use Rattle.log_rule.proofs.SlotLooks.{slot-looks, slot-tells}
+use Rattle.log_rule.proofs.SlotLooks.{saw_slot-step, slot-tells_slot_word}
 use Rattle.log_rule.proofs.SlotReopening.{reopen-step}
 use Rattle.log_rule.proofs.SlotStoring.{granted-step, refused-step}
 use Rattle.log_rule.proofs.SlotTelling.{publish-step}
-use Rattle.log_rule.proofs.ToldWaiting.{look-tells}
+use Rattle.log_rule.proofs.ToldWaiting.{slot-tells_waiting}
 use Rattle.log_rule.proofs.WordPlaces.{Fits, of_slot, of_base}
 
 module _ (key : Start) (slots seat : ℕ) (me : Me (Unit {0}) View) where
@@ -32,17 +32,17 @@ module _ (key : Start) (slots seat : ℕ) (me : Me (Unit {0}) View) where
     fits-slot = of_slot slot (subst (λ n. slot < n) (sym slotted) below)
 
     -- the word at that place, with the number as it was picked
-    pub at-slot : (left : ℕ → ℕ) (then : ℕ → ℕ → Me (Unit {0}) View → Type 0)
+    pub allows-at_slot_place : (left : ℕ → ℕ) (then : ℕ → ℕ → Me (Unit {0}) View → Type 0)
         → Allows (Ruled key) slots seat me (RING + key.ring + key.ring + STRIDE * slot) left (then slot)
         → Allows (Ruled key) slots seat me place left (then picked)
-    at-slot left then allows = subst (λ (p : ℕ × ℕ). Allows (Ruled key) slots seat me p.0 left (then p.1))
+    allows-at_slot_place left then allows = subst (λ (p : ℕ × ℕ). Allows (Ruled key) slots seat me p.0 left (then p.1))
         (λ i. ((ap (λ r. RING + r + r + STRIDE * slot) same ∙ sym at) i, sym is i)) allows
 
     pub load_slot-allowed : Allows (Ruled key) slots seat me place (λ n. n)
         (λ n new. (new ≡ (saw_slot picked n me.0, me.1)) × (IsSlotWord n × TellsWaiting picked n me.0))
-    load_slot-allowed = at-slot (λ n. n) (λ p n new. (new ≡ (saw_slot p n me.0, me.1)) × (IsSlotWord n × TellsWaiting p n me.0))
+    load_slot-allowed = allows-at_slot_place (λ n. n) (λ p n new. (new ≡ (saw_slot p n me.0, me.1)) × (IsSlotWord n × TellsWaiting p n me.0))
         (allowed-if_step key slots seat me (Slot slot) fits-slot (λ n. n) (λ n. saw_slot slot n me.0) (λ _. none)
-        (λ n. IsSlotWord n × TellsWaiting slot n me.0) (look-tells key seat me.0 slot) (λ n _. slot-looks key seat me.0 slot n))
+        (λ n. IsSlotWord n × TellsWaiting slot n me.0) (slot-tells_waiting key seat me.0 slot) (λ n _. saw_slot-step key seat me.0 slot n))
 
   -- the slot's number stands in the seat's call
   module _ (place ring number slot : ℕ) (at : place ≡ RING + ring + ring + STRIDE * slot) (same : key.ring ≡ ring)
@@ -53,11 +53,11 @@ module _ (key : Start) (slots seat : ℕ) (me : Me (Unit {0}) View) where
     join_slot-allowed from to free joined free-is joined-is may =
         subst (λ (p : ℕ × ℕ × ℕ × ℕ). Allows (Ruled key) slots seat me place (λ n. either (eqb n p.2) p.3 n)
         (λ n new. (new ≡ (after_join p.0 p.1 p.2 n me.0, me.1)) × IsSlotWord n)) (λ i. (may.own_slot i, total-is i, sym free-is i, sym joined-is i))
-        (at-slot place ring number slot slot at same slotted below refl (λ n. either (eqb n (word_of from)) (word_of to) n)
+        (allows-at_slot_place place ring number slot slot at same slotted below refl (λ n. either (eqb n (word_of from)) (word_of to) n)
         (λ _ n new. (new ≡ (after_join slot from.total (word_of from) n me.0, me.1)) × IsSlotWord n)
         (allowed-if_step key slots seat me (Slot slot) (fits-slot place ring number slot slot at same slotted below refl)
         (λ n. either (eqb n (word_of from)) (word_of to) n) (λ n. after_join slot from.total (word_of from) n me.0)
-        (join-event key seat me.0 slot number from to slotted below may) IsSlotWord (slot-tells key seat me.0 slot)
+        (join-event key seat me.0 slot number from to slotted below may) IsSlotWord (slot-tells_slot_word key seat me.0 slot)
         (λ n _. join-step key seat me.0 slot number from to slotted below may n)))
       where
         total-is : from.total ≡ total_in free
@@ -69,14 +69,14 @@ module _ (key : Start) (slots seat : ℕ) (me : Me (Unit {0}) View) where
     close_slot-allowed value is may =
         subst (λ w. Allows (Ruled key) slots seat me place (λ _. w)
         (λ n new. (new ≡ (closed_slot n me.0, me.1)) × IsGatheringWord (me.0.constants.ring / 4) n)) (sym is)
-        (at-slot place ring number slot slot at same slotted below refl (λ _. packed kind.Pending 0 0)
+        (allows-at_slot_place place ring number slot slot at same slotted below refl (λ _. packed kind.Pending 0 0)
         (λ _ n new. (new ≡ (closed_slot n me.0, me.1)) × IsGatheringWord (me.0.constants.ring / 4) n)
         (allowed-if_step key slots seat me (Slot slot) (fits-slot place ring number slot slot at same slotted below refl)
         (λ _. packed kind.Pending 0 0) (λ n. closed_slot n me.0) (λ _. closes seat) (IsGatheringWord (me.0.constants.ring / 4))
-        (close-tells key seat me.0 slot number slotted below may) (λ n _. close-step key seat me.0 slot number slotted below may n)))
+        (close-tells_gathering_word key seat me.0 slot number slotted below may) (λ n _. close-step key seat me.0 slot number slotted below may n)))
 
     pub reopen-allowed : MayReopen slot me.0 → Allows (Ruled key) slots seat me place (λ _. 0) (λ _ new. (new ≡ (reopened me.0, me.1)) × Unit {0})
-    reopen-allowed may = at-slot place ring number slot slot at same slotted below refl (λ _. 0)
+    reopen-allowed may = allows-at_slot_place place ring number slot slot at same slotted below refl (λ _. 0)
         (λ _ _ new. (new ≡ (reopened me.0, me.1)) × Unit {0})
         (allowed-if_step key slots seat me (Slot slot) (fits-slot place ring number slot slot at same slotted below refl)
         (λ _. 0) (λ _. reopened me.0) (λ _. reopens seat) (λ _. Unit {0})
@@ -86,7 +86,7 @@ module _ (key : Start) (slots seat : ℕ) (me : Me (Unit {0}) View) where
         → Allows (Ruled key) slots seat me place (λ _. value) (λ _ new. (new ≡ (published me.0, me.1)) × Unit {0})
     publish-allowed word value is may =
         subst (λ w. Allows (Ruled key) slots seat me place (λ _. w) (λ _ new. (new ≡ (published me.0, me.1)) × Unit {0})) (sym is)
-        (at-slot place ring number slot slot at same slotted below refl (λ _. word_of word)
+        (allows-at_slot_place place ring number slot slot at same slotted below refl (λ _. word_of word)
         (λ _ _ new. (new ≡ (published me.0, me.1)) × Unit {0})
         (allowed-if_step key slots seat me (Slot slot) (fits-slot place ring number slot slot at same slotted below refl)
         (λ _. word_of word) (λ _. published me.0) (λ _. tells seat) (λ _. Unit {0})
@@ -117,4 +117,4 @@ module _ (key : Start) (slots seat : ℕ) (me : Me (Unit {0}) View) where
     load_base-allowed may =
         subst (λ at. Allows (Ruled key) slots seat me at (λ n. n) (λ n new. (new ≡ (heard_base n me.0, me.1)) × TellsMember n me.0)) placed
         (allowed-if_step key slots seat me (Base slot) fits-base (λ n. n) (λ n. heard_base n me.0) (λ _. hears seat) (λ n. TellsMember n me.0)
-        (hear-tells key seat me.0 slot number slotted below may) (λ n _. hear-step key seat me.0 slot number slotted below may n))
+        (hear-tells_member key seat me.0 slot number slotted below may) (λ n _. hear-step key seat me.0 slot number slotted below may n))

@@ -31,17 +31,17 @@ use Rattle.log_rule.specs.SlotViews.{seen_granted, seen_refused, heard_granted, 
 use Rattle.log_rule.specs.Sound.{EachView, HasSeenBoundaries, HasWorkingOwner, IsSound}
 use Rattle.log_rule.specs.Views.{books_in}
 use Rattle.log_rule.specs.Words.{Words}
-use Rattle.log_rule.proofs.Groups.{Others, group-here, group-at, group-other, shown-at}
+use Rattle.log_rule.proofs.Groups.{Others, put_group-at, put_group-at_equal, put_group-other, group_at-groups_from}
 use Rattle.log_rule.proofs.Lifting.{Tells}
 use Rattle.log_rule.proofs.Lists.{among-first, among-more}
 use Rattle.log_rule.proofs.Loads.{all-tile}
 use Rattle.log_rule.proofs.Members.{KeepsMembers}
-use Rattle.log_rule.proofs.Reading.{put-same}
+use Rattle.log_rule.proofs.Reading.{put-same_value}
 use Rattle.log_rule.proofs.MachineShown.{hands_of-set, task_of-hands_of}
-use Rattle.log_rule.proofs.SlotLeading.{active}
-use Rattle.log_rule.proofs.SlotChanges.{Mine, member-moves, slot-sound}
-use Rattle.log_rule.proofs.ToldMembers.{piece-has, lies-between, own-piece, told-at, lies-within, group-range}
-use Rattle.log_rule.proofs.ViewChanges.{seat_at}
+use Rattle.log_rule.proofs.SlotLeading.{joined-active}
+use Rattle.log_rule.proofs.SlotChanges.{Mine, member_step-mine, slot-sound}
+use Rattle.log_rule.proofs.ToldMembers.{all_members-own_piece, range_ahead-boundaries, joined-own_pieces, told_phase-is_told, piece-within_total, group_range-last_ahead}
+use Rattle.log_rule.proofs.ViewChanges.{each_seat-at}
 
 -- What a member comes to that hears this of its group. What the log has of it is what it was by the group's phase before.
 pub record Hearing (seat : ℕ) (piece : Piece) (total : ℕ) (outcome : Outcome) (remaining : ℕ) (step : MemberStep) (old new : Books)
@@ -80,8 +80,8 @@ refusal-hearing seat piece total tail durable remaining books = record {
 
 -- a group is exchanged for itself
 group-same : (groups : ℕ → Group) (slot q : ℕ) → put_group groups slot (groups slot) q ≡ groups q
-group-same groups slot q = dite (ℕ_discrete q slot) (λ same. group-at groups slot q (groups slot) same ∙ ap groups (sym same))
-    (λ differ. group-other groups slot q (groups slot) differ)
+group-same groups slot q = dite (ℕ_discrete q slot) (λ same. put_group-at_equal groups slot q (groups slot) same ∙ ap groups (sym same))
+    (λ differ. put_group-other groups slot q (groups slot) differ)
 
 -- the two numbers of a word
 halves : (word tail durable : ℕ) → word ≡ tail * 2 ^ 32 + durable → durable < 2 ^ 32 → (tail ≡ word / 2 ^ 32) × (durable ≡ word % 2 ^ 32)
@@ -93,13 +93,13 @@ module _ (key : Start) (words : Words) (views : List View) (me : ℕ) (v : View)
   step-before = Hears refused total
 
   mine : HasWorkingOwner log.groups log.parts log.ahead me v
-  mine = seat_at (HasWorkingOwner log.groups log.parts log.ahead) views me v at s.owners
+  mine = each_seat-at (HasWorkingOwner log.groups log.parts log.ahead) views me v at s.owners
 
   works : v.standing.role ≡ Active
-  works = active key words views me v slot piece step-before log s at hearing
+  works = joined-active key words views me v slot piece step-before log s at hearing
 
   own : own_pieces me (log.groups slot).members ≡ piece ∷ []
-  own = own-piece key words views me v slot piece step-before log s at hearing
+  own = joined-own_pieces key words views me v slot piece step-before log s at hearing
 
   ring : v.constants.ring ≡ key.ring
   ring = ap (λ (c : Constants). c.ring) (s.constants me v at (ap is_spent works))
@@ -109,10 +109,10 @@ module _ (key : Start) (words : Words) (views : List View) (me : ℕ) (v : View)
 
   module _ (outcome : Outcome) (remaining : ℕ) (told : (log.groups slot).phase ≡ Told total outcome remaining) where
     is-told : IsTold (key.ring / 4) (words.slot slot) word total outcome remaining (log.groups slot).members
-    is-told = told-at key words views me v slot piece step-before log s at hearing total outcome remaining told
+    is-told = told_phase-is_told key words views me v slot piece step-before log s at hearing total outcome remaining told
 
     within : piece.offset + piece.size ≤ total
-    within = (lies-within key words views me v slot piece step-before log s at hearing total outcome remaining told).1
+    within = (piece-within_total key words views me v slot piece step-before log s at hearing total outcome remaining told).1
 
     had-seen : HasOutcome key.start key.ring words.tail words.durable (ranges_of log) (log.groups slot).members total outcome
     had-seen = subst (HasPhaseOutcome key.start key.ring words.tail words.durable (ranges_of log) (log.groups slot).members) told
@@ -129,12 +129,12 @@ module _ (key : Start) (words : Words) (views : List View) (me : ℕ) (v : View)
       g = record { members = (log.groups slot).members; phase = (log.groups slot).phase }
 
       moves : Mine log.groups me slot g v.call (Joined slot piece step)
-      moves = member-moves log.groups me slot piece step-before step v.call hearing (log.groups slot).phase
+      moves = member_step-mine log.groups me slot piece step-before step v.call hearing (log.groups slot).phase
           (subst (λ p. member_entry p piece step ≡ unheard_entry p piece) (sym told) h.entry)
           (ap (led_phase me) told ∙ sym h.leads) (subst (KnowsPhase step) (sym told) h.knows) (mine.joins slot)
 
       own-books : books_in (put_group log.groups slot g) (Joined slot piece step) books ≡ books_in log.groups v.call v.books
-      own-books = ap (λ (x : Group). member_books x.phase piece step books) (group-here log.groups slot g)
+      own-books = ap (λ (x : Group). member_books x.phase piece step books) (put_group-at log.groups slot g)
           ∙ (subst (λ p. member_books p piece step books ≡ unheard_books p piece v.books) (sym told) h.books
           ∙ sym (ap (λ call. books_in log.groups call v.books) hearing))
 
@@ -169,7 +169,7 @@ module _ (key : Start) (words : Words) (views : List View) (me : ℕ) (v : View)
 
       module _ (below : slot < key.slots) where
         shown : told_outcome (group_at slot old_state.groups).phase ≡ Some outcome
-        shown = ap (λ (x : MachineGroup). told_outcome x.phase) (shown-at 0 key.slots slot slot log.groups (omega arith) below)
+        shown = ap (λ (x : MachineGroup). told_outcome x.phase) (group_at-groups_from 0 key.slots slot slot log.groups (omega arith) below)
             ∙ ap (λ (p : GroupPhase). told_outcome p) told
 
         hands-are : hands_of 0 (set views me new)
@@ -210,11 +210,11 @@ module _ (key : Start) (words : Words) (views : List View) (me : ℕ) (v : View)
     -- which begins and ends at boundaries, and ends not above the tail
     ends : IsRangeBoundary key.start (ranges_of log) (word + total) × (word + total ≤ words.tail)
         × IsRangeBoundary key.start (ranges_of log) word
-    ends = let range = group-range key words views me v slot piece step-before log s at hearing total word remaining told in
+    ends = let range = group_range-last_ahead key words views me v slot piece step-before log s at hearing total word remaining told in
         subst (λ (p : ℕ × ℕ). IsRangeBoundary key.start (ranges_of log) p.0 × (p.0 ≤ words.tail)
         × IsRangeBoundary key.start (ranges_of log) p.1)
         (λ i. ((range.is i).base + (range.is i).size, (range.is i).base))
-        (lies-between (key.ring / 4) key.start words.tail log range.before range.behind range.here
+        (range_ahead-boundaries (key.ring / 4) key.start words.tail log range.before range.behind range.here
         (all-tile _ _ _ _ _ log s.contiguous) range.split)
 
     sees-base : HasSeenBoundaries key.start words.tail words.exposed words.durable (ranges_of log) (seen_granted word total v.seen)
@@ -244,7 +244,7 @@ module _ (key : Start) (words : Words) (views : List View) (me : ℕ) (v : View)
       within = within (Granted word) remaining told;
       few = (is-told (Granted word) remaining told).remains.few;
       in_log = omega (arith, ends.1, s.ordered.within_log);
-      tail_seen = piece-has me (log.groups slot).members piece (HadSeenUnder (Granted word)) (λ p. p.tail ≤ word) own
+      tail_seen = all_members-own_piece me (log.groups slot).members piece (HadSeenUnder (Granted word)) (λ p. p.tail ≤ word) own
           (had-seen (Granted word) remaining told).members_seen (λ _ had. had);
     }
 
@@ -276,7 +276,7 @@ module _ (key : Start) (words : Words) (views : List View) (me : ℕ) (v : View)
     total-of : (z : View) (j : ℕ) → get_elem? views j ≡ some z → z.standing.role ≡ Flusher
         → IsTotalOf (length z.standing.made) piece.size total
     total-of z j there flusher = let made : ℕ = length z.standing.made in
-        piece-has me (log.groups slot).members piece (λ (m : Member). IsTotalOf made m.piece.size total) (λ p. IsTotalOf made p.size total) own
+        all_members-own_piece me (log.groups slot).members piece (λ (m : Member). IsTotalOf made m.piece.size total) (λ p. IsTotalOf made p.size total) own
         (subst (HasTotalAtPhase made (log.groups slot).members) told (s.totals j z there slot flusher)) (λ _ is. is)
 
     refusals-heard : EachView (λ _ z. HeardOfWorkers z (record v { seen = seen })) views
@@ -291,7 +291,7 @@ module _ (key : Start) (words : Words) (views : List View) (me : ℕ) (v : View)
 
     refusal-tells : IsHeardRefusal v.constants.ring total piece word
     refusal-tells = let o = had-seen refusal remaining told in
-        let had = piece-has me (log.groups slot).members piece (HadSeenUnder refusal)
+        let had = all_members-own_piece me (log.groups slot).members piece (HadSeenUnder refusal)
         (λ p. (p.tail ≤ word / 2 ^ 32) × (p.durable ≤ word % 2 ^ 32)) own o.members_seen (λ _ had. (had.tail_seen, had.durable_seen)) in
         subst (λ r. IsHeardRefusal r total piece word) (sym ring) record {
           within = within refusal remaining told;
@@ -304,8 +304,8 @@ module _ (key : Start) (words : Words) (views : List View) (me : ℕ) (v : View)
   abbrev view_at : Bool → View
   view_at flag = cond flag (heard_refused slot word piece total v) (heard_granted slot word piece total v)
 
-  pub slot-heard : slot < key.slots → Leads key words words views (set views me (heard_base word v)) log (hears me)
-  slot-heard below = by-outcome (Leads key words words views (set views me (heard_base word v)) log (hears me))
+  pub hear-leads : slot < key.slots → Leads key words words views (set views me (heard_base word v)) log (hears me)
+  hear-leads below = by-outcome (Leads key words words views (set views me (heard_base word v)) log (hears me))
       (λ flag remaining told. as-told false flag (base-heard remaining told below))
       (λ flag remaining told. as-told true flag (refusal-heard remaining told below))
     where
@@ -314,12 +314,12 @@ module _ (key : Start) (words : Words) (views : List View) (me : ℕ) (v : View)
       as-told flag is = subst (λ (x : View). Leads key words words views (set views me x) log (hears me))
           (sym (ap (λ call. heard_by word call v) hearing ∙ ap view_at is))
 
-  pub granted-tells : refused ≡ false → IsHeardBase (v.constants.ring / 4) total piece word
-  granted-tells flag = by-outcome (IsHeardBase (v.constants.ring / 4) total piece word) (λ _ remaining told. base-tells remaining told)
+  pub granted-heard_base : refused ≡ false → IsHeardBase (v.constants.ring / 4) total piece word
+  granted-heard_base flag = by-outcome (IsHeardBase (v.constants.ring / 4) total piece word) (λ _ remaining told. base-tells remaining told)
       (λ is _ _. absurd (true≢false (sym is ∙ flag)))
 
-  pub refused-tells : refused ≡ true → IsHeardRefusal v.constants.ring total piece word
-  refused-tells flag = by-outcome (IsHeardRefusal v.constants.ring total piece word) (λ is _ _. absurd (true≢false (sym flag ∙ is)))
+  pub refused-heard_refusal : refused ≡ true → IsHeardRefusal v.constants.ring total piece word
+  refused-heard_refusal flag = by-outcome (IsHeardRefusal v.constants.ring total piece word) (λ is _ _. absurd (true≢false (sym flag ∙ is)))
       (λ _ remaining told. refusal-tells remaining told)
 
 module _ (key : Start) (me : ℕ) (v : View) (slot number : ℕ) (slotted : key.slots ≡ number) (below : slot < number)
@@ -328,18 +328,18 @@ module _ (key : Start) (me : ℕ) (v : View) (slot number : ℕ) (slotted : key.
   hear-step n = record {
     leads = λ words views log s at is.
         subst (λ (f : ℕ → ℕ). Leads key words (record words { base = f }) views (set views me (heard_base n v)) log (hears me))
-        (λ i k. sym (put-same words.base slot n k is) i)
+        (λ i k. sym (put-same_value words.base slot n k is) i)
         (subst (λ w. Leads key words words views (set views me (heard_base w v)) log (hears me)) is
-        (slot-heard key words views me v slot may.piece may.refused may.total log s at may.hears
+        (hear-leads key words views me v slot may.piece may.refused may.total log s at may.hears
         (subst (λ k. slot < k) (sym slotted) below)));
   }
 
-  pub hear-tells : Tells key me (Base slot) v (λ n. TellsMember n v)
-  hear-tells words views log s at = record {
+  pub hear-tells_member : Tells key me (Base slot) v (λ n. TellsMember n v)
+  hear-tells_member words views log s at = record {
     base = λ q piece total is. subst (λ k. IsHeardBase (v.constants.ring / 4) total piece (words.base k)) (same-slot q piece false total is)
-        (granted-tells key words views me v q piece false total log s at is refl);
+        (granted-heard_base key words views me v q piece false total log s at is refl);
     refusal = λ q piece total is. subst (λ k. IsHeardRefusal v.constants.ring total piece (words.base k)) (same-slot q piece true total is)
-        (refused-tells key words views me v q piece true total log s at is refl);
+        (refused-heard_refusal key words views me v q piece true total log s at is refl);
   }
     where
       same-slot : (q : ℕ) (piece : Piece) (refused : Bool) (total : ℕ) → v.call ≡ Joined q piece (Hears refused total) → q ≡ slot

@@ -38,17 +38,17 @@ use Rattle.log_rule.specs.Sound.{HasSeenBoundaries, HasWorkingOwner, IsSound, ba
 use Rattle.log_rule.specs.Views.{entries_in, books_in, claims_in}
 use Rattle.log_rule.specs.Words.{Words, put}
 use Rattle.log_rule.proofs.Entering.{enters-spellable}
-use Rattle.log_rule.proofs.Filling.{put-here, put-other}
-use Rattle.log_rule.proofs.Groups.{SameUnheard, IsUntold, Others, keeps, knows-untold, untold-vacant, untold-gathering, group-here}
+use Rattle.log_rule.proofs.Filling.{put-at, put-other}
+use Rattle.log_rule.proofs.Groups.{SameUnheard, IsUntold, Others, same_unheard-keeps, untold-knows_any_phase, untold-vacant, untold-gathering, put_group-at}
 use Rattle.log_rule.proofs.AccountsKept.{books-at}
 use Rattle.log_rule.proofs.Lists.{all-append, picked-append}
-use Rattle.log_rule.proofs.Members.{KeepsMembers, steps-on}
+use Rattle.log_rule.proofs.Members.{KeepsMembers, one_step_more-keeps_seen}
 use Rattle.log_rule.proofs.Reserving.{spelling-some}
 use Rattle.log_rule.proofs.MachineShown.{task_of-hands_of}
-use Rattle.log_rule.proofs.SlotLooks.{small, slot-looks_as}
-use Rattle.log_rule.proofs.SlotShowing.{group-shown, shows-moved, length-groups_from}
-use Rattle.log_rule.proofs.SlotChanges.{Mine, here, elsewhere, slot-sound}
-use Rattle.log_rule.proofs.ViewChanges.{seat_at}
+use Rattle.log_rule.proofs.SlotLooks.{quarter_ring-fits_31_bits, saw_slot_contended-step}
+use Rattle.log_rule.proofs.SlotShowing.{group-shown, slots_of-moved, length-groups_from}
+use Rattle.log_rule.proofs.SlotChanges.{Mine, cond-same_slot, cond-other_slot, slot-sound}
+use Rattle.log_rule.proofs.ViewChanges.{each_seat-at}
 
 -- one more piece tiles behind the others
 tiles-more : (from to n : ℕ) (members : List Member) (member : Member) → PiecesTile from members to → member.piece.offset ≡ to → member.piece.size ≡ n → 1 ≤ n
@@ -99,8 +99,8 @@ module _ (most word base n seat : ℕ) (members : List Member) (member : Member)
     same = record { entry = λ _. refl; books = λ _ _. refl };
     range = refl;
     stage = refl;
-    led = λ _. here seat (Gathering seat 0 ∷ []);
-    others = λ j differ. elsewhere seat j (Gathering seat 0 ∷ []) differ;
+    led = λ _. cond-same_slot seat (Gathering seat 0 ∷ []);
+    others = λ j differ. cond-other_slot seat j (Gathering seat 0 ∷ []) differ;
     entry = λ _. refl;
     books = λ _ _. refl;
     outcome = λ _ _ _ _ _. tt;
@@ -203,7 +203,7 @@ module _ (key : Start) (words : Words) (views : List View) (me : ℕ) (v : View)
   after = record { parts = log.parts; flushed = log.flushed; exposed = log.exposed; ahead = log.ahead; groups = put_group log.groups slot g }
 
   mine : HasWorkingOwner log.groups log.parts log.ahead me v
-  mine = seat_at (HasWorkingOwner log.groups log.parts log.ahead) views me v at s.owners
+  mine = each_seat-at (HasWorkingOwner log.groups log.parts log.ahead) views me v at s.owners
 
   some_units : 1 ≤ n
   some_units = spelling-some (next_of v.books)
@@ -222,7 +222,7 @@ module _ (key : Start) (words : Words) (views : List View) (me : ℕ) (v : View)
   to-is = λ i. packed ((may.phase ∙ may.gathers) i) (may.total i) ((may.remaining ∙ from.gathering may.gathers) i)
 
   j : Joins (key.ring / 4) (words.base slot) total n me members member (log.groups slot).phase
-  j = joins-by_word (key.ring / 4) (words.slot slot) (words.base slot) n me members member (small key words views me v slot (words.slot slot) log s at refl)
+  j = joins-by_word (key.ring / 4) (words.slot slot) (words.base slot) n me members member (quarter_ring-fits_31_bits key words views me v slot (words.slot slot) log s at refl)
       some_units refl total (log.groups slot).phase (s.slots slot).words word-is from.total_fits room refl
 
   knows : (b : Bool) (p : GroupPhase) → KnowsPhase (cond b Closes Waits) p
@@ -231,15 +231,15 @@ module _ (key : Start) (words : Words) (views : List View) (me : ℕ) (v : View)
 
   moves : Mine log.groups me slot g v.call (Joined slot piece step)
   moves = record {
-    entries = ap (λ (x : Group). member_entry x.phase piece step) (group-here log.groups slot g)
+    entries = ap (λ (x : Group). member_entry x.phase piece step) (put_group-at log.groups slot g)
         ∙ (j.entry piece ∙ sym (ap (entries_in log.groups) may.rests.idle));
     claims = sym (ap claims_in may.rests.idle);
     joins = picked-append (is_member me) piece_of members (member ∷ [])
-        ∙ ((λ i. (mine.joins slot ∙ ap (pieces_at slot) may.rests.idle) i ++ here me (piece ∷ []) i) ∙ sym (here slot (piece ∷ [])));
-    leads = j.led (mine.leads slot ∙ ap (phase_at me slot) may.rests.idle) ∙ sym (here slot (phase_led me step));
+        ∙ ((λ i. (mine.joins slot ∙ ap (pieces_at slot) may.rests.idle) i ++ cond-same_slot me (piece ∷ []) i) ∙ sym (cond-same_slot slot (piece ∷ [])));
+    leads = j.led (mine.leads slot ∙ ap (phase_at me slot) may.rests.idle) ∙ sym (cond-same_slot slot (phase_led me step));
     else = λ q differ. (
-      elsewhere slot q (piece ∷ []) differ ∙ sym (ap (pieces_at q) may.rests.idle),
-      elsewhere slot q (phase_led me step) differ ∙ sym (ap (phase_at me q) may.rests.idle),
+      cond-other_slot slot q (piece ∷ []) differ ∙ sym (ap (pieces_at q) may.rests.idle),
+      cond-other_slot slot q (phase_led me step) differ ∙ sym (ap (phase_at me q) may.rests.idle),
     );
     knows = knows (total == 0) (put_group log.groups slot g slot).phase;
     carries = λ place carries. absurd (subst (Carries place) may.rests.idle carries);
@@ -247,7 +247,7 @@ module _ (key : Start) (words : Words) (views : List View) (me : ℕ) (v : View)
   }
 
   own-books : books_in (put_group log.groups slot g) (Joined slot piece step) v.books ≡ books_in log.groups v.call v.books
-  own-books = ap (λ (x : Group). member_books x.phase piece step v.books) (group-here log.groups slot g)
+  own-books = ap (λ (x : Group). member_books x.phase piece step v.books) (put_group-at log.groups slot g)
       ∙ (j.books piece v.books ∙ sym (ap (λ call. books_in log.groups call v.books) may.rests.idle))
 
   others : (q : ℕ) → q ≢ me → Others (log.groups slot) g q
@@ -255,7 +255,7 @@ module _ (key : Start) (words : Words) (views : List View) (me : ℕ) (v : View)
     joins = picked-append (is_member q) piece_of members (member ∷ [])
         ∙ (ap (λ b. own_pieces q members ++ cond {A = List Piece} b (piece ∷ []) []) (ne_eqb me q (λ e. differ (sym e))) ∙ append-nil (own_pieces q members));
     leads = j.others q differ;
-    keep = λ p st _ _. keeps (log.groups slot).phase g.phase j.same (knows-untold (log.groups slot).phase g.phase j.untold) p st;
+    keep = λ p st _ _. same_unheard-keeps (log.groups slot).phase g.phase j.same (untold-knows_any_phase (log.groups slot).phase g.phase j.untold) p st;
   }
 
   sees : HasSeenBoundaries key.start words.tail words.exposed words.durable (ranges_of log) (seen_slot slot (word_of from) v.seen)
@@ -273,7 +273,7 @@ module _ (key : Start) (words : Words) (views : List View) (me : ℕ) (v : View)
     awaits = joining-awaits (total == 0) piece v.books record { rec_is = refl; size_is = refl; enters = may.enters };
     totals = λ _ z _ _. j.totals (length z.standing.made);
     heard = λ q z there. s.heard q z there me v at;
-    last = (steps-on log.groups v.seen (seen_slot slot (word_of from) v.seen) refl refl refl refl refl refl refl).last
+    last = (one_step_more-keeps_seen log.groups v.seen (seen_slot slot (word_of from) v.seen) refl refl refl refl refl refl refl).last
         (s.lasts me v at (ap is_spent may.rests.active));
     others = λ seat units is _ _ _. absurd (j.unclosed seat units is);
   }
@@ -281,7 +281,7 @@ module _ (key : Start) (words : Words) (views : List View) (me : ℕ) (v : View)
   sound : IsSound key (record words { slot = states }) (set views me new) after
   sound = slot-sound key words views me v log s at may.rests.active slot g states words.base (seen_slot slot (word_of from) v.seen)
       (Joined slot piece step) v.books false moves own-books others j.range
-      (subst (λ w. IsAtPhase (key.ring / 4) w (words.base slot) g.members g.phase) (sym (put-here words.slot slot (word_of to) ∙ to-is)) j.is)
+      (subst (λ w. IsAtPhase (key.ring / 4) w (words.base slot) g.members g.phase) (sym (put-at words.slot slot (word_of to) ∙ to-is)) j.is)
       (λ q differ. (put-other words.slot slot (word_of to) q differ, refl)) sees refl kept
 
   abbrev old_state : SlotState
@@ -291,8 +291,8 @@ module _ (key : Start) (words : Words) (views : List View) (me : ℕ) (v : View)
   group-is = λ i. group ((map-append member_shown members (member ∷ []) ∙ (λ k. map member_shown members ++ machine-member me (sym j.sum k) n ∷ [])) i)
       (phase_joined me n (log.groups slot).phase)
 
-  pub slot-joins : slot < key.slots → Leads key words (record words { slot = states }) views (set views me new) log (joins me slot n)
-  slot-joins below = record {
+  pub slot_join-leads : slot < key.slots → Leads key words (record words { slot = states }) views (set views me new) log (joins me slot n)
+  slot_join-leads below = record {
     after = after;
     sound = sound;
     shows = (
@@ -304,7 +304,7 @@ module _ (key : Start) (words : Words) (views : List View) (me : ℕ) (v : View)
         place = subst (λ (x : MachineGroup). HasPlace (key.ring / 4) n x.phase)
             (sym (group-shown key words states words.base views me v new log slot g at below)) j.place;
       },
-      shows-moved key words states words.base views me v new log slot g at below (task_joined slot n (log.groups slot).phase)
+      slots_of-moved key words states words.base views me v new log slot g at below (task_joined slot n (log.groups slot).phase)
           (λ i. joined slot (sym j.sum i) n (j.stage i))
           ∙ ((λ i. moved old_state me slot (task_joined slot n (log.groups slot).phase) (group-is i))
           ∙ ap (λ (x : MachineGroup). moved old_state me slot (task_joined slot n x.phase) (group_joined me n x))
@@ -316,7 +316,7 @@ module _ (key : Start) (me : ℕ) (v : View) (slot number : ℕ) (from to : Slot
     (may : MayJoinSlot slot from to v) where
   pub join-won : IsStep key me (Slot slot) (word_of from) (word_of to) v (joined_slot slot from.total (word_of from) v) (joins me slot (length (spelling (next_of v.books))))
   join-won = record {
-    leads = λ words views log s at is. slot-joins key words views me v slot from to log s at may is (subst (λ k. slot < k) (sym slotted) below);
+    leads = λ words views log s at is. slot_join-leads key words views me v slot from to log s at may is (subst (λ k. slot < k) (sym slotted) below);
   }
 
   -- the event of an exchange that finds this word
@@ -332,4 +332,4 @@ module _ (key : Start) (me : ℕ) (v : View) (slot number : ℕ) (from to : Slot
       (sym is) join-won))
       (λ differ. subst (λ (b : Bool). IsStep key me (Slot slot) found (either b (word_of to) found) v
       (cond b (joined_slot slot from.total (word_of from) v) (lost_join slot found v)) (cond b (joins me slot (length (spelling (next_of v.books)))) none))
-      (sym (ne_eqb found (word_of from) differ)) (slot-looks_as key me v slot false found))
+      (sym (ne_eqb found (word_of from) differ)) (saw_slot_contended-step key me v slot false found))

@@ -22,14 +22,14 @@ use Rattle.log_rule.specs.Slots.{own_pieces, pieces_at, IsToldAs}
 use Rattle.log_rule.specs.SlotViews.{seen_slot, tells_refusal, step_seeing, call_seeing, contended_seeing, saw_slot}
 use Rattle.log_rule.specs.Sound.{StoresStop, HasReadStop, HasWorkingOwner, IsSound}
 use Rattle.log_rule.specs.Words.{Words}
-use Rattle.log_rule.proofs.AccountsKept.{accounts-stay}
+use Rattle.log_rule.proofs.AccountsKept.{same_books-keeps_accounts}
 use Rattle.log_rule.proofs.Lifting.{Tells as RuleTells}
-use Rattle.log_rule.proofs.Members.{KeepsSeen, steps-on, loads-stay, keeps-view}
-use Rattle.log_rule.proofs.Reading.{put-same}
-use Rattle.log_rule.proofs.Roles.{HasSame, crew-same, quiet-moves, recalls-sound}
+use Rattle.log_rule.proofs.Members.{KeepsSeen, one_step_more-keeps_seen, keeps_seen-loads_for_group, keeps-view}
+use Rattle.log_rule.proofs.Reading.{put-same_value}
+use Rattle.log_rule.proofs.Roles.{HasSame, crew-set_same, rests_if_quiet-set, change_view-sound}
 use Rattle.log_rule.proofs.MachineShown.{hands_of-set_same}
-use Rattle.log_rule.proofs.SlotWords.{phase-is_slot, seen-told}
-use Rattle.log_rule.proofs.ViewChanges.{each_set, seat_at}
+use Rattle.log_rule.proofs.SlotWords.{at_phase-slot_word, at_phase-told_as}
+use Rattle.log_rule.proofs.ViewChanges.{each_view-set, each_seat-at}
 
 -- a seat that carries, or has an LSN in hand, is no member
 carries-seeing : (place slot word : ℕ) (call : Call) → Carries place call → Carries place (call_seeing slot word call)
@@ -156,22 +156,22 @@ module _ (groups : ℕ → Group) (seat slot word : ℕ) where
 
 module _ (key : Start) (words : Words) (views : List View) (me : ℕ) (v : View) (slot word : ℕ) (log : Log) (s : IsSound key words views log)
     (at : get_elem? views me ≡ some v) (is : words.slot slot ≡ word) where
-  pub small : key.ring / 4 < 2 ^ 31
-  small = let quarter = div-le_self key.ring 4 in let greatest = s.ordered.greatest_ring in omega arith
+  pub quarter_ring-fits_31_bits : key.ring / 4 < 2 ^ 31
+  quarter_ring-fits_31_bits = let quarter = div-le_self key.ring 4 in let greatest = s.ordered.greatest_ring in omega arith
 
   -- the seat is a member where its call says so
-  pub member-there : (other : ℕ) (piece : Piece) (step : MemberStep) → v.call ≡ Joined other piece step → (log.groups other).members ≡ [] → ⊥
-  member-there other piece step call none =
+  pub joined-some_members : (other : ℕ) (piece : Piece) (step : MemberStep) → v.call ≡ Joined other piece step → (log.groups other).members ≡ [] → ⊥
+  joined-some_members other piece step call none =
       let one : [] ≡ piece ∷ [] = sym (ap (own_pieces me) none)
-      ∙ ((seat_at (HasWorkingOwner log.groups log.parts log.ahead) views me v at s.owners).joins other
+      ∙ ((each_seat-at (HasWorkingOwner log.groups log.parts log.ahead) views me v at s.owners).joins other
       ∙ (ap (pieces_at other) call ∙ ap (λ b. cond {A = List Piece} b (piece ∷ []) []) (eq-eqb other other refl))) in absurd (cc)
 
   same : HasSame log.groups me v.call (call_seeing slot word v.call)
   same = call-same log.groups me slot word v.call (λ other piece call here high.
       let holds : words.slot other ≡ word = ap words.slot here ∙ is in
       subst (λ w. IsToldAs (tells_refusal w) (total_in w) (log.groups other).phase) holds
-      (seen-told (key.ring / 4) (words.slot other) (words.base other) (log.groups other).members (log.groups other).phase small (s.slots other).words
-      (member-there other piece Waits call) (subst (λ w. nat_lt w (2 ^ 63) ≡ false) (sym holds) high)))
+      (at_phase-told_as (key.ring / 4) (words.slot other) (words.base other) (log.groups other).members (log.groups other).phase quarter_ring-fits_31_bits (s.slots other).words
+      (joined-some_members other piece Waits call) (subst (λ w. nat_lt w (2 ^ 63) ≡ false) (sym holds) high)))
 
   -- whether the seat is contended is nothing to the rule
   module _ (contended : Bool) where
@@ -179,41 +179,41 @@ module _ (key : Start) (words : Words) (views : List View) (me : ℕ) (v : View)
     new = record v { seen = seen_slot slot word v.seen; call = call_seeing slot word v.call; contended = contended }
 
     keeps : KeepsSeen log.groups v.seen new.seen
-    keeps = steps-on log.groups v.seen new.seen refl refl refl refl refl refl refl
+    keeps = one_step_more-keeps_seen log.groups v.seen new.seen refl refl refl refl refl refl refl
 
-    pub slot-seen : Leads key words words views (set views me new) log none
-    slot-seen = record {
+    pub see_slot-leads : Leads key words words views (set views me new) log none
+    see_slot-leads = record {
       after = log;
-      sound = recalls-sound key words words.stop words.crew words.account views me v new log s at same
+      sound = change_view-sound key words words.stop words.crew words.account views me v new log s at same
           (λ _. carries-seeing words.exposed slot word v.call) (ends-seeing key.start words.exposed slot word log v.call (s.ends me v at)) refl
           (let old = s.seen me v at in
           record { tail_seen = old.tail_seen; exposed_seen = old.exposed_seen; durable_seen = old.durable_seen; boundaries = old.boundaries })
           (s.constants me v at) (λ off. ap (call_seeing slot word) (s.resting me v at off)) (s.entries me v at)
-          (crew-same words.crew views me v new s.roles at refl) (s.sends me v at)
-          (each_set (λ _ z. StoresStop words.stop z) views me new s.stops (s.stops me v at))
-          (each_set (λ _ z. HasReadStop words.stop z) views me new s.read_stop (s.read_stop me v at))
-          (quiet-moves views me v new s.quiet at (λ _ _ _ h. h) (λ _ h. h)) (s.looked me v at) (s.unheld me v at)
-          (accounts-stay key words.account log.parts log.groups views me v new at (same.books v.books) s.accounts)
+          (crew-set_same words.crew views me v new s.roles at refl) (s.sends me v at)
+          (each_view-set (λ _ z. StoresStop words.stop z) views me new s.stops (s.stops me v at))
+          (each_view-set (λ _ z. HasReadStop words.stop z) views me new s.read_stop (s.read_stop me v at))
+          (rests_if_quiet-set views me v new s.quiet at (λ _ _ _ h. h) (λ _ h. h)) (s.looked me v at) (s.unheld me v at)
+          (same_books-keeps_accounts key words.account log.parts log.groups views me v new at (same.books v.books) s.accounts)
           (keeps-view key words views me v log s at new refl keeps
           (call-seeing_keeps (LoadsForGroup log.groups new.seen) slot word (λ _ _ _ _ loads. loads) v.call
-          (loads-stay key words views me v log s at new.seen keeps))
+          (keeps_seen-loads_for_group key words views me v log s at new.seen keeps))
           (call-seeing_keeps (λ call. AwaitsPlace call v.books) slot word (λ _ _ _ _ awaits. awaits) v.call (s.awaits me v at)));
       shows = λ i. record (slots_of key words views log) { hands = hands_of-set_same 0 me views v new at (task-seeing slot word v.call) i };
     }
 
 module _ (key : Start) (me : ℕ) (v : View) (slot : ℕ) where
   -- the state is seen, by a load or by an exchange that was lost
-  pub slot-looks_as : (contended : Bool) (n : ℕ)
+  pub saw_slot_contended-step : (contended : Bool) (n : ℕ)
       → IsStep key me (Slot slot) n n v (record v { seen = seen_slot slot n v.seen; call = call_seeing slot n v.call; contended = contended }) none
-  slot-looks_as contended n = record {
+  saw_slot_contended-step contended n = record {
     leads = λ words views log s at is. subst (λ (f : ℕ → ℕ). Leads key words (record words { slot = f }) views
         (set views me (record v { seen = seen_slot slot n v.seen; call = call_seeing slot n v.call; contended = contended })) log none)
-        (λ i k. sym (put-same words.slot slot n k is) i) (slot-seen key words views me v slot n log s at is contended);
+        (λ i k. sym (put-same_value words.slot slot n k is) i) (see_slot-leads key words views me v slot n log s at is contended);
   }
 
-  pub slot-looks : (n : ℕ) → IsStep key me (Slot slot) n n v (saw_slot slot n v) none
-  slot-looks n = slot-looks_as (contended_seeing slot n v) n
+  pub saw_slot-step : (n : ℕ) → IsStep key me (Slot slot) n n v (saw_slot slot n v) none
+  saw_slot-step n = saw_slot_contended-step (contended_seeing slot n v) n
 
-  pub slot-tells : RuleTells key me (Slot slot) v IsSlotWord
-  slot-tells words views log s at = phase-is_slot (key.ring / 4) (words.slot slot) (words.base slot) (log.groups slot).members (log.groups slot).phase
-      (small key words views me v slot (words.slot slot) log s at refl) (s.slots slot).words
+  pub slot-tells_slot_word : RuleTells key me (Slot slot) v IsSlotWord
+  slot-tells_slot_word words views log s at = at_phase-slot_word (key.ring / 4) (words.slot slot) (words.base slot) (log.groups slot).members (log.groups slot).phase
+      (quarter_ring-fits_31_bits key words views me v slot (words.slot slot) log s at refl) (s.slots slot).words

@@ -28,15 +28,15 @@ use Rattle.log_rule.specs.Slots.{told_word}
 use Rattle.log_rule.specs.SlotViews.{slot_in, seen_slot, call_emptying, call_released, piece_in, released_piece, IsAsHeard, IsAsHeardIn, HasToRelease}
 use Rattle.log_rule.specs.Sound.{IsSound, Ruled}
 use Rattle.log_rule.specs.Words.{Words, put}
-use Rattle.log_rule.proofs.GroupLeaving.{ToldMember, told-member, some-left, none-left, told-less, told-subtracted, word-total, word-remaining}
+use Rattle.log_rule.proofs.GroupLeaving.{ToldMember, told-member, left-if_some_remain, left-if_none_remain, told_word-minus, told-subtracted, word-total, word-remaining}
 use Rattle.log_rule.proofs.Lifting.{Tells, allowed-if_step}
-use Rattle.log_rule.proofs.RefusedReleasing.{refused-released}
-use Rattle.log_rule.proofs.SlotAllowing.{fits-slot, at-slot}
-use Rattle.log_rule.proofs.SlotLeading.{active}
-use Rattle.log_rule.proofs.SlotLooks.{small}
-use Rattle.log_rule.proofs.SlotReleasing.{range-shared, range-owed, in_log, piece-released}
-use Rattle.log_rule.proofs.SlotWords.{phase-is_slot}
-use Rattle.log_rule.proofs.SlotChanges.{here, elsewhere}
+use Rattle.log_rule.proofs.RefusedReleasing.{refused_release-leads}
+use Rattle.log_rule.proofs.SlotAllowing.{fits-slot, allows-at_slot_place}
+use Rattle.log_rule.proofs.SlotLeading.{joined-active}
+use Rattle.log_rule.proofs.SlotLooks.{quarter_ring-fits_31_bits}
+use Rattle.log_rule.proofs.SlotReleasing.{left_range-shared, left_range-owed, group_range-within_tail, piece_release-leads}
+use Rattle.log_rule.proofs.SlotWords.{at_phase-slot_word}
+use Rattle.log_rule.proofs.SlotChanges.{cond-same_slot, cond-other_slot}
 
 -- the one word is the other with n units less that remain
 abbrev pub IsLess : ℕ → ℕ → ℕ → Type 0
@@ -44,7 +44,7 @@ IsLess n found left = (outcome : Outcome) (total remaining : ℕ) → total < 2 
     → found ≡ told_word outcome total remaining → left ≡ told_word outcome total (remaining - n)
 
 pub less-minus : (n found : ℕ) → IsLess n found (found - n)
-less-minus n found outcome total remaining fits fits' within is = ap (λ word. word - n) is ∙ told-less outcome total remaining n within
+less-minus n found outcome total remaining fits fits' within is = ap (λ word. word - n) is ∙ told_word-minus outcome total remaining n within
 
 pub less-subtracted : (n found : ℕ) → IsLess n found (subtracted n found)
 less-subtracted n found outcome total remaining fits fits' within is =
@@ -74,9 +74,9 @@ module _ (key : Start) (words : Words) (views : List View) (me : ℕ) (v : View)
   finds : IsAsHeard step (words.slot slot) → HasToRelease (v.constants.ring / 4) n v.call (words.slot slot)
   finds heard =
       let ring : v.constants.ring ≡ key.ring = ap (λ (c : Constants). c.ring)
-      (s.constants me v at (ap is_spent (active key words views me v slot piece step log s at call))) in record {
-        slot_word = phase-is_slot (key.ring / 4) (words.slot slot) (words.base slot) (log.groups slot).members (log.groups slot).phase
-            (small key words views me v slot (words.slot slot) log s at refl) (s.slots slot).words;
+      (s.constants me v at (ap is_spent (joined-active key words views me v slot piece step log s at call))) in record {
+        slot_word = at_phase-slot_word (key.ring / 4) (words.slot slot) (words.base slot) (log.groups slot).members (log.groups slot).phase
+            (quarter_ring-fits_31_bits key words views me v slot (words.slot slot) log s at refl) (s.slots slot).words;
         heard = subst (λ c. IsAsHeardIn c (words.slot slot)) (sym call) heard;
         remain = omega (arith, size, remains, m.enough);
         within = omega (arith, sums, remains, m.is.remains.within);
@@ -118,17 +118,17 @@ module _ (key : Start) (words : Words) (views : List View) (me : ℕ) (v : View)
         → Releases word after (cond (m.remaining == piece.size) (Emptying slot may.base m.total) Idle)
     filled-releases word word-is below = dite (ℕ_discrete m.remaining piece.size)
         (λ all. subst (λ b. Releases word after (cond b (Emptying slot may.base m.total) Idle)) (sym (eq-eqb m.remaining piece.size all))
-        (piece-released key words views me v slot piece may.base may.units log s at may.fills may.full m (Emptied me) (Owed me)
+        (piece_release-leads key words views me v slot piece may.base may.units log s at may.fills may.full m (Emptied me) (Owed me)
         (Emptying slot may.base m.total) word word-is
-        (none-left most (words.slot slot) (words.base slot) me piece (Granted may.base) (log.groups slot) m all slot (Emptying slot may.base m.total)
-        (here slot (Emptied me ∷ [])) (λ q differ. elsewhere slot q (Emptied me ∷ []) differ) (λ _. refl) (λ _. refl) (λ _ _. refl) (λ _. tt)
+        (left-if_none_remain most (words.slot slot) (words.base slot) me piece (Granted may.base) (log.groups slot) m all slot (Emptying slot may.base m.total)
+        (cond-same_slot slot (Emptied me ∷ [])) (λ q differ. cond-other_slot slot q (Emptied me ∷ []) differ) (λ _. refl) (λ _. refl) (λ _ _. refl) (λ _. tt)
         (λ _ _ _. tt) (λ _ _. tt) (λ _. tt) refl)
-        (range-owed me slot may.base m.total (m.remaining - piece.size) (omega (arith, all))) below))
+        (left_range-owed me slot may.base m.total (m.remaining - piece.size) (omega (arith, all))) below))
         (λ more. subst (λ b. Releases word after (cond b (Emptying slot may.base m.total) Idle)) (sym (ne_eqb m.remaining piece.size more))
-        (piece-released key words views me v slot piece may.base may.units log s at may.fills may.full m
+        (piece_release-leads key words views me v slot piece may.base may.units log s at may.fills may.full m
         (Told m.total (Granted may.base) (m.remaining - piece.size)) (Shared slot) Idle word word-is
-        (some-left most (words.slot slot) (words.base slot) me piece (Granted may.base) (log.groups slot) m slot more)
-        (range-shared me slot may.base m.total (m.remaining - piece.size)) below))
+        (left-if_some_remain most (words.slot slot) (words.base slot) me piece (Granted may.base) (log.groups slot) m slot more)
+        (left_range-shared me slot may.base m.total (m.remaining - piece.size)) below))
 
     filled-finds : HasToRelease (v.constants.ring / 4) n v.call (words.slot slot)
     filled-finds = finds key words views me v slot n piece step (Granted may.base) log s at may.fills m may.size (
@@ -136,7 +136,7 @@ module _ (key : Start) (words : Words) (views : List View) (me : ℕ) (v : View)
       omega (
         arith,
         sums key words views me v slot n piece step (Granted may.base) log s at may.fills m may.size,
-        in_log key words views me v slot piece may.base may.units log s at may.fills may.full m,
+        group_range-within_tail key words views me v slot piece may.base may.units log s at may.fills may.full m,
         s.ordered.within_log,
       ),
     )
@@ -165,14 +165,14 @@ module _ (key : Start) (words : Words) (views : List View) (me : ℕ) (v : View)
         → Releases word v.entries (cond (r.remaining == own.size) (Reopening slot) Idle)
     refused-releases word word-is below = dite (ℕ_discrete r.remaining own.size)
         (λ all. subst (λ b. Releases word v.entries (cond b (Reopening slot) Idle)) (sym (eq-eqb r.remaining own.size all))
-        (refused-released key words views me v slot own may.tail may.durable log s at may.leaves r (Emptied me) (Reopening slot) word word-is
-        (none-left most (words.slot slot) (words.base slot) me own outcome (log.groups slot) r all slot (Reopening slot) (here slot (Emptied me ∷ []))
-        (λ q differ. elsewhere slot q (Emptied me ∷ []) differ) (λ _. refl) (λ _. refl) (λ _ _. refl) (λ _. tt)
+        (refused_release-leads key words views me v slot own may.tail may.durable log s at may.leaves r (Emptied me) (Reopening slot) word word-is
+        (left-if_none_remain most (words.slot slot) (words.base slot) me own outcome (log.groups slot) r all slot (Reopening slot) (cond-same_slot slot (Emptied me ∷ []))
+        (λ q differ. cond-other_slot slot q (Emptied me ∷ []) differ) (λ _. refl) (λ _. refl) (λ _ _. refl) (λ _. tt)
         (λ _ _ _. tt) (λ _ _. tt) (λ _. tt) refl) refl refl below))
         (λ more. subst (λ b. Releases word v.entries (cond b (Reopening slot) Idle)) (sym (ne_eqb r.remaining own.size more))
-        (refused-released key words views me v slot own may.tail may.durable log s at may.leaves r
+        (refused_release-leads key words views me v slot own may.tail may.durable log s at may.leaves r
         (Told r.total outcome (r.remaining - own.size)) Idle word word-is
-        (some-left most (words.slot slot) (words.base slot) me own outcome (log.groups slot) r slot more) refl refl below))
+        (left-if_some_remain most (words.slot slot) (words.base slot) me own outcome (log.groups slot) r slot more) refl refl below))
 
     refused-finds : HasToRelease (v.constants.ring / 4) n v.call (words.slot slot)
     refused-finds = finds key words views me v slot n own leaving outcome log s at may.leaves r may.size
@@ -194,8 +194,8 @@ module _ (key : Start) (me : ℕ) (v : View) (slot number n : ℕ) (slotted : ke
         (λ (leaves : MayReleaseRefused slot n v). refused-leads key words views me v slot n log s at leaves found left is less there) may;
   }
 
-  pub release-tells : Tells key me (Slot slot) v (HasToRelease (v.constants.ring / 4) n v.call)
-  release-tells words views log s at = ⊎_elim
+  pub release-tells_has_to_release : Tells key me (Slot slot) v (HasToRelease (v.constants.ring / 4) n v.call)
+  release-tells_has_to_release words views log s at = ⊎_elim
       (λ (filled : MayReleaseFilled slot n v). filled-finds key words views me v slot n log s at filled)
       (λ (leaves : MayReleaseRefused slot n v). refused-finds key words views me v slot n log s at leaves) may
 
@@ -203,9 +203,9 @@ module _ (key : Start) (slots seat : ℕ) (me : Me (Unit {0}) View) (place ring 
     (same : key.ring ≡ ring) (slotted : key.slots ≡ number) (below : slot < number) (may : MayReleaseSlot slot n me.0) where
   pub release_slot-allowed : Allows (Ruled key) slots seat me place (subtracted n)
       (λ w new. (new ≡ (released_piece w me.0, me.1)) × HasToRelease (me.0.constants.ring / 4) n me.0.call w)
-  release_slot-allowed = at-slot key slots seat me place ring number slot slot at same slotted below refl (subtracted n)
+  release_slot-allowed = allows-at_slot_place key slots seat me place ring number slot slot at same slotted below refl (subtracted n)
       (λ _ w new. (new ≡ (released_piece w me.0, me.1)) × HasToRelease (me.0.constants.ring / 4) n me.0.call w)
       (allowed-if_step key slots seat me (Slot slot) (fits-slot key slots seat me place ring number slot slot at same slotted below refl)
       (subtracted n) (λ w. released_piece w me.0) (λ _. releases seat) (HasToRelease (me.0.constants.ring / 4) n me.0.call)
-      (release-tells key seat me.0 slot number n slotted below may)
+      (release-tells_has_to_release key seat me.0 slot number n slotted below may)
       (λ w _. release-step key seat me.0 slot number n slotted below may w (subtracted n w) (less-subtracted n w)))

@@ -32,22 +32,22 @@ use Rattle.log_rule.specs.SlotViews.{seen_slot}
 use Rattle.log_rule.specs.Sound.{HasSeenBoundaries, HasContiguousReservations, SendsIfFlusher, StoresStop, HasReadStop, LookedIfQuiet, HasWorkingOwner, HasConstants, RestsUnlessActive, OwnsIfWorker, HoldsIfActive, IsSound, base_of, books_of}
 use Rattle.log_rule.specs.Views.{entries_in, books_in, claims_in}
 use Rattle.log_rule.specs.Words.{Words, put}
-use Rattle.log_rule.proofs.Boundaries.{range_size, part_size, boundary-mid}
-use Rattle.log_rule.proofs.Carriers.{carrier-set, ends-mid, ends-move}
-use Rattle.log_rule.proofs.Filling.{put-here, put-other}
-use Rattle.log_rule.proofs.GroupLeaving.{ToldMember, Left, left-kept, picked-now, none-before, none-behind, turns, group-is}
-use Rattle.log_rule.proofs.Groups.{Others, HasAsBefore, as-before, group-here, group-at, group-other, put-keeps, members-some, work-stays, told-same, shown-put, shown-at}
-use Rattle.log_rule.proofs.AccountsKept.{records-mid}
-use Rattle.log_rule.proofs.Lists.{all-mid, all-at, all-weaker, Last, picked-last, picked-same}
-use Rattle.log_rule.proofs.Members.{KeepsMembers, group-grows, heard-same, loads-put}
-use Rattle.log_rule.proofs.OwnedParts.{LastPart, last_part, own-last, own-others, parts_of-push}
-use Rattle.log_rule.proofs.RangeLists.{last-in_two, tiles-le, tiles-mid, tiles-same, tiles-replaced, laid-same, unreleased_in-mid, inside-here, inside-none, filled_in-mid}
-use Rattle.log_rule.proofs.Roles.{crew-same, quiet-moves}
-use Rattle.log_rule.proofs.MachineShown.{hands_of-set, task_of-hands_of, same-shown}
-use Rattle.log_rule.proofs.SlotLeading.{active}
-use Rattle.log_rule.proofs.SlotChanges.{elsewhere}
-use Rattle.log_rule.proofs.TrueMarks.{ready-mid}
-use Rattle.log_rule.proofs.ViewChanges.{each_moves, each_set, seats_move, seat_at}
+use Rattle.log_rule.proofs.Boundaries.{range_size, part_size, boundary-mid_replaced}
+use Rattle.log_rule.proofs.Carriers.{carrier-set, first_ends-mid_replaced, true_ends-log_changes}
+use Rattle.log_rule.proofs.Filling.{put-at, put-other}
+use Rattle.log_rule.proofs.GroupLeaving.{ToldMember, Left, left-keeps_members, picked-none_around, picked-none_front, picked-none_behind, task_in-left, group_shown-left}
+use Rattle.log_rule.proofs.Groups.{Others, HasAsBefore, as-before, put_group-at, put_group-at_equal, put_group-other, put_group-all, range_of-some_members, at_work-put_group, map-set_agreeing, groups_from-put_group, group_at-groups_from}
+use Rattle.log_rule.proofs.AccountsKept.{records-mid_replaced}
+use Rattle.log_rule.proofs.Lists.{all-mid_replaced, all-middle, all-weaken, Last, picked-last, picked-mid_replaced}
+use Rattle.log_rule.proofs.Members.{KeepsMembers, seen_in_group-more, heard_of_workers-set_same, loads_for_group-put_group}
+use Rattle.log_rule.proofs.OwnedParts.{LastPart, own-last_part, own-last_replaced, own-mid_replaced_others, parts_of-push}
+use Rattle.log_rule.proofs.RangeLists.{append-assoc_four, tiles-le, tiles-split, tiles-same_base_size, tiles-all_replaced, laid-same_start_size, unreleased_in-mid_replaced, inside-starting_within, inside-starting_elsewhere, filled_in-mid_replaced}
+use Rattle.log_rule.proofs.Roles.{crew-set_same, rests_if_quiet-set}
+use Rattle.log_rule.proofs.MachineShown.{hands_of-set, task_of-hands_of, reservation_of-same_filled}
+use Rattle.log_rule.proofs.SlotLeading.{joined-active}
+use Rattle.log_rule.proofs.SlotChanges.{cond-other_slot}
+use Rattle.log_rule.proofs.TrueMarks.{ready_in-mid_replaced}
+use Rattle.log_rule.proofs.ViewChanges.{each_view-set_weaken, each_view-set, each_seat-set_weaken, each_seat-at}
 
 -- ---- lists and duties
 
@@ -77,8 +77,8 @@ pub record LeftRange (me slot base total left : ℕ) (phase : GroupPhase) (duty 
   pub at_work : (duty ≡ Shared slot) ⊎ (duty ≡ Owed me)
 
 -- the others at the slot have it
-pub range-shared : (me slot base total left : ℕ) → LeftRange me slot base total left (Told total (Granted base) left) (Shared slot) Idle
-range-shared me slot base total left = record {
+pub left_range-shared : (me slot base total left : ℕ) → LeftRange me slot base total left (Told total (Granted base) left) (Shared slot) Idle
+left_range-shared me slot base total left = record {
   shared_now = ap (λ b. cond {A = List Claim} b (record { base = base; size = total; remaining = left } ∷ []) []) (eq-eqb slot slot refl);
   owed_now = refl;
   unshared = λ q differ. ne_eqb slot q (λ e. differ (sym e));
@@ -88,8 +88,8 @@ range-shared me slot base total left = record {
 }
 
 -- the seat has it alone
-pub range-owed : (me slot base total left : ℕ) → left ≡ 0 → LeftRange me slot base total left (Emptied me) (Owed me) (Emptying slot base total)
-range-owed me slot base total left none = record {
+pub left_range-owed : (me slot base total left : ℕ) → left ≡ 0 → LeftRange me slot base total left (Emptied me) (Owed me) (Emptying slot base total)
+left_range-owed me slot base total left none = record {
   shared_now = refl;
   owed_now = (λ i. cond {A = List Claim} (eq-eqb me me refl i) (record { base = base; size = total; remaining = none i } ∷ []) []);
   unshared = λ q differ. refl;
@@ -106,7 +106,7 @@ module _ (key : Start) (words : Words) (views : List View) (me : ℕ) (v : View)
     (is_full : length units ≡ piece.size)
     (m : ToldMember (key.ring / 4) (words.slot slot) (words.base slot) me piece (Granted base) (log.groups slot)) where
   mine : HasWorkingOwner log.groups log.parts log.ahead me v
-  mine = seat_at (HasWorkingOwner log.groups log.parts log.ahead) views me v at s.owners
+  mine = each_seat-at (HasWorkingOwner log.groups log.parts log.ahead) views me v at s.owners
 
   abbrev total : ℕ
   total = m.total
@@ -118,7 +118,7 @@ module _ (key : Start) (words : Words) (views : List View) (me : ℕ) (v : View)
   entry = placed_piece base units piece
 
   last : LastPart me log.parts (parts_of me true v.entries) entry
-  last = last_part me log.parts (parts_of me true v.entries) entry
+  last = own-last_part me log.parts (parts_of me true v.entries) entry
       (mine.owns ∙ ap (λ c. parts_of me true v.entries ++ parts_of me false (entries_in log.groups c)) fills)
 
   abbrev claimed : Claim
@@ -152,11 +152,11 @@ module _ (key : Start) (words : Words) (views : List View) (me : ℕ) (v : View)
   tiles = subst (λ l. Tiles (key.ring / 4) words.exposed l words.tail) held.split s.contiguous.to_tail
 
   were : ranges_of log ≡ front ++ range ∷ held.behind
-  were = ap (λ l. log.flushed ++ (log.exposed ++ l)) held.split ∙ last-in_two log.flushed log.exposed held.before (range ∷ held.behind)
+  were = ap (λ l. log.flushed ++ (log.exposed ++ l)) held.split ∙ append-assoc_four log.flushed log.exposed held.before (range ∷ held.behind)
 
   -- the group's range lies in the log
-  pub in_log : base + total ≤ words.tail
-  in_log = let h = tiles-mid _ _ _ held.before held.behind range tiles in omega (arith, tiles-le _ _ _ held.behind h.3, base-is, size-is)
+  pub group_range-within_tail : base + total ≤ words.tail
+  group_range-within_tail = let h = tiles-split _ _ _ held.before held.behind range tiles in omega (arith, tiles-le _ _ _ held.behind h.3, base-is, size-is)
 
   inner : piece.offset + piece.size ≤ total
   inner = m.within
@@ -164,8 +164,8 @@ module _ (key : Start) (words : Words) (views : List View) (me : ℕ) (v : View)
   some_units : 1 ≤ piece.size
   some_units = m.positive
 
-  pub on-duty : v.standing.role ≡ Active
-  on-duty = active key words views me v slot piece (Fills base units) log s at fills
+  pub releasing-active : v.standing.role ≡ Active
+  releasing-active = joined-active key words views me v slot piece (Fills base units) log s at fills
 
   abbrev old_part : Part
   old_part = part_of me false entry
@@ -183,12 +183,12 @@ module _ (key : Start) (words : Words) (views : List View) (me : ℕ) (v : View)
   all-old P = subst (AllByRecursion P) last.split
 
   same-part : (P : Part → Type 0) → (P old_part → P part) → AllByRecursion P log.parts → AllByRecursion P parts'
-  same-part P f all = all-mid P last.before last.behind old_part part (f (all-at P last.before last.behind old_part (all-old P all))) (all-old P all)
+  same-part P f all = all-mid_replaced P last.before last.behind old_part part (f (all-middle P last.before last.behind old_part (all-old P all))) (all-old P all)
 
   -- what is not released
   counted-in : (from size : ℕ) → unreleased_in from size parts' + inside from size entry ≡ unreleased_in from size log.parts
   counted-in from size =
-      let m = unreleased_in-mid from size last.before last.behind old_part part in
+      let m = unreleased_in-mid_replaced from size last.before last.behind old_part part in
       let g : unreleased_in from size (last.before ++ old_part ∷ last.behind) ≡ unreleased_in from size log.parts =
       ap (unreleased_in from size) (sym last.split) in omega (arith, m, g)
 
@@ -197,18 +197,18 @@ module _ (key : Start) (words : Words) (views : List View) (me : ℕ) (v : View)
 
   less-remains : unreleased_in range.base range.size parts' ≡ left
   less-remains =
-      let was = all-at (CountsRemaining log.parts) held.before held.behind range counts in
-      let here = inside-here range.base range.size entry (omega (arith, base-is)) (omega (arith, base-is, size-is, inner, some_units)) in
+      let was = all-middle (CountsRemaining log.parts) held.before held.behind range counts in
+      let here = inside-starting_within range.base range.size entry (omega (arith, base-is)) (omega (arith, base-is, size-is, inner, some_units)) in
       omega (arith, was, remaining-is, here, counted-in range.base range.size)
 
   ends-with : (r : LogRange) → EndsWithPart key.start log.parts r → EndsWithPart key.start parts' r
-  ends-with r b = boundary-mid part_size key.start (r.base + r.size) last.before last.behind old_part part refl
+  ends-with r b = boundary-mid_replaced part_size key.start (r.base + r.size) last.before last.behind old_part part refl
       (subst (λ l. IsTilingBoundary part_size key.start l (r.base + r.size)) last.split b)
 
   -- no unit more is filled
   same-filled : (from size : ℕ) → filled_in from size parts' ≡ filled_in from size log.parts
   same-filled from size =
-      let m = filled_in-mid from size last.before last.behind old_part part in
+      let m = filled_in-mid_replaced from size last.before last.behind old_part part in
       let g : filled_in from size (last.before ++ old_part ∷ last.behind) ≡ filled_in from size log.parts =
       ap (filled_in from size) (sym last.split) in omega (arith, m, g)
 
@@ -216,11 +216,11 @@ module _ (key : Start) (words : Words) (views : List View) (me : ℕ) (v : View)
   none-owed = ap (owed me) (sym held.split) ∙ (mine.owes ∙ ap claims_in fills)
 
   owed-before : owed me held.before ≡ []
-  owed-before = none-before (owes me) claim_of held.before (range ∷ held.behind) none-owed
+  owed-before = picked-none_front (owes me) claim_of held.before (range ∷ held.behind) none-owed
 
   owed-behind : owed me held.behind ≡ []
   owed-behind = ap (λ b. cond b (claim_of range ∷ owed me held.behind) (owed me held.behind)) (sym (ap (is_owed_by me) duty-is))
-      ∙ none-behind (owes me) claim_of held.before (range ∷ held.behind) none-owed
+      ∙ picked-none_behind (owes me) claim_of held.before (range ∷ held.behind) none-owed
 
   module _ (phase : GroupPhase) (duty : Duty) (call : Call) (word : ℕ) (word-is : word ≡ told_word (Granted base) total left)
       (l : Left (key.ring / 4) (words.slot slot) (words.base slot) me piece (Granted base) (log.groups slot) m slot phase call)
@@ -250,30 +250,30 @@ module _ (key : Start) (words : Words) (views : List View) (me : ℕ) (v : View)
     still-unreleased released = not-released duty lr.unreleased released
 
     are : front ++ now ∷ held.behind ≡ ranges_of after
-    are = sym (last-in_two log.flushed log.exposed held.before (now ∷ held.behind))
+    are = sym (append-assoc_four log.flushed log.exposed held.before (now ∷ held.behind))
 
     -- no boundary changes
     still : (x : ℕ) → IsRangeBoundary key.start (ranges_of log) x → IsRangeBoundary key.start (ranges_of after) x
     still x b = subst (λ l. IsRangeBoundary key.start l x) are
-        (boundary-mid range_size key.start x front held.behind range now refl (subst (λ l. IsRangeBoundary key.start l x) were b))
+        (boundary-mid_replaced range_size key.start x front held.behind range now refl (subst (λ l. IsRangeBoundary key.start l x) were b))
 
     same-ranges : (P : LogRange → Type 0) → P now → AllByRecursion P (ranges_of log) → AllByRecursion P (ranges_of after)
-    same-ranges P here all = subst (AllByRecursion P) are (all-mid P front held.behind range now here (subst (AllByRecursion P) were all))
+    same-ranges P here all = subst (AllByRecursion P) are (all-mid_replaced P front held.behind range now here (subst (AllByRecursion P) were all))
 
     contiguous : HasContiguousReservations key.start key.ring words.tail words.exposed words.durable after
     contiguous = record {
       to_durable = s.contiguous.to_durable;
       to_exposed = s.contiguous.to_exposed;
-      to_tail = tiles-same _ _ _ held.before held.behind range now refl refl tiles;
-      parts = laid-same _ _ last.before last.behind old_part part refl refl laid;
-      remaining = tiles-replaced (CountsRemaining log.parts) (CountsRemaining parts') _ _ _ held.before held.behind range now tiles counts
+      to_tail = tiles-same_base_size _ _ _ held.before held.behind range now refl refl tiles;
+      parts = laid-same_start_size _ _ last.before last.behind old_part part refl refl laid;
+      remaining = tiles-all_replaced (CountsRemaining log.parts) (CountsRemaining parts') _ _ _ held.before held.behind range now tiles counts
           less-remains
-          (λ q was least lo hi apart. let out = inside-none q.base q.size entry
+          (λ q was least lo hi apart. let out = inside-starting_elsewhere q.base q.size entry
           (⊎_elim (λ low. inr (omega (arith, low, base-is))) (λ high. inl (omega (arith, high, base-is, size-is, inner, some_units))) apart) in
           omega (arith, counted-in q.base q.size, out, was));
-      aligned = let old = all-weaker (EndsWithPart key.start log.parts) (EndsWithPart key.start parts') (ranges_of log) ends-with s.contiguous.aligned in
+      aligned = let old = all-weaken (EndsWithPart key.start log.parts) (EndsWithPart key.start parts') (ranges_of log) ends-with s.contiguous.aligned in
           same-ranges (EndsWithPart key.start parts')
-          (all-at (EndsWithPart key.start parts') front held.behind range (subst (AllByRecursion (EndsWithPart key.start parts')) were old)) old;
+          (all-middle (EndsWithPart key.start parts') front held.behind range (subst (AllByRecursion (EndsWithPart key.start parts')) were old)) old;
     }
 
     sends : (z : View) → SendsIfFlusher key.start words.exposed words.durable log z → SendsIfFlusher key.start words.exposed words.durable after z
@@ -288,22 +288,22 @@ module _ (key : Start) (words : Words) (views : List View) (me : ℕ) (v : View)
 
     -- the range is shared, or owed by this seat, as before it was shared
     shared-here : shared slot after.ahead ≡ range_of phase
-    shared-here = picked-now (shares slot) claim_of held.before held.behind now held.told_before held.none_behind
+    shared-here = picked-none_around (shares slot) claim_of held.before held.behind now held.told_before held.none_behind
         ∙ ((λ i. cond {A = List Claim} (is_shared_at slot duty) (record { base = base-is i; size = size-is i; remaining = left } ∷ []) []) ∙ lr.shared_now)
 
     shared-elsewhere : (q : ℕ) → q ≢ slot → shared q after.ahead ≡ shared q log.ahead
-    shared-elsewhere q differ = picked-same (shares q) claim_of held.before held.behind range now (lr.unshared q differ ∙ sym off)
+    shared-elsewhere q differ = picked-mid_replaced (shares q) claim_of held.before held.behind range now (lr.unshared q differ ∙ sym off)
         (λ e. absurd (true≢false (sym e ∙ off))) ∙ ap (shared q) (sym held.split)
       where
         off : shares q range ≡ false
         off = ap (is_shared_at q) duty-is ∙ ne_eqb slot q (λ e. differ (sym e))
 
     owed-here : owed me after.ahead ≡ claims_in call
-    owed-here = picked-now (owes me) claim_of held.before held.behind now owed-before owed-behind
+    owed-here = picked-none_around (owes me) claim_of held.before held.behind now owed-before owed-behind
         ∙ ((λ i. cond {A = List Claim} (is_owed_by me duty) (record { base = base-is i; size = size-is i; remaining = left } ∷ []) []) ∙ lr.owed_now)
 
     owed-elsewhere : (j : ℕ) → j ≢ me → owed j after.ahead ≡ owed j log.ahead
-    owed-elsewhere j differ = picked-same (owes j) claim_of held.before held.behind range now (lr.unowed j differ ∙ sym off)
+    owed-elsewhere j differ = picked-mid_replaced (owes j) claim_of held.before held.behind range now (lr.unowed j differ ∙ sym off)
         (λ e. absurd (true≢false (sym e ∙ off))) ∙ ap (owed j) (sym held.split)
       where
         off : owes j range ≡ false
@@ -322,55 +322,55 @@ module _ (key : Start) (words : Words) (views : List View) (me : ℕ) (v : View)
 
     my-owner : HasWorkingOwner after.groups after.parts after.ahead me new
     my-owner = record {
-      owns = own-last me last.before last.behind (parts_of me true v.entries) true entry last.own_before last.none_behind
+      owns = own-last_replaced me last.before last.behind (parts_of me true v.entries) true entry last.own_before last.none_behind
           ∙ (sym (parts_of-push me true v.entries entry) ∙ (sym (append-nil _)
           ∙ ap (λ list. parts_of me true (v.entries ++ entry ∷ []) ++ parts_of me false list) (sym (l.entries after.groups))));
       owes = owed-here;
       joins = λ q. dite (ℕ_discrete q slot)
-          (λ same. ap (λ (x : Group). own_pieces me x.members) (group-at log.groups slot q g same)
+          (λ same. ap (λ (x : Group). own_pieces me x.members) (put_group-at_equal log.groups slot q g same)
           ∙ (m.own ∙ sym (l.pieces q)))
-          (λ differ. ap (λ (x : Group). own_pieces me x.members) (group-other log.groups slot q g differ)
-          ∙ (mine.joins q ∙ (ap (pieces_at q) fills ∙ (elsewhere slot q (piece ∷ []) differ ∙ sym (l.pieces q)))));
+          (λ differ. ap (λ (x : Group). own_pieces me x.members) (put_group-other log.groups slot q g differ)
+          ∙ (mine.joins q ∙ (ap (pieces_at q) fills ∙ (cond-other_slot slot q (piece ∷ []) differ ∙ sym (l.pieces q)))));
       leads = λ q. dite (ℕ_discrete q slot)
-          (λ same. ap (λ (x : Group). led_phase me x.phase) (group-at log.groups slot q g same)
+          (λ same. ap (λ (x : Group). led_phase me x.phase) (put_group-at_equal log.groups slot q g same)
           ∙ (l.leads ∙ ap (λ n. phase_at me n call) (sym same)))
-          (λ differ. ap (λ (x : Group). led_phase me x.phase) (group-other log.groups slot q g differ)
-          ∙ (mine.leads q ∙ (ap (phase_at me q) fills ∙ (elsewhere slot q [] differ ∙ sym (l.else q differ)))));
+          (λ differ. ap (λ (x : Group). led_phase me x.phase) (put_group-other log.groups slot q g differ)
+          ∙ (mine.leads q ∙ (ap (phase_at me q) fills ∙ (cond-other_slot slot q [] differ ∙ sym (l.else q differ)))));
       knows = l.knows after.groups;
     }
 
     other-owner : (j : ℕ) (z : View) → j ≢ me → HasWorkingOwner log.groups log.parts log.ahead j z
         → HasWorkingOwner after.groups after.parts after.ahead j z
     other-owner j z differ h = let before = others-same j z differ h in let o = others j differ in record {
-      owns = own-others me j last.before last.behind false true entry entry differ
+      owns = own-mid_replaced_others me j last.before last.behind false true entry entry differ
           ∙ (ap (own j) (sym last.split) ∙ (h.owns ∙ ap (λ entries. parts_of j true z.entries ++ parts_of j false entries) (sym before.entries)));
       owes = owed-elsewhere j differ ∙ h.owes;
       joins = λ q. dite (ℕ_discrete q slot)
-          (λ same. ap (λ (x : Group). own_pieces j x.members) (group-at log.groups slot q g same)
+          (λ same. ap (λ (x : Group). own_pieces j x.members) (put_group-at_equal log.groups slot q g same)
           ∙ (o.joins ∙ (h.joins slot ∙ ap (λ n. pieces_at n z.call) (sym same))))
-          (λ apart. ap (λ (x : Group). own_pieces j x.members) (group-other log.groups slot q g apart) ∙ h.joins q);
+          (λ apart. ap (λ (x : Group). own_pieces j x.members) (put_group-other log.groups slot q g apart) ∙ h.joins q);
       leads = λ q. dite (ℕ_discrete q slot)
-          (λ same. ap (λ (x : Group). led_phase j x.phase) (group-at log.groups slot q g same)
+          (λ same. ap (λ (x : Group). led_phase j x.phase) (put_group-at_equal log.groups slot q g same)
           ∙ (o.leads ∙ (h.leads slot ∙ ap (λ n. phase_at j n z.call) (sym same))))
-          (λ apart. ap (λ (x : Group). led_phase j x.phase) (group-other log.groups slot q g apart) ∙ h.leads q);
+          (λ apart. ap (λ (x : Group). led_phase j x.phase) (put_group-other log.groups slot q g apart) ∙ h.leads q);
       knows = before.knows h.knows;
     }
 
     books-same : map (books_of after.groups) (set views me new) ≡ map (books_of log.groups) views
-    books-same = told-same (books_of log.groups) (books_of after.groups) views me v new at
+    books-same = map-set_agreeing (books_of log.groups) (books_of after.groups) views me v new at
         (l.books after.groups v.books ∙ sym (ap (λ c. books_in log.groups c v.books) fills))
-        (λ j z differ there. (others-same j z differ (seat_at (HasWorkingOwner log.groups log.parts log.ahead) views j z there s.owners)).books z.books)
+        (λ j z differ there. (others-same j z differ (each_seat-at (HasWorkingOwner log.groups log.parts log.ahead) views j z there s.owners)).books z.books)
 
     is-now : IsAtPhase (key.ring / 4) (states slot) (words.base slot) (m.before ++ m.behind) phase
-    is-now = subst (λ w. IsAtPhase (key.ring / 4) w (words.base slot) (m.before ++ m.behind) phase) (sym (put-here words.slot slot word ∙ word-is)) l.is
+    is-now = subst (λ w. IsAtPhase (key.ring / 4) w (words.base slot) (m.before ++ m.behind) phase) (sym (put-at words.slot slot word ∙ word-is)) l.is
 
     slots : (q : ℕ) → IsSoundSlot (key.ring / 4) (states q) (words.base q) q after.ahead (after.groups q)
     slots q = dite (ℕ_discrete q slot)
         (λ same. subst (λ n. IsSoundSlot (key.ring / 4) (states n) (words.base n) n after.ahead (after.groups n)) (sym same)
-        (subst (IsSoundSlot (key.ring / 4) (states slot) (words.base slot) slot after.ahead) (sym (group-here log.groups slot g))
+        (subst (IsSoundSlot (key.ring / 4) (states slot) (words.base slot) slot after.ahead) (sym (put_group-at log.groups slot g))
         record { range = shared-here; words = is-now }))
         (λ differ. subst (λ (p : ℕ × Group). IsSoundSlot (key.ring / 4) p.0 (words.base q) q after.ahead p.1)
-        (λ i. (sym (put-other words.slot slot word q differ) i, sym (group-other log.groups slot q g differ) i))
+        (λ i. (sym (put-other words.slot slot word q differ) i, sym (put_group-other log.groups slot q g differ) i))
         record { range = shared-elsewhere q differ ∙ (s.slots q).range; words = (s.slots q).words })
 
     -- the group had this member
@@ -379,22 +379,22 @@ module _ (key : Start) (words : Words) (views : List View) (me : ℕ) (v : View)
         (λ (shares : duty ≡ Shared slot). inr record {
           slot = slot;
           duty = shares;
-          members = members-some (key.ring / 4) (words.slot slot) (words.base slot) (log.groups slot).members (log.groups slot).phase
+          members = range_of-some_members (key.ring / 4) (words.slot slot) (words.base slot) (log.groups slot).members (log.groups slot).phase
               (s.slots slot).words (λ none. let gone : claimed ∷ [] ≡ [] = sym (ap range_of m.told) ∙ none in absurd (cc));
         })
         (λ (owes : duty ≡ Owed me). inl record { seat = me; duty = owes }) lr.at_work)
 
     at_work : AllByRecursion (IsAtWork after.groups) after.ahead
-    at_work = work-stays log.groups slot g after.ahead
-        (λ some_shared. members-some (key.ring / 4) (states slot) (words.base slot) (m.before ++ m.behind) phase is-now
+    at_work = at_work-put_group log.groups slot g after.ahead
+        (λ some_shared. range_of-some_members (key.ring / 4) (states slot) (words.base slot) (m.before ++ m.behind) phase is-now
         (λ none. some_shared (shared-here ∙ none)))
-        (all-mid (IsAtWork log.groups) held.before held.behind range now now-at_work
+        (all-mid_replaced (IsAtWork log.groups) held.before held.behind range now now-at_work
         (subst (AllByRecursion (IsAtWork log.groups)) held.split s.at_work))
 
     release-marks : HasReleaseMarks key.ring words.tail words.exposed words.mark after
     release-marks = record {
       current = λ x lo hi. ⊎_elim (λ low. inl low)
-          (λ ready. inr (ready-mid x (words.mark (x % key.ring)) held.before held.behind range now unreleased
+          (λ ready. inr (ready_in-mid_replaced x (words.mark (x % key.ring)) held.before held.behind range now unreleased
           (subst (Rattle.log_rule.specs.Marks.IsReadyIn x (words.mark (x % key.ring))) held.split ready))) (s.marks.current x lo hi);
       true_marks = same-ranges (HasTrueMark key.ring words.mark) (λ released. absurd (still-unreleased released)) s.marks.true_marks;
       below_tail = s.marks.below_tail;
@@ -406,22 +406,22 @@ module _ (key : Start) (words : Words) (views : List View) (me : ℕ) (v : View)
       tail_seen = old.tail_seen;
       exposed_seen = old.exposed_seen;
       durable_seen = old.durable_seen;
-      boundaries = all-weaker (IsRangeBoundary key.start (ranges_of log)) (IsRangeBoundary key.start (ranges_of after)) z.seen.lsns still old.boundaries;
+      boundaries = all-weaken (IsRangeBoundary key.start (ranges_of log)) (IsRangeBoundary key.start (ranges_of after)) z.seen.lsns still old.boundaries;
     }
 
     off-duty : is_active v.standing.role ≡ false → ⊥
-    off-duty off = true≢false (sym (ap is_active on-duty) ∙ off)
+    off-duty off = true≢false (sym (ap is_active releasing-active) ∙ off)
 
     not-flusher : v.standing.role ≡ Flusher → ⊥
-    not-flusher f = let both : Active ≡ Flusher = sym on-duty ∙ f in cc
+    not-flusher f = let both : Active ≡ Flusher = sym releasing-active ∙ f in cc
 
     kept : KeepsMembers key words views v log slot g (seen_slot slot (words.slot slot) v.seen) call v.books
-    kept = left-kept key words views me v slot piece (Granted base) log s at on-duty m phase call l
+    kept = left-keeps_members key words views me v slot piece (Granted base) log s at releasing-active m phase call l
 
     sound : IsSound key (record words { slot = states }) (set views me new) after
     sound = record {
       ordered = s.ordered;
-      seen = each_moves (λ _ z. HasSeenBoundaries key.start words.tail words.exposed words.durable (ranges_of log) z.seen)
+      seen = each_view-set_weaken (λ _ z. HasSeenBoundaries key.start words.tail words.exposed words.durable (ranges_of log) z.seen)
           (λ _ z. HasSeenBoundaries key.start words.tail words.exposed words.durable (ranges_of after) z.seen) views me new s.seen
           (let old = sees v (s.seen me v at) in record {
             tail_seen = old.tail_seen;
@@ -445,38 +445,38 @@ module _ (key : Start) (words : Words) (views : List View) (me : ℕ) (v : View)
       marks = release-marks;
       carried = λ first. carrier-set words.exposed views me v new at (λ carries. absurd (subst (Carries words.exposed) fills carries))
           (s.carried (subst IsFirstReleased (sym held.split) (first-mid held.before held.behind range now still-unreleased first)));
-      ends = each_moves (λ _ z. HasTrueEnds key.start words.exposed log z.call) (λ _ z. HasTrueEnds key.start words.exposed after z.call) views me new
-          s.ends (l.ends key.start words.exposed after) (λ _ z _ _. ends-move key.start words.exposed log after z.call still
-          (λ to first. ends-mid held.before held.behind range now to unreleased (subst (λ list. FirstEnds list to) held.split first)));
-      owners = seats_move (HasWorkingOwner log.groups log.parts log.ahead) (HasWorkingOwner after.groups after.parts after.ahead) views me v new at s.owners
+      ends = each_view-set_weaken (λ _ z. HasTrueEnds key.start words.exposed log z.call) (λ _ z. HasTrueEnds key.start words.exposed after z.call) views me new
+          s.ends (l.ends key.start words.exposed after) (λ _ z _ _. true_ends-log_changes key.start words.exposed log after z.call still
+          (λ to first. first_ends-mid_replaced held.before held.behind range now to unreleased (subst (λ list. FirstEnds list to) held.split first)));
+      owners = each_seat-set_weaken (HasWorkingOwner log.groups log.parts log.ahead) (HasWorkingOwner after.groups after.parts after.ahead) views me v new at s.owners
           my-owner other-owner;
-      constants = each_set (λ _ z. HasConstants key z) views me new s.constants (s.constants me v at);
-      resting = each_set (λ _ z. RestsUnlessActive z) views me new s.resting (λ off. absurd (off-duty off));
-      entries = each_set (λ _ z. OwnsIfWorker z) views me new s.entries (λ off. absurd (true≢false (sym (ap may_own on-duty) ∙ off)));
-      roles = crew-same words.crew views me v new s.roles at refl;
-      sends = each_moves (λ _ z. SendsIfFlusher key.start words.exposed words.durable log z)
+      constants = each_view-set (λ _ z. HasConstants key z) views me new s.constants (s.constants me v at);
+      resting = each_view-set (λ _ z. RestsUnlessActive z) views me new s.resting (λ off. absurd (off-duty off));
+      entries = each_view-set (λ _ z. OwnsIfWorker z) views me new s.entries (λ off. absurd (true≢false (sym (ap may_own releasing-active) ∙ off)));
+      roles = crew-set_same words.crew views me v new s.roles at refl;
+      sends = each_view-set_weaken (λ _ z. SendsIfFlusher key.start words.exposed words.durable log z)
           (λ _ z. SendsIfFlusher key.start words.exposed words.durable after z) views me new s.sends (sends v (s.sends me v at)) (λ _ z _ _. sends z);
-      stops = each_set (λ _ z. StoresStop words.stop z) views me new s.stops (s.stops me v at);
-      read_stop = each_set (λ _ z. HasReadStop words.stop z) views me new s.read_stop (s.read_stop me v at);
-      quiet = quiet-moves views me v new s.quiet at (λ _ _ _ h. h) (λ _ h. h);
-      looked = each_set (λ _ z. LookedIfQuiet words.exposed z) views me new s.looked (s.looked me v at);
-      unheld = each_set (λ _ z. HoldsIfActive z) views me new s.unheld (s.unheld me v at);
+      stops = each_view-set (λ _ z. StoresStop words.stop z) views me new s.stops (s.stops me v at);
+      read_stop = each_view-set (λ _ z. HasReadStop words.stop z) views me new s.read_stop (s.read_stop me v at);
+      quiet = rests_if_quiet-set views me v new s.quiet at (λ _ _ _ h. h) (λ _ h. h);
+      looked = each_view-set (λ _ z. LookedIfQuiet words.exposed z) views me new s.looked (s.looked me v at);
+      unheld = each_view-set (λ _ z. HoldsIfActive z) views me new s.unheld (s.unheld me v at);
       accounts = subst (λ (p : List Rattle.log_record.specs.declared.rec.Rec.Rec × List Rattle.log_rule.specs.declared.view.Books.Books).
           KeepsAccounts (base_of key) words.account (Rattle.lock_core.specs.History.history_from key.start [] p.0) p.1)
-          (λ i. ((ap records_in last.split ∙ sym (records-mid last.before last.behind old_part part refl)) i, sym books-same i)) s.accounts;
-      in_group = λ q. group-grows key.start key.ring words.tail words.tail words.durable words.durable (ranges_of log) (ranges_of after)
+          (λ i. ((ap records_in last.split ∙ sym (records-mid_replaced last.before last.behind old_part part refl)) i, sym books-same i)) s.accounts;
+      in_group = λ q. seen_in_group-more key.start key.ring words.tail words.tail words.durable words.durable (ranges_of log) (ranges_of after)
           (le_refl _) (le_refl _) still (after.groups q)
-          (put-keeps (HasSeenInGroup key.start key.ring words.tail words.durable (ranges_of log)) log.groups slot q g (λ _. kept.in_group)
+          (put_group-all (HasSeenInGroup key.start key.ring words.tail words.durable (ranges_of log)) log.groups slot q g (λ _. kept.in_group)
           (s.in_group q));
-      loads = each_moves (λ _ z. LoadsForGroup log.groups z.seen z.call) (λ _ z. LoadsForGroup after.groups z.seen z.call) views me new s.loads kept.loads
-          (λ j z differ there. loads-put log.groups slot g j z.seen z.call (λ units closed is. kept.others j units is z.seen closed)
-          ((seat_at (HasWorkingOwner log.groups log.parts log.ahead) views j z there s.owners).leads slot));
-      awaits = each_set (λ _ z. AwaitsPlace z.call z.books) views me new s.awaits kept.awaits;
-      totals = each_moves (λ _ z. (q : ℕ) → HasTotalOfWorkers (log.groups q) z) (λ _ z. (q : ℕ) → HasTotalOfWorkers (after.groups q) z) views me new
+      loads = each_view-set_weaken (λ _ z. LoadsForGroup log.groups z.seen z.call) (λ _ z. LoadsForGroup after.groups z.seen z.call) views me new s.loads kept.loads
+          (λ j z differ there. loads_for_group-put_group log.groups slot g j z.seen z.call (λ units closed is. kept.others j units is z.seen closed)
+          ((each_seat-at (HasWorkingOwner log.groups log.parts log.ahead) views j z there s.owners).leads slot));
+      awaits = each_view-set (λ _ z. AwaitsPlace z.call z.books) views me new s.awaits kept.awaits;
+      totals = each_view-set_weaken (λ _ z. (q : ℕ) → HasTotalOfWorkers (log.groups q) z) (λ _ z. (q : ℕ) → HasTotalOfWorkers (after.groups q) z) views me new
           s.totals (λ _ f. absurd (not-flusher f))
-          (λ j z differ there old q. put-keeps (λ (x : Group). HasTotalOfWorkers x z) log.groups slot q g (λ _. kept.totals j z there) (old q));
-      heard = heard-same views me v new s.heard at refl refl;
-      lasts = each_set (λ _ z. HasSeenLast z) views me new s.lasts (λ _. kept.last);
+          (λ j z differ there old q. put_group-all (λ (x : Group). HasTotalOfWorkers x z) log.groups slot q g (λ _. kept.totals j z there) (old q));
+      heard = heard_of_workers-set_same views me v new s.heard at refl refl;
+      lasts = each_view-set (λ _ z. HasSeenLast z) views me new s.lasts (λ _. kept.last);
     }
 
     abbrev old_state : SlotState
@@ -486,7 +486,7 @@ module _ (key : Start) (words : Words) (views : List View) (me : ℕ) (v : View)
     task-is = task_of-hands_of 0 me me views v (omega arith) at ∙ ap task_in fills
 
     reservations : map (reservation_of parts') (ranges_of after) ≡ map (reservation_of log.parts) (ranges_of log)
-    reservations = same-shown log.parts parts' (ranges_of after) same-filled
+    reservations = reservation_of-same_filled log.parts parts' (ranges_of after) same-filled
         ∙ (ap (map (reservation_of log.parts)) (sym are)
         ∙ (map-mid (reservation_of log.parts) front held.behind range now
         (λ i. record {
@@ -502,10 +502,10 @@ module _ (key : Start) (words : Words) (views : List View) (me : ℕ) (v : View)
       shown = group_at slot old_state.groups
 
       shown-is : shown ≡ group_shown (log.groups slot)
-      shown-is = shown-at 0 key.slots slot slot log.groups (omega arith) below
+      shown-is = group_at-groups_from 0 key.slots slot slot log.groups (omega arith) below
 
-      pub piece-released : Leads key words (record words { slot = states }) views (set views me new) log (releases me)
-      piece-released = record {
+      pub piece_release-leads : Leads key words (record words { slot = states }) views (set views me new) log (releases me)
+      piece_release-leads = record {
         after = after;
         sound = sound;
         shows = (
@@ -513,10 +513,10 @@ module _ (key : Start) (words : Words) (views : List View) (me : ℕ) (v : View)
           (λ i. record old_state {
             log = record old_state.log { reservations = reservations i };
             hands = (hands_of-set 0 me me views v new (omega arith) at ∙ ap (λ task. with_task me task (hands_of 0 views))
-                (turns (key.ring / 4) (words.slot slot) (words.base slot) me piece (Granted base) (log.groups slot) m slot phase call
+                (task_in-left (key.ring / 4) (words.slot slot) (words.base slot) me piece (Granted base) (log.groups slot) m slot phase call
                 l shown shown-is)) i;
-            groups = (shown-put 0 key.slots slot slot log.groups g (omega arith) ∙ ap (set old_state.groups slot)
-                (group-is (key.ring / 4) (words.slot slot) (words.base slot) me piece (Granted base) (log.groups slot) m slot phase call
+            groups = (groups_from-put_group 0 key.slots slot slot log.groups g (omega arith) ∙ ap (set old_state.groups slot)
+                (group_shown-left (key.ring / 4) (words.slot slot) (words.base slot) me piece (Granted base) (log.groups slot) m slot phase call
                 l shown shown-is)) i;
           })
               ∙ ap (λ task. after_release old_state me (membership task)) (sym task-is),

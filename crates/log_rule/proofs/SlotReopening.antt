@@ -20,26 +20,26 @@ use Rattle.log_rule.specs.SlotViews.{reopened}
 use Rattle.log_rule.specs.Sound.{HasSeenBoundaries, HasWorkingOwner, IsSound}
 use Rattle.log_rule.specs.Views.{entries_in, books_in, claims_in, counted}
 use Rattle.log_rule.specs.Words.{Words, put}
-use Rattle.log_rule.proofs.Filling.{put-here, put-other}
+use Rattle.log_rule.proofs.Filling.{put-at, put-other}
 use Rattle.log_rule.proofs.Groups.{Others}
-use Rattle.log_rule.proofs.Members.{steps-on}
+use Rattle.log_rule.proofs.Members.{one_step_more-keeps_seen}
 use Rattle.log_rule.proofs.MachineShown.{task_of-hands_of}
-use Rattle.log_rule.proofs.SlotLeading.{active-if, known-led, known-whole}
-use Rattle.log_rule.proofs.SlotShowing.{shows-moved}
-use Rattle.log_rule.proofs.SlotChanges.{Mine, here, elsewhere, slot-sound}
-use Rattle.log_rule.proofs.ViewChanges.{seat_at}
+use Rattle.log_rule.proofs.SlotLeading.{is_active-role_active, led_phase-known_phase, known_phase-equal_if_whole}
+use Rattle.log_rule.proofs.SlotShowing.{slots_of-moved}
+use Rattle.log_rule.proofs.SlotChanges.{Mine, cond-same_slot, cond-other_slot, slot-sound}
+use Rattle.log_rule.proofs.ViewChanges.{each_seat-at}
 
 module _ (key : Start) (words : Words) (views : List View) (me : ℕ) (v : View) (slot : ℕ) (log : Log) (s : IsSound key words views log)
     (at : get_elem? views me ≡ some v) (may : MayReopen slot v) where
   mine : HasWorkingOwner log.groups log.parts log.ahead me v
-  mine = seat_at (HasWorkingOwner log.groups log.parts log.ahead) views me v at s.owners
+  mine = each_seat-at (HasWorkingOwner log.groups log.parts log.ahead) views me v at s.owners
 
   active : v.standing.role ≡ Active
-  active = active-if v.standing.role (λ off. let gone : Reopening slot ≡ Idle = sym may ∙ s.resting me v at off in cc)
+  active = is_active-role_active v.standing.role (λ off. let gone : Reopening slot ≡ Idle = sym may ∙ s.resting me v at off in cc)
 
   was : (log.groups slot).phase ≡ Emptied me
-  was = known-whole (log.groups slot).phase (Emptied me)
-      (known-led me (log.groups slot).phase (Emptied me) (mine.leads slot ∙ (ap (phase_at me slot) may ∙ here slot (Emptied me ∷ [])))) tt
+  was = known_phase-equal_if_whole (log.groups slot).phase (Emptied me)
+      (led_phase-known_phase me (log.groups slot).phase (Emptied me) (mine.leads slot ∙ (ap (phase_at me slot) may ∙ cond-same_slot slot (Emptied me ∷ [])))) tt
 
   emptied : IsEmptied (key.ring / 4) (words.slot slot) (log.groups slot).members
   emptied = subst (IsAtPhase (key.ring / 4) (words.slot slot) (words.base slot) (log.groups slot).members) was (s.slots slot).words
@@ -59,7 +59,7 @@ module _ (key : Start) (words : Words) (views : List View) (me : ℕ) (v : View)
     claims = sym (ap claims_in may);
     joins = refl;
     leads = refl;
-    else = λ q differ. (sym (ap (pieces_at q) may), sym (ap (phase_at me q) may ∙ elsewhere slot q (Emptied me ∷ []) differ));
+    else = λ q differ. (sym (ap (pieces_at q) may), sym (ap (phase_at me q) may ∙ cond-other_slot slot q (Emptied me ∷ []) differ));
     knows = tt;
     carries = λ place carries. absurd (subst (Carries place) may carries);
     ends = λ start exposed log. tt;
@@ -68,7 +68,7 @@ module _ (key : Start) (words : Words) (views : List View) (me : ℕ) (v : View)
   others : (j : ℕ) → j ≢ me → Others (log.groups slot) empty_group j
   others j differ = record {
     joins = sym (ap (own_pieces j) emptied.nobody);
-    leads = sym (ap (led_phase j) was ∙ elsewhere me j (Emptied me ∷ []) differ);
+    leads = sym (ap (led_phase j) was ∙ cond-other_slot me j (Emptied me ∷ []) differ);
     keep = λ piece step one _. let gone : [] ≡ piece ∷ [] = sym (ap (own_pieces j) emptied.nobody) ∙ one in absurd (cc);
   }
 
@@ -79,26 +79,26 @@ module _ (key : Start) (words : Words) (views : List View) (me : ℕ) (v : View)
   sound : IsSound key (record words { slot = states }) (set views me new) after
   sound = slot-sound key words views me v log s at active slot empty_group states words.base (counted v.seen) Idle v.books v.contended moves
       (sym (ap (λ call. books_in log.groups call v.books) may)) others (sym (ap range_of was))
-      record { word_is = put-here words.slot slot 0; nobody = refl } (λ q differ. (put-other words.slot slot 0 q differ, refl)) sees refl record {
+      record { word_is = put-at words.slot slot 0; nobody = refl } (λ q differ. (put-other words.slot slot 0 q differ, refl)) sees refl record {
         in_group = record { members_seen = tt; outcome = tt };
         loads = tt;
         awaits = tt;
         totals = λ _ _ _ _. tt;
         heard = λ j z there. s.heard j z there me v at;
-        last = (steps-on log.groups v.seen (counted v.seen) refl refl refl refl refl refl refl).last (s.lasts me v at (ap is_spent active));
+        last = (one_step_more-keeps_seen log.groups v.seen (counted v.seen) refl refl refl refl refl refl refl).last (s.lasts me v at (ap is_spent active));
         others = λ _ _ _ _ _ _. record { tail_loaded = λ _. tt; durable_loaded = λ _. tt };
       }
 
   task-is : task_of me (hands_of 0 views) ≡ InRing (Some slot) StageIdle
   task-is = task_of-hands_of 0 me me views v (omega arith) at ∙ ap task_in may
 
-  pub slot-reopens : slot < key.slots → Leads key words (record words { slot = states }) views (set views me new) log (reopens me)
-  slot-reopens below = record {
+  pub slot_reopen-leads : slot < key.slots → Leads key words (record words { slot = states }) views (set views me new) log (reopens me)
+  slot_reopen-leads below = record {
     after = after;
     sound = sound;
     shows = (
       subst MayReopenNow (sym task-is) (refl, refl),
-      shows-moved key words states words.base views me v new log slot empty_group at below nothing refl
+      slots_of-moved key words states words.base views me v new log slot empty_group at below nothing refl
           ∙ ap (λ task. after_reopen (slots_of key words views log) me (reopening task)) (sym task-is),
     );
   }
@@ -106,5 +106,5 @@ module _ (key : Start) (words : Words) (views : List View) (me : ℕ) (v : View)
 module _ (key : Start) (me : ℕ) (v : View) (slot number : ℕ) (slotted : key.slots ≡ number) (below : slot < number) (may : MayReopen slot v) where
   pub reopen-step : (n : ℕ) → IsStep key me (Slot slot) n 0 v (reopened v) (reopens me)
   reopen-step n = record {
-    leads = λ words views log s at is. slot-reopens key words views me v slot log s at may (subst (λ k. slot < k) (sym slotted) below);
+    leads = λ words views log s at is. slot_reopen-leads key words views me v slot log s at may (subst (λ k. slot < k) (sym slotted) below);
   }

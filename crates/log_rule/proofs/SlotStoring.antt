@@ -8,7 +8,7 @@ use lib.ListN.{get_elem?}
 use Rattle.lsn_space.specs.declared.lsn.TheConstants.{LAST}
 use Rattle.slot_core.specs.State.{Hand, Task, SlotState, Group as MachineGroup, empty_group as machine-empty, joined, row_of, task_of, with_task, membership, group, group_at}
 use Rattle.slot_core.specs.Machine.{PutBase, IsMemberAt, MayPlace, closed_total, fits, after_place, after_lead, placed_group, next_phase}
-use Rattle.slot_core.proofs.Hands.{with-same}
+use Rattle.slot_core.proofs.Hands.{task_of-with_task_self}
 use Rattle.slot_parts.specs.declared.task.MemberStage.TheVariants as stage
 use Rattle.ring_core.specs.RingLog.{reserved}
 use Rattle.log_rule.specs.declared.group_view.MemberStep.TheVariants.{Places, Stores, Tells}
@@ -30,24 +30,24 @@ use Rattle.log_rule.specs.SlotViews.{call_stored, stored_base}
 use Rattle.log_rule.specs.Sound.{HasSeenBoundaries, IsSound}
 use Rattle.log_rule.specs.Views.{counted}
 use Rattle.log_rule.specs.Words.{Words, put}
-use Rattle.log_rule.proofs.Filling.{put-here, put-other}
+use Rattle.log_rule.proofs.Filling.{put-at, put-other}
 use Rattle.log_rule.proofs.Groups.{untold-placed, untold-closed}
-use Rattle.log_rule.proofs.Lists.{all-both, all-among}
-use Rattle.log_rule.proofs.Members.{KeepsMembers, steps-on, members-stay, totals-stay}
+use Rattle.log_rule.proofs.Lists.{all-weaken_both, all-among}
+use Rattle.log_rule.proofs.Members.{KeepsMembers, one_step_more-keeps_seen, keeps_seen-keeps_members, total_of_workers-new_phase}
 use Rattle.log_rule.proofs.RangeLists.{tiles-le}
-use Rattle.log_rule.proofs.SlotLeading.{Leading, active, led-whole, at-phase, sound, leader-steps}
-use Rattle.log_rule.proofs.SlotShowing.{group-shown, shows-moved, length-groups_from}
+use Rattle.log_rule.proofs.SlotLeading.{Leading, joined-active, phase_led-whole_phase, slot-is_at_phase, leader_step-sound, leader_step-leads}
+use Rattle.log_rule.proofs.SlotShowing.{group-shown, slots_of-moved, length-groups_from}
 use Rattle.log_rule.proofs.MachineShown.{task_of-hands_of}
-use Rattle.log_rule.proofs.SlotChanges.{here, elsewhere}
+use Rattle.log_rule.proofs.SlotChanges.{cond-same_slot, cond-other_slot}
 
 granted-leads : (seat : ℕ) (piece : Piece) (total base : ℕ)
     → Leading seat piece (Stores total base) (Tells total (Granted base)) (Placed seat total (Granted base)) (Ready seat total (Granted base))
 granted-leads seat piece total base = record {
   entry = refl;
   books = λ _. refl;
-  leads = here seat (Ready seat total (Granted base) ∷ []);
+  leads = cond-same_slot seat (Ready seat total (Granted base) ∷ []);
   knows = tt;
-  others = λ j differ. elsewhere seat j (Ready seat total (Granted base) ∷ []) differ ∙ sym (elsewhere seat j (Placed seat total (Granted base) ∷ []) differ);
+  others = λ j differ. cond-other_slot seat j (Ready seat total (Granted base) ∷ []) differ ∙ sym (cond-other_slot seat j (Placed seat total (Granted base) ∷ []) differ);
   same = record { entry = λ _. refl; books = λ _ _. refl };
   untold = untold-placed seat total (Granted base);
   range = refl;
@@ -58,9 +58,9 @@ refused-leads : (seat : ℕ) (piece : Piece) (total closed tail durable : ℕ)
 refused-leads seat piece total closed tail durable = record {
   entry = refl;
   books = λ _. refl;
-  leads = here seat (Ready seat total (Refused tail durable) ∷ []);
+  leads = cond-same_slot seat (Ready seat total (Refused tail durable) ∷ []);
   knows = tt;
-  others = λ j differ. elsewhere seat j (Ready seat total (Refused tail durable) ∷ []) differ ∙ sym (elsewhere seat j (Closed seat total ∷ []) differ);
+  others = λ j differ. cond-other_slot seat j (Ready seat total (Refused tail durable) ∷ []) differ ∙ sym (cond-other_slot seat j (Closed seat total ∷ []) differ);
   same = record { entry = λ _. refl; books = λ _ _. refl };
   untold = untold-closed seat total;
   range = refl;
@@ -92,10 +92,10 @@ le-not a b less = by_test (nat_le a b) refl
     by_test false is = refl
 
 -- pieces that tile lie within, and their sum is the whole
-pub tiles-sum : (from to total : ℕ) (members : List Member) → PiecesTile from members to → to ≤ total
+pub pieces_tile-sum_within : (from to total : ℕ) (members : List Member) → PiecesTile from members to → to ≤ total
     → (from + sum_of members ≡ to) × AllByRecursion (LiesWithin total) members
-tiles-sum from to total [] tiles within = (omega (arith, tiles), tt)
-tiles-sum from to total (m ∷ ms) tiles within = let rest = tiles-sum (from + m.piece.size) to total ms tiles.2 within in
+pieces_tile-sum_within from to total [] tiles within = (omega (arith, tiles), tt)
+pieces_tile-sum_within from to total (m ∷ ms) tiles within = let rest = pieces_tile-sum_within (from + m.piece.size) to total ms tiles.2 within in
     (omega (arith, rest.0), ((tiles.1, omega (arith, tiles.0, rest.0, within)), rest.1))
 
 module _ (key : Start) (words : Words) (views : List View) (me : ℕ) (v : View) (slot word : ℕ) (log : Log) (s : IsSound key words views log)
@@ -106,29 +106,29 @@ module _ (key : Start) (words : Words) (views : List View) (me : ℕ) (v : View)
 
   module _ (may : MayStoreGranted slot word v) where
     placed : IsPlaced (key.ring / 4) (words.slot slot) may.total (Granted word) (log.groups slot).members
-    placed = at-phase key words views me v slot may.piece (Stores may.total word) log s at may.stores (Placed me may.total (Granted word))
-        (led-whole key words views me v slot may.piece (Stores may.total word) log s at may.stores (Placed me may.total (Granted word)) refl tt)
+    placed = slot-is_at_phase key words views me v slot may.piece (Stores may.total word) log s at may.stores (Placed me may.total (Granted word))
+        (phase_led-whole_phase key words views me v slot may.piece (Stores may.total word) log s at may.stores (Placed me may.total (Granted word)) refl tt)
 
     was-placed : (log.groups slot).phase ≡ Placed me may.total (Granted word)
-    was-placed = led-whole key words views me v slot may.piece (Stores may.total word) log s at may.stores (Placed me may.total (Granted word)) refl tt
+    was-placed = phase_led-whole_phase key words views me v slot may.piece (Stores may.total word) log s at may.stores (Placed me may.total (Granted word)) refl tt
 
     keeps : KeepsMembers key words views v log slot (record { members = (log.groups slot).members; phase = Ready me may.total (Granted word) })
         (counted v.seen) (Joined slot may.piece (Tells may.total (Granted word))) v.books
-    keeps = members-stay key words views me v log s at (active key words views me v slot may.piece (Stores may.total word) log s at may.stores) slot may.piece
+    keeps = keeps_seen-keeps_members key words views me v log s at (joined-active key words views me v slot may.piece (Stores may.total word) log s at may.stores) slot may.piece
         (Tells may.total (Granted word)) (Ready me may.total (Granted word)) (counted v.seen) v.books
-        (steps-on log.groups v.seen (counted v.seen) refl refl refl refl refl refl refl)
+        (one_step_more-keeps_seen log.groups v.seen (counted v.seen) refl refl refl refl refl refl refl)
         (subst (HasPhaseOutcome key.start key.ring words.tail words.durable (ranges_of log) (log.groups slot).members) was-placed (s.in_group slot).outcome) tt
         (subst (λ call. AwaitsPlace call v.books) may.stores (s.awaits me v at))
-        (totals-stay key words views me v log s at (active key words views me v slot may.piece (Stores may.total word) log s at may.stores) slot
+        (total_of_workers-new_phase key words views me v log s at (joined-active key words views me v slot may.piece (Stores may.total word) log s at may.stores) slot
         (Placed me may.total (Granted word)) (Ready me may.total (Granted word)) was-placed (λ _ is. is))
 
-    pub base-stored : slot < key.slots → Leads key words (record words { base = put words.base slot word }) views
+    pub base_store-leads : slot < key.slots → Leads key words (record words { base = put words.base slot word }) views
         (set views me (record v { seen = counted v.seen; call = Joined slot may.piece (Tells may.total (Granted word)) })) log (stores_base me)
-    base-stored below = leader-steps key words views me v slot may.piece (Stores may.total word) log s at may.stores (Tells may.total (Granted word))
+    base_store-leads below = leader_step-leads key words views me v slot may.piece (Stores may.total word) log s at may.stores (Tells may.total (Granted word))
         (Placed me may.total (Granted word)) (Ready me may.total (Granted word))
-        (led-whole key words views me v slot may.piece (Stores may.total word) log s at may.stores (Placed me may.total (Granted word)) refl tt)
+        (phase_led-whole_phase key words views me v slot may.piece (Stores may.total word) log s at may.stores (Placed me may.total (Granted word)) refl tt)
         (granted-leads me may.piece may.total word) (counted v.seen) words.slot (put words.base slot word)
-        record { word_is = placed.word_is; remains = placed.remains; base_is = record { is = put-here words.base slot word; fits = tt } }
+        record { word_is = placed.word_is; remains = placed.remains; base_is = record { is = put-at words.base slot word; fits = tt } }
         (λ q differ. (refl, put-other words.base slot word q differ)) sees refl keeps (PutBase me) below refl refl (λ _. refl) (λ _. refl)
 
   module _ (may : MayStoreRefused slot word v) where
@@ -142,10 +142,10 @@ module _ (key : Start) (words : Words) (views : List View) (me : ℕ) (v : View)
     outcome = Refused tail durable
 
     was : (log.groups slot).phase ≡ Closed me may.total
-    was = led-whole key words views me v slot may.piece (Places may.total may.closed) log s at may.places (Closed me may.total) refl tt
+    was = phase_led-whole_phase key words views me v slot may.piece (Places may.total may.closed) log s at may.places (Closed me may.total) refl tt
 
     closed : IsClosed (key.ring / 4) (words.slot slot) may.total (log.groups slot).members
-    closed = at-phase key words views me v slot may.piece (Places may.total may.closed) log s at may.places (Closed me may.total) was
+    closed = slot-is_at_phase key words views me v slot may.piece (Places may.total may.closed) log s at may.places (Closed me may.total) was
 
     small : durable < 2 ^ 32
     small = omega (
@@ -157,7 +157,7 @@ module _ (key : Start) (words : Words) (views : List View) (me : ℕ) (v : View)
     )
 
     ready : IsReadyToTell (key.ring / 4) (words.slot slot) (put words.base slot word slot) may.total outcome (log.groups slot).members
-    ready = let sum = tiles-sum 0 may.total may.total (log.groups slot).members closed.joined.tiles (omega arith) in record {
+    ready = let sum = pieces_tile-sum_within 0 may.total may.total (log.groups slot).members closed.joined.tiles (omega arith) in record {
       word_is = closed.word_is;
       remains = record {
         sum = omega (arith, sum.0);
@@ -166,7 +166,7 @@ module _ (key : Start) (words : Words) (views : List View) (me : ℕ) (v : View)
         few = closed.joined.few;
         each = sum.1;
       };
-      base_is = record { is = put-here words.base slot word ∙ may.word_is; fits = small };
+      base_is = record { is = put-at words.base slot word ∙ may.word_is; fits = small };
     }
 
     abbrev new : View
@@ -197,7 +197,7 @@ module _ (key : Start) (words : Words) (views : List View) (me : ℕ) (v : View)
     task-is = task_of-hands_of 0 me me views v (omega arith) at ∙ ap task_in may.places
 
     role : v.standing.role ≡ Active
-    role = active key words views me v slot may.piece (Places may.total may.closed) log s at may.places
+    role = joined-active key words views me v slot may.piece (Places may.total may.closed) log s at may.places
 
     ring : v.constants.ring ≡ key.ring
     ring = ap (λ (c : Constants). c.ring) (s.constants me v at (ap is_spent role))
@@ -207,7 +207,7 @@ module _ (key : Start) (words : Words) (views : List View) (me : ℕ) (v : View)
     refusal-outcome =
         let loaded : LoadedSince may.closed v.seen (log.groups slot).members = subst (LoadsForGroup log.groups v.seen) may.places (s.loads me v at) in
         let old = s.seen me v at in let last = s.lasts me v at (ap is_spent role) in record {
-          members_seen = all-both (λ (m : Member). m.piece.tail ≤ tail) (λ (m : Member). m.piece.durable ≤ durable) (HadSeenUpTo tail durable)
+          members_seen = all-weaken_both (λ (m : Member). m.piece.tail ≤ tail) (λ (m : Member). m.piece.durable ≤ durable) (HadSeenUpTo tail durable)
               (log.groups slot).members (λ _ a b. record { tail_seen = a; durable_seen = b })
               (loaded.tail_loaded may.tail_loaded) (loaded.durable_loaded may.durable_loaded);
           is_true = record {
@@ -220,10 +220,10 @@ module _ (key : Start) (words : Words) (views : List View) (me : ℕ) (v : View)
         }
 
     refusal-kept : KeepsMembers key words views v log slot g (counted v.seen) (Joined slot may.piece (Tells may.total outcome)) v.books
-    refusal-kept = members-stay key words views me v log s at role slot may.piece (Tells may.total outcome) (Ready me may.total outcome)
-        (counted v.seen) v.books (steps-on log.groups v.seen (counted v.seen) refl refl refl refl refl refl refl) refusal-outcome tt
+    refusal-kept = keeps_seen-keeps_members key words views me v log s at role slot may.piece (Tells may.total outcome) (Ready me may.total outcome)
+        (counted v.seen) v.books (one_step_more-keeps_seen log.groups v.seen (counted v.seen) refl refl refl refl refl refl refl) refusal-outcome tt
         (subst (λ call. AwaitsPlace call v.books) may.places (s.awaits me v at))
-        (totals-stay key words views me v log s at role slot (Closed me may.total) (Ready me may.total outcome) was (λ _ is. is))
+        (total_of_workers-new_phase key words views me v log s at role slot (Closed me may.total) (Ready me may.total outcome) was (λ _ is. is))
 
     module _ (below : slot < key.slots) where
       shown : group_at slot old_state.groups ≡ group_shown (log.groups slot)
@@ -260,17 +260,17 @@ module _ (key : Start) (words : Words) (views : List View) (me : ℕ) (v : View)
       new-is : slots_of key (record words { base = put words.base slot word }) (set views me new)
           (record { parts = log.parts; flushed = log.flushed; exposed = log.exposed; ahead = log.ahead; groups = put_group log.groups slot g })
           ≡ after_lead mid_state me (membership (task_of me mid_state.hands))
-      new-is = shows-moved key words words.slot (put words.base slot word) views me v new log slot g at below telling refl
+      new-is = slots_of-moved key words words.slot (put words.base slot word) views me v new log slot g at below telling refl
           ∙ ((λ i. record old_state {
             hands = sym (with-twice me storing telling old_state.hands) i;
             groups = (ap (set old_state.groups slot) group-is ∙ sym (set-twice old_state.groups slot refused _)) i;
           })
-          ∙ ap (λ task. after_lead mid_state me (membership task)) (sym (with-same me storing old_state.hands)))
+          ∙ ap (λ task. after_lead mid_state me (membership task)) (sym (task_of-with_task_self me storing old_state.hands)))
 
-      pub refusal-stored : Leads key words (record words { base = put words.base slot word }) views (set views me new) log (refuses me tail durable)
-      refusal-stored = record {
+      pub refusal_store-leads : Leads key words (record words { base = put words.base slot word }) views (set views me new) log (refuses me tail durable)
+      refusal_store-leads = record {
         after = record { parts = log.parts; flushed = log.flushed; exposed = log.exposed; ahead = log.ahead; groups = put_group log.groups slot g };
-        sound = sound key words views me v slot may.piece (Places may.total may.closed) log s at may.places (Tells may.total outcome)
+        sound = leader_step-sound key words views me v slot may.piece (Places may.total may.closed) log s at may.places (Tells may.total outcome)
             (Closed me may.total) (Ready me may.total outcome) was (refused-leads me may.piece may.total may.closed tail durable) (counted v.seen)
             words.slot (put words.base slot word) ready (λ q differ. (refl, put-other words.base slot word q differ)) sees refl refusal-kept;
         shows = record {
@@ -284,7 +284,7 @@ module _ (key : Start) (words : Words) (views : List View) (me : ℕ) (v : View)
             },
             mid-is,
           );
-          after = (subst (IsMemberAt stage.Stores) (sym (with-same me storing old_state.hands)) refl, new-is);
+          after = (subst (IsMemberAt stage.Stores) (sym (task_of-with_task_self me storing old_state.hands)) refl, new-is);
         };
       }
 
@@ -295,7 +295,7 @@ module _ (key : Start) (me : ℕ) (v : View) (slot number word : ℕ) (slotted :
         (λ (call : Call). Leads key words (record words { base = put words.base slot word }) views
         (set views me (record v { seen = counted v.seen; call = call })) log (stores_base me))
         (sym (ap (call_stored v.seen.tail v.seen.durable) may.stores))
-        (base-stored key words views me v slot word log s at may (subst (λ k. slot < k) (sym slotted) below));
+        (base_store-leads key words views me v slot word log s at may (subst (λ k. slot < k) (sym slotted) below));
   }
 
   pub refused-step : MayStoreRefused slot word v → (n : ℕ)
@@ -305,5 +305,5 @@ module _ (key : Start) (me : ℕ) (v : View) (slot number word : ℕ) (slotted :
         (λ (call : Call). Leads key words (record words { base = put words.base slot word }) views
         (set views me (record v { seen = counted v.seen; call = call })) log (refuses me v.seen.tail v.seen.durable))
         (sym (ap (call_stored v.seen.tail v.seen.durable) may.places))
-        (refusal-stored key words views me v slot word log s at may (subst (λ k. slot < k) (sym slotted) below));
+        (refusal_store-leads key words views me v slot word log s at may (subst (λ k. slot < k) (sym slotted) below));
   }

@@ -15,12 +15,12 @@ use Rattle.log_rule.specs.Sound.{StoresStop, HasReadStop, RestsIfQuiet, HasSound
 use Rattle.log_rule.specs.Roles.{is_worker, is_spent}
 use Rattle.log_rule.specs.CrewViews.{hires, hired}
 use Rattle.log_rule.specs.Words.{Words, words_in}
-use Rattle.log_rule.proofs.Adding.{adds}
-use Rattle.log_rule.proofs.AccountsKept.{accounts-stay}
-use Rattle.log_rule.proofs.Lists.{or-right}
-use Rattle.log_rule.proofs.Members.{totals-more, refusals-more, heard-moves}
-use Rattle.log_rule.proofs.Roles.{quiet-moves, restands-sound}
-use Rattle.log_rule.proofs.ViewChanges.{at_below, each_set, each_push, pairs_move, pairs_push, count-set}
+use Rattle.log_rule.proofs.Adding.{add_seat-sound}
+use Rattle.log_rule.proofs.AccountsKept.{same_books-keeps_accounts}
+use Rattle.log_rule.proofs.Lists.{or-true_right}
+use Rattle.log_rule.proofs.Members.{total_at_phase-more_workers, refusals-more_workers, heard_of_workers-set}
+use Rattle.log_rule.proofs.Roles.{rests_if_quiet-set, change_standing-sound}
+use Rattle.log_rule.proofs.ViewChanges.{get_elem-below_length, each_view-set, each_view-push, each_pair-set, each_pair-push, count-set}
 
 lacks-all : (n : ℕ) (known made : List ℕ) → ((q : ℕ) → Knows q known → Knows q made) → Lacks n made → Lacks n known
 lacks-all n known made sub lacks = by_test (list_any (eqb n) known) refl
@@ -38,7 +38,7 @@ module _ (key : Start) (words : Words) (views : List View) (me : ℕ) (v : View)
   worker = hired n v
 
   more : (q : ℕ) → Knows q v.standing.made → Knows q flusher_view.standing.made
-  more q knows = or-right (eqb q n) _ knows
+  more q knows = or-true_right (eqb q n) _ knows
 
   first : me ≡ 0
   first = (s.roles.each me v at).first may.flusher
@@ -47,9 +47,9 @@ module _ (key : Start) (words : Words) (views : List View) (me : ℕ) (v : View)
   crew-hires : HasSoundCrew words.crew (set views me flusher_view)
   crew-hires = record {
     count = s.roles.count ∙ sym (same _ (count-set is_active_view views me v flusher_view at));
-    each = each_set (λ seat z. HasSoundRole seat z.standing) views me flusher_view s.roles.each
+    each = each_view-set (λ seat z. HasSoundRole seat z.standing) views me flusher_view s.roles.each
         (let old = s.roles.each me v at in record { small = old.small; first = old.first });
-    pairs = pairs_move (λ i y j z. HasSoundRoles i y.standing j z.standing) views me v flusher_view at s.roles.pairs
+    pairs = each_pair-set (λ i y j z. HasSoundRoles i y.standing j z.standing) views me v flusher_view at s.roles.pairs
         (let old = s.roles.pairs me v at me v at in
         record {
           apart = old.apart;
@@ -77,17 +77,17 @@ module _ (key : Start) (words : Words) (views : List View) (me : ℕ) (v : View)
       same k e = omega arith
 
   hired-sound : IsSound key words (set views me flusher_view) log
-  hired-sound = restands-sound key words words.stop words.crew words.account views me v flusher_view log s at refl refl (s.seen me v at) (s.constants me v at)
+  hired-sound = change_standing-sound key words words.stop words.crew words.account views me v flusher_view log s at refl refl (s.seen me v at) (s.constants me v at)
       (s.resting me v at) (s.entries me v at) crew-hires (s.sends me v at)
-      (each_set (λ _ z. StoresStop words.stop z) views me flusher_view s.stops (s.stops me v at))
-      (each_set (λ _ z. HasReadStop words.stop z) views me flusher_view s.read_stop (s.read_stop me v at))
-      (quiet-moves views me v flusher_view s.quiet at (λ _ _ _ _ _ q. absurd (true≢false (sym q))) (λ _ h. h)) (λ _ q. absurd (true≢false (sym q))) (s.unheld me v at)
-      (accounts-stay key words.account log.parts log.groups views me v flusher_view at refl s.accounts)
+      (each_view-set (λ _ z. StoresStop words.stop z) views me flusher_view s.stops (s.stops me v at))
+      (each_view-set (λ _ z. HasReadStop words.stop z) views me flusher_view s.read_stop (s.read_stop me v at))
+      (rests_if_quiet-set views me v flusher_view s.quiet at (λ _ _ _ _ _ q. absurd (true≢false (sym q))) (λ _ h. h)) (λ _ q. absurd (true≢false (sym q))) (s.unheld me v at)
+      (same_books-keeps_accounts key words.account log.parts log.groups views me v flusher_view at refl s.accounts)
       record {
         loads = s.loads me v at;
         awaits = s.awaits me v at;
-        totals = λ slot f. totals-more (length v.standing.made) (log.groups slot).members (log.groups slot).phase (s.totals me v at slot f);
-        heard = heard-moves views me v flusher_view s.heard at (λ z h f. refusals-more (length v.standing.made) z.seen.refusals (h f)) (λ z h. h);
+        totals = λ slot f. total_at_phase-more_workers (length v.standing.made) (log.groups slot).members (log.groups slot).phase (s.totals me v at slot f);
+        heard = heard_of_workers-set views me v flusher_view s.heard at (λ z h f. refusals-more_workers (length v.standing.made) z.seen.refusals (h f)) (λ z h. h);
         last = s.lasts me v at;
       }
 
@@ -129,10 +129,10 @@ module _ (key : Start) (words : Words) (views : List View) (me : ℕ) (v : View)
   crew-splits : HasSoundCrew words.crew (made ++ worker ∷ [])
   crew-splits = record {
     count = hired-sound.roles.count ∙ sym (sum_by_push (λ (z : View). cond (is_active_view z) 1 0) made worker ∙ none _);
-    each = each_push (λ seat z. HasSoundRole seat z.standing)
+    each = each_view-push (λ seat z. HasSoundRole seat z.standing)
         (λ seat z. HasSoundRole seat z.standing) made worker hired-sound.roles.each record { small = λ _. small; first = λ e. absurd (cc) }
         (λ _ _ _ p. p);
-    pairs = pairs_push (λ i y j z. HasSoundRoles i y.standing j z.standing) made worker hired-sound.roles.pairs
+    pairs = each_pair-push (λ i y j z. HasSoundRoles i y.standing j z.standing) made worker hired-sound.roles.pairs
         record {
           apart = λ _ _ _. refl;
           made = λ e. absurd (cc);
@@ -165,13 +165,13 @@ module _ (key : Start) (words : Words) (views : List View) (me : ℕ) (v : View)
       none : (k : ℕ) → k + 0 ≡ k
       none k = omega arith
 
-  pub splits : IsSound key words (made ++ worker ∷ []) log
-  splits = adds key words made log hired-sound worker refl refl (λ f. absurd (cc))
+  pub split-sound : IsSound key words (made ++ worker ∷ []) log
+  split-sound = add_seat-sound key words made log hired-sound worker refl refl (λ f. absurd (cc))
       (let old = s.seen me v at in
       record { tail_seen = old.tail_seen; exposed_seen = old.exposed_seen; durable_seen = old.durable_seen; boundaries = old.boundaries })
-      (s.read_stop me v at) (λ _. s.constants me v at (ap is_spent may.flusher)) crew-splits (pairs_push (λ _ y _ z. RestsIfQuiet y z) made worker hired-sound.quiet
+      (s.read_stop me v at) (λ _. s.constants me v at (ap is_spent may.flusher)) crew-splits (each_pair-push (λ _ y _ z. RestsIfQuiet y z) made worker hired-sound.quiet
       (λ f. absurd (cc)) (λ j z there. ((λ f. absurd (cc)), (λ f q. absurd (flusher_view-busy j z there f q))))) refl
-      (λ j z there. hired-sound.heard j z there me flusher_view (set_here views me flusher_view (at_below views me v at)))
+      (λ j z there. hired-sound.heard j z there me flusher_view (set_here views me flusher_view (get_elem-below_length views me v at)))
       (λ _. let old = s.lasts me v at (ap is_spent may.flusher) in record {
         tail_among = old.tail_among;
         durable_among = old.durable_among;
@@ -182,4 +182,4 @@ module _ (key : Start) (words : Words) (views : List View) (me : ℕ) (v : View)
 pub split-allowed : (key : Start) (seat : ℕ) (v : View) (n : ℕ) → MaySplit n v → n < 4294967296
     → Splits {S = Unit {0}} (Ruled key) seat v (hires n v) (hired n v)
 split-allowed key seat v n may small s ruled at =
-    (ruled.0, (ruled.1.0, splits key (words_in key s.words) s.views seat v n ruled.1.0 ruled.1.1 at may small))
+    (ruled.0, (ruled.1.0, split-sound key (words_in key s.words) s.views seat v n ruled.1.0 ruled.1.1 at may small))

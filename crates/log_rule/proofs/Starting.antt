@@ -1,4 +1,4 @@
--- A table starts at rest: nothing is reserved, and the log ends where it started.
+-- A table start-sound at rest: nothing is reserved, and the log ends where it started.
 use Rattle.std.proofs.Common.{◌≡◌, ◌≢◌, inl, ℕ, zero, suc, ◌+◌, ◌*◌, ◌%◌, ◌<◌, ◌≤◌, nat_lt, true, true≢false, List, [], ◌∷◌, length, get_or, replicate, set, sym, refl, ap, ◌∙◌, subst, le_refl, arith, cond, Bool, false, lt-ltb, ltb-true, length-set, get_or-set_same, get_or-set_other}
 use Rattle.std.proofs.lemmas.List.{length-replicate, get_or-replicate}
 use mathlib.Core.Option.{some-injective, some-ne-none}
@@ -22,7 +22,7 @@ use Rattle.log_rule.specs.Accounts.{KeepsAccounts}
 use Rattle.log_rule.specs.Books.{no_books}
 use Rattle.log_rule.specs.Layout.{Mark, Slot, Account, index_of, word_count}
 use Rattle.log_rule.specs.FirstAccounts.{HasAccounts, PutsAccounts}
-use Rattle.log_rule.proofs.GatheredSeats.{starts-free}
+use Rattle.log_rule.proofs.GatheredSeats.{start-keeps_accounts}
 use Rattle.log_rule.proofs.Lists.{among-first}
 
 -- nothing is reserved, and nobody has joined a group
@@ -37,8 +37,8 @@ module _ (key : Start) (words : Words) (least : LEAST_RING ≤ key.ring) (most :
   alone P first zero v at = subst (P 0) (some-injective _ _ at) first
   alone P first (suc j) v at = absurd (some-ne-none v (sym at))
 
-  pub starts : IsSound key words (flusher key ∷ []) empty_log
-  starts = record {
+  pub start-sound : IsSound key words (flusher key ∷ []) empty_log
+  start-sound = record {
     ordered = record { least_ring = least; greatest_ring = most; within_ring = omega arith; within_log = omega arith };
     seen = alone (λ _ z. HasSeenBoundaries key.start words.tail words.exposed words.durable [] z.seen) record {
       tail_seen = omega arith;
@@ -125,7 +125,7 @@ start-allowed key ws zeros least most small has zero-is puts = (
   puts.count ∙ length-c,
   (
     _,
-    starts key (words_in key ws) least most small
+    start-sound key (words_in key ws) least most small
         (puts.others TAIL (omega arith) ∙ (get_or-set_other b DURABLE TAIL n 0 (λ e. omega arith)
         ∙ (get_or-set_other a EXPOSED TAIL n 0 (λ e. omega arith) ∙ get_or-set_same zeros TAIL n 0 (omega (arith, length-zeros)))))
         (puts.others EXPOSED (omega arith) ∙ (get_or-set_other b DURABLE EXPOSED n 0 (λ e. omega arith) ∙ get_or-set_same a EXPOSED n 0 (omega (arith, length-a))))
@@ -134,7 +134,7 @@ start-allowed key ws zeros least most small has zero-is puts = (
         (zero-at CREW (λ e. omega arith) (λ e. omega arith) (λ e. omega arith) (omega arith))
         no-mark
         no-slot
-        (starts-free (base_of key) (words_in key ws).account has.few first),
+        (start-keeps_accounts (base_of key) (words_in key ws).account has.few first),
   ),
 )
   where

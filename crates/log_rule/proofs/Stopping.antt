@@ -18,10 +18,10 @@ use Rattle.log_rule.specs.Roles.{is_active, is_working}
 use Rattle.log_rule.specs.Views.{counted, knows_all_enrolled, has_stopped, saw_crew}
 use Rattle.log_rule.specs.Words.{Words}
 use Rattle.log_rule.proofs.Lifting.{Tells}
-use Rattle.log_rule.proofs.Loads.{looks, sees-word}
-use Rattle.log_rule.proofs.Members.{seen-still, steps-on}
+use Rattle.log_rule.proofs.Loads.{change_sending-leads, see_word-leads}
+use Rattle.log_rule.proofs.Members.{keeps_seen-refl, one_step_more-keeps_seen}
 use Rattle.log_rule.proofs.Roles.{sole-flusher}
-use Rattle.log_rule.proofs.ViewChanges.{each_moves, each_set}
+use Rattle.log_rule.proofs.ViewChanges.{each_view-set_weaken, each_view-set}
 
 both-true : (a b : Bool) → (a && b) ≡ true → (a ≡ true) × (b ≡ true)
 both-true true b e = (refl, e)
@@ -55,38 +55,38 @@ not-read : (stop word : ℕ) (z : View) → stop ≡ 0 → HasReadStop stop z �
 not-read stop word z zero-stop read = ⊎_elim inl (λ is. inl (is ∙ zero-stop)) read
 
 -- where each of two seats has read a stop word or 0, so has whichever is taken
-pub either-read : (stop mine his : ℕ) (b : Bool) → (mine ≡ 0) ⊎ (mine ≡ stop) → (his ≡ 0) ⊎ (his ≡ stop)
+pub cond-zero_or_stop : (stop mine his : ℕ) (b : Bool) → (mine ≡ 0) ⊎ (mine ≡ stop) → (his ≡ 0) ⊎ (his ≡ stop)
     → (cond b mine his ≡ 0) ⊎ (cond b mine his ≡ stop)
-either-read stop mine his true mine-read his-read = mine-read
-either-read stop mine his false mine-read his-read = his-read
+cond-zero_or_stop stop mine his true mine-read his-read = mine-read
+cond-zero_or_stop stop mine his false mine-read his-read = his-read
 
 module _ (key : Start) (me : ℕ) (v : View) where
   -- a step that changes nothing
-  pub stop-stays : (n : ℕ) → IsStep key me Stop n n v v none
-  stop-stays n = record {
+  pub stop_unchanged-step : (n : ℕ) → IsStep key me Stop n n v v none
+  stop_unchanged-step n = record {
     leads = λ words views log s at is.
         subst (λ x. Leads key words (record words { stop = x }) views (set views me v) log none) is
-        (sees-word key words views me v log v.seen s at (s.seen me v at) (s.read_stop me v at) (seen-still log.groups v.seen));
+        (see_word-leads key words views me v log v.seen s at (s.seen me v at) (s.read_stop me v at) (keeps_seen-refl log.groups v.seen));
   }
 
   -- what the flusher's seat has read is what it stored
-  pub stop-tells : Tells key me Stop v (λ _. v.standing.role ≡ Flusher → HasReadStop v.sending.stop v)
-  stop-tells words views log s at flusher = subst (λ n. HasReadStop n v) (sym (s.stops me v at flusher)) (s.read_stop me v at)
+  pub stop-tells_read_stop : Tells key me Stop v (λ _. v.standing.role ≡ Flusher → HasReadStop v.sending.stop v)
+  stop-tells_read_stop words views log s at flusher = subst (λ n. HasReadStop n v) (sym (s.stops me v at flusher)) (s.read_stop me v at)
 
   pub stop-step : (word : ℕ) → MayStop word v → (n : ℕ) → IsStep key me Stop n word v (has_stopped word v) none
   stop-step word may n = record {
     leads = λ words views log s at is. let old = s.seen me v at in let running : words.stop ≡ 0 = sym (s.stops me v at may.flusher) ∙ may.running in
-        looks key words word views me v log (counted v.seen) (record v.sending { stop = word }) s at record {
+        change_sending-leads key words word views me v log (counted v.seen) (record v.sending { stop = word }) s at record {
           tail_seen = old.tail_seen;
           exposed_seen = old.exposed_seen;
           durable_seen = old.durable_seen;
           boundaries = old.boundaries;
         } (s.sends me v at)
-        (each_moves (λ _ z. StoresStop words.stop z) (λ _ z. StoresStop word z) views me (has_stopped word v) s.stops (λ _. refl)
+        (each_view-set_weaken (λ _ z. StoresStop words.stop z) (λ _ z. StoresStop word z) views me (has_stopped word v) s.stops (λ _. refl)
         (λ j z differ there _ f. absurd (differ (sole-flusher words.crew views me v s.roles at may.flusher j z there f))))
-        (each_moves (λ _ z. HasReadStop words.stop z) (λ _ z. HasReadStop word z) views me (has_stopped word v) s.read_stop
+        (each_view-set_weaken (λ _ z. HasReadStop words.stop z) (λ _ z. HasReadStop word z) views me (has_stopped word v) s.read_stop
         (not-read words.stop word v running (s.read_stop me v at)) (λ _ z _ _. not-read words.stop word z running))
-        (λ _ _ _ h. h) (s.looked me v at) (steps-on log.groups v.seen _ refl refl refl refl refl refl refl);
+        (λ _ _ _ h. h) (s.looked me v at) (one_step_more-keeps_seen log.groups v.seen _ refl refl refl refl refl refl refl);
   }
 
   -- where no worker is active and all that were made were enrolled, none is at work
@@ -112,19 +112,19 @@ module _ (key : Start) (me : ℕ) (v : View) where
       by_role Note is = ap is_working is
       by_role Spent is = ap is_working is
 
-  pub crew-looks : (n : ℕ) → IsStep key me Crew n n v (saw_crew n v) none
-  crew-looks n = record {
+  pub saw_crew-step : (n : ℕ) → IsStep key me Crew n n v (saw_crew n v) none
+  saw_crew-step n = record {
     leads = λ words views log s at is. let old = s.seen me v at in
         subst (λ x. Leads key words (record words { crew = x }) views (set views me (saw_crew x v)) log none) is
-        (looks key words words.stop views me v log (record v.seen { steps = v.seen.steps + 1; crew = words.crew })
+        (change_sending-leads key words words.stop views me v log (record v.seen { steps = v.seen.steps + 1; crew = words.crew })
         (record v.sending { quiet = words.crew == 0 && knows_all_enrolled v.standing; looked = false }) s at record {
           tail_seen = old.tail_seen;
           exposed_seen = old.exposed_seen;
           durable_seen = old.durable_seen;
           boundaries = old.boundaries;
-        } (s.sends me v at) (each_set (λ _ z. StoresStop words.stop z) views me (saw_crew words.crew v) s.stops (s.stops me v at))
-        (each_set (λ _ z. HasReadStop words.stop z) views me (saw_crew words.crew v) s.read_stop (s.read_stop me v at))
+        } (s.sends me v at) (each_view-set (λ _ z. StoresStop words.stop z) views me (saw_crew words.crew v) s.stops (s.stops me v at))
+        (each_view-set (λ _ z. HasReadStop words.stop z) views me (saw_crew words.crew v) s.read_stop (s.read_stop me v at))
         (λ j z there _ f q. let both = both-true (words.crew == 0) (knows_all_enrolled v.standing) q in
         rests words views log s at f (eqb-true words.crew 0 both.0) both.1 j z there)
-        (λ _ _ l. absurd (true≢false (sym l))) (steps-on log.groups v.seen _ refl refl refl refl refl refl refl));
+        (λ _ _ l. absurd (true≢false (sym l))) (one_step_more-keeps_seen log.groups v.seen _ refl refl refl refl refl refl refl));
   }

@@ -28,15 +28,15 @@ use Rattle.log_rule.specs.Sound.{EachView, EachSeat, HasSeenBoundaries, HasConti
 use Rattle.log_rule.specs.Views.{seen_tail}
 use Rattle.log_rule.specs.Words.{Words}
 use Rattle.log_rule.proofs.Boundaries.{range_size, part_size, boundary-append, laid-end}
-use Rattle.log_rule.proofs.Carriers.{carrier-set, first-push, ends-push, ends-move}
-use Rattle.log_rule.proofs.Lists.{all-append, all-weaker}
-use Rattle.log_rule.proofs.Loads.{tail-boundary, tail-looks_as}
-use Rattle.log_rule.proofs.Members.{heard-same, tail-on}
+use Rattle.log_rule.proofs.Carriers.{carrier-set, first_released-front, first_ends-append, true_ends-log_changes}
+use Rattle.log_rule.proofs.Lists.{all-append, all-weaken}
+use Rattle.log_rule.proofs.Loads.{tail-boundary, saw_tail_contended-step}
+use Rattle.log_rule.proofs.Members.{heard_of_workers-set_same, seen_tail-keeps_seen}
 use Rattle.log_rule.proofs.RangeLists.{tiles-le, tiles-push, tiles-within, laid-append, unreleased_in-append, unreleased_in-apart, filled_in-append, filled_in-apart}
-use Rattle.log_rule.proofs.Roles.{crew-same, quiet-moves}
-use Rattle.log_rule.proofs.MachineShown.{same-shown}
-use Rattle.log_rule.proofs.TrueMarks.{ready-push}
-use Rattle.log_rule.proofs.ViewChanges.{each_set, each_moves}
+use Rattle.log_rule.proofs.Roles.{crew-set_same, rests_if_quiet-set}
+use Rattle.log_rule.proofs.MachineShown.{reservation_of-same_filled}
+use Rattle.log_rule.proofs.TrueMarks.{ready_in-append}
+use Rattle.log_rule.proofs.ViewChanges.{each_view-set, each_view-set_weaken}
 use Rattle.std.proofs.lemmas.List.{map-append}
 
 -- no unit of the part is filled, and it is not released
@@ -98,12 +98,12 @@ module _ (key : Start) (words : Words) (views : List View) (me : ℕ) (v : View)
   ranges = append_assoc log.flushed (log.exposed ++ log.ahead) (range ∷ [])
       ∙ ap (λ l. log.flushed ++ l) (append_assoc log.exposed log.ahead (range ∷ []))
 
-  pub still : (x : ℕ) → IsRangeBoundary key.start (ranges_of log) x → IsRangeBoundary key.start (ranges_of moved_log) x
-  still x b = subst (λ l. IsRangeBoundary key.start l x) ranges (boundary-append range_size key.start x (ranges_of log) (range ∷ []) b)
+  pub boundary-moved_log : (x : ℕ) → IsRangeBoundary key.start (ranges_of log) x → IsRangeBoundary key.start (ranges_of moved_log) x
+  boundary-moved_log x b = subst (λ l. IsRangeBoundary key.start l x) ranges (boundary-append range_size key.start x (ranges_of log) (range ∷ []) b)
 
   stills : (lsns : List ℕ) → AllByRecursion (IsRangeBoundary key.start (ranges_of log)) lsns
       → AllByRecursion (IsRangeBoundary key.start (ranges_of moved_log)) lsns
-  stills lsns = all-weaker (IsRangeBoundary key.start (ranges_of log)) (IsRangeBoundary key.start (ranges_of moved_log)) lsns still
+  stills lsns = all-weaken (IsRangeBoundary key.start (ranges_of log)) (IsRangeBoundary key.start (ranges_of moved_log)) lsns boundary-moved_log
 
   module _ (new : AreNewParts from size to more) (quarter : size ≤ key.ring / 4) where
     nothing-there : unreleased_in from size log.parts ≡ 0
@@ -124,7 +124,7 @@ module _ (key : Start) (words : Words) (views : List View) (me : ℕ) (v : View)
     aligned : AllByRecursion (EndsWithPart key.start moved_log.parts) (ranges_of moved_log)
     aligned = subst (AllByRecursion (EndsWithPart key.start moved_log.parts)) ranges
         (all-append (EndsWithPart key.start moved_log.parts) (ranges_of log) (range ∷ [])
-        (all-weaker (EndsWithPart key.start log.parts) (EndsWithPart key.start moved_log.parts) (ranges_of log)
+        (all-weaken (EndsWithPart key.start log.parts) (EndsWithPart key.start moved_log.parts) (ranges_of log)
         (λ r. boundary-append part_size key.start (r.base + r.size) log.parts more) s.contiguous.aligned)
         (subst (IsTilingBoundary part_size key.start moved_log.parts) (sym new.whole) (laid-end _ _ moved_log.parts laid), tt))
 
@@ -142,7 +142,7 @@ module _ (key : Start) (words : Words) (views : List View) (me : ℕ) (v : View)
     agrees : (base : ℕ) (units : List ℕ) → AllByRecursion (AgreesFrom base units) log.parts
         → AllByRecursion (AgreesFrom base units) moved_log.parts
     agrees base units old = all-append (AgreesFrom base units) log.parts more old
-        (all-weaker IsEmptyPart (AgreesFrom base units) more
+        (all-weaken IsEmptyPart (AgreesFrom base units) more
         (λ p e i below _ _. absurd (omega (arith, below, ap length e.no_units))) new.empty)
 
     sends : (z : View) → SendsIfFlusher key.start words.exposed words.durable log z
@@ -151,7 +151,7 @@ module _ (key : Start) (words : Words) (views : List View) (me : ℕ) (v : View)
       sent_to = o.sent_to;
       read_to = o.read_to;
       loaded_seen = o.loaded_seen;
-      boundary = still z.sending.exposed o.boundary;
+      boundary = boundary-moved_log z.sending.exposed o.boundary;
       sent_agrees = agrees key.start z.sending.sent o.sent_agrees;
       read_agrees = agrees words.durable z.sending.read o.read_agrees;
     }
@@ -169,15 +169,15 @@ module _ (key : Start) (words : Words) (views : List View) (me : ℕ) (v : View)
       at-work-on : duty ≡ Released → ⊥
       at-work-on done = true≢false (sym (ap is_released done) ∙ unreleased)
 
-      pub tail-moves : IsSound key (record words { tail = to }) (set views me moved_view) moved_log
-      tail-moves = record {
+      pub tail_move-sound : IsSound key (record words { tail = to }) (set views me moved_view) moved_log
+      tail_move-sound = record {
         ordered = record {
           least_ring = s.ordered.least_ring;
           greatest_ring = s.ordered.greatest_ring;
           within_ring = within_ring;
           within_log = within_log;
         };
-        seen = each_moves (λ _ z. HasSeenBoundaries key.start from words.exposed words.durable (ranges_of log) z.seen)
+        seen = each_view-set_weaken (λ _ z. HasSeenBoundaries key.start from words.exposed words.durable (ranges_of log) z.seen)
             (λ _ z. HasSeenBoundaries key.start to words.exposed words.durable (ranges_of moved_log) z.seen) views me moved_view s.seen
             (let old = s.seen me v at in
             record {
@@ -196,12 +196,12 @@ module _ (key : Start) (words : Words) (views : List View) (me : ℕ) (v : View)
         filled = record {
           spelled = all-append SpellsRecord log.parts more s.filled.spelled new.spelled;
           stands = all-append (StandsInRing key.ring words.durable words.ring) log.parts more s.filled.stands
-              (all-weaker IsEmptyPart (StandsInRing key.ring words.durable words.ring) more
+              (all-weaken IsEmptyPart (StandsInRing key.ring words.durable words.ring) more
               (λ p e i below _. absurd (omega (arith, below, ap length e.no_units))) new.empty);
         };
         below = record {
           full = all-append IsFullIfReleased log.parts more s.below.full
-              (all-weaker IsEmptyPart IsFullIfReleased more (λ p e done. absurd (true≢false (sym done ∙ e.unreleased))) new.empty);
+              (all-weaken IsEmptyPart IsFullIfReleased more (λ p e done. absurd (true≢false (sym done ∙ e.unreleased))) new.empty);
           below = all-append (IsReleasedBelow words.exposed) log.parts more s.below.below
               (above-exposed words.exposed from to more new.laid (tiles-le _ _ _ log.ahead s.contiguous.to_tail));
           ranges = s.below.ranges;
@@ -210,41 +210,41 @@ module _ (key : Start) (words : Words) (views : List View) (me : ℕ) (v : View)
         slots = slots;
         marks = record {
           current = λ place lo hi. ⊎_elim (λ low. inl low)
-              (λ ready. inr (ready-push place (words.mark (place % key.ring)) log.ahead (range ∷ []) ready)) (s.marks.current place lo hi);
+              (λ ready. inr (ready_in-append place (words.mark (place % key.ring)) log.ahead (range ∷ []) ready)) (s.marks.current place lo hi);
           true_marks = subst (AllByRecursion (HasTrueMark key.ring words.mark)) ranges
               (all-append (HasTrueMark key.ring words.mark) (ranges_of log) (range ∷ []) s.marks.true_marks
               ((λ done. absurd (at-work-on done)), tt));
           below_tail = λ index. omega (arith, s.marks.below_tail index, new.whole);
         };
         carried = λ first. carrier-set words.exposed views me v moved_view at (λ c. absurd (carries words.exposed c))
-            (s.carried (first-push log.ahead range at-work-on first));
-        ends = each_moves (λ _ z. HasTrueEnds key.start words.exposed log z.call)
+            (s.carried (first_released-front log.ahead range at-work-on first));
+        ends = each_view-set_weaken (λ _ z. HasTrueEnds key.start words.exposed log z.call)
             (λ _ z. HasTrueEnds key.start words.exposed moved_log z.call)
             views me moved_view s.ends ends
-            (λ _ z _ _. ends-move key.start words.exposed log moved_log z.call still (λ end. ends-push log.ahead (range ∷ []) end));
+            (λ _ z _ _. true_ends-log_changes key.start words.exposed log moved_log z.call boundary-moved_log (λ end. first_ends-append log.ahead (range ∷ []) end));
         owners = owners;
-        constants = each_set (λ _ z. HasConstants key z) views me moved_view s.constants (s.constants me v at);
-        resting = each_set (λ _ z. RestsUnlessActive z) views me moved_view s.resting (λ off. absurd (on-duty off));
-        entries = each_set (λ _ z. OwnsIfWorker z) views me moved_view s.entries (s.entries me v at);
-        roles = crew-same words.crew views me v moved_view s.roles at refl;
-        sends = each_moves (λ _ z. SendsIfFlusher key.start words.exposed words.durable log z)
+        constants = each_view-set (λ _ z. HasConstants key z) views me moved_view s.constants (s.constants me v at);
+        resting = each_view-set (λ _ z. RestsUnlessActive z) views me moved_view s.resting (λ off. absurd (on-duty off));
+        entries = each_view-set (λ _ z. OwnsIfWorker z) views me moved_view s.entries (s.entries me v at);
+        roles = crew-set_same words.crew views me v moved_view s.roles at refl;
+        sends = each_view-set_weaken (λ _ z. SendsIfFlusher key.start words.exposed words.durable log z)
             (λ _ z. SendsIfFlusher key.start words.exposed words.durable moved_log z) views me moved_view s.sends
             (sends v (s.sends me v at))
             (λ _ z _ _. sends z);
-        stops = each_set (λ _ z. StoresStop words.stop z) views me moved_view s.stops (s.stops me v at);
-        read_stop = each_set (λ _ z. HasReadStop words.stop z) views me moved_view s.read_stop (s.read_stop me v at);
-        quiet = quiet-moves views me v moved_view s.quiet at (λ _ _ _ h. h) (λ _ h. h);
-        looked = each_set (λ _ z. LookedIfQuiet words.exposed z) views me moved_view s.looked (s.looked me v at);
-        unheld = each_set (λ _ z. HoldsIfActive z) views me moved_view s.unheld
+        stops = each_view-set (λ _ z. StoresStop words.stop z) views me moved_view s.stops (s.stops me v at);
+        read_stop = each_view-set (λ _ z. HasReadStop words.stop z) views me moved_view s.read_stop (s.read_stop me v at);
+        quiet = rests_if_quiet-set views me v moved_view s.quiet at (λ _ _ _ h. h) (λ _ h. h);
+        looked = each_view-set (λ _ z. LookedIfQuiet words.exposed z) views me moved_view s.looked (s.looked me v at);
+        unheld = each_view-set (λ _ z. HoldsIfActive z) views me moved_view s.unheld
             ((λ off. absurd (on-duty off)), (λ off. absurd (true≢false (sym (ap may_own active) ∙ off))));
         accounts = accounts;
         in_group = in_group;
         loads = loads;
-        awaits = each_set (λ _ z. AwaitsPlace z.call z.books) views me moved_view s.awaits awaits;
-        totals = each_set (λ _ z. (slot : ℕ) → HasTotalOfWorkers (groups slot) z) views me moved_view totals (totals me v at);
-        heard = heard-same views me v moved_view s.heard at refl refl;
-        lasts = each_set (λ _ z. HasSeenLast z) views me moved_view s.lasts
-            (λ unspent. (tail-on key.start key.ring to words.durable (ranges_of moved_log) groups v.seen in_group).last
+        awaits = each_view-set (λ _ z. AwaitsPlace z.call z.books) views me moved_view s.awaits awaits;
+        totals = each_view-set (λ _ z. (slot : ℕ) → HasTotalOfWorkers (groups slot) z) views me moved_view totals (totals me v at);
+        heard = heard_of_workers-set_same views me v moved_view s.heard at refl refl;
+        lasts = each_view-set (λ _ z. HasSeenLast z) views me moved_view s.lasts
+            (λ unspent. (seen_tail-keeps_seen key.start key.ring to words.durable (ranges_of moved_log) groups v.seen in_group).last
             (s.lasts me v at unspent));
       }
 
@@ -253,7 +253,7 @@ module _ (key : Start) (words : Words) (views : List View) (me : ℕ) (v : View)
           ≡ map (reservation_of log.parts) (ranges_of log) ++ fresh from size ∷ []
       reservations-more = ap (map (reservation_of moved_log.parts)) (sym ranges)
           ∙ (map-append (reservation_of moved_log.parts) (ranges_of log) (range ∷ [])
-          ∙ (λ i. same-shown log.parts moved_log.parts (ranges_of log) none-more i
+          ∙ (λ i. reservation_of-same_filled log.parts moved_log.parts (ranges_of log) none-more i
           ++ record { base = from; size = size; filled = unfilled i; released = unreleased i } ∷ []))
         where
           none-more : (base n : ℕ) → filled_in base n moved_log.parts ≡ filled_in base n log.parts
@@ -263,18 +263,18 @@ module _ (key : Start) (words : Words) (views : List View) (me : ℕ) (v : View)
           unfilled = none-more from size ∙ filled_in-apart _ _ from size log.parts s.contiguous.parts (inl (le_refl _))
 
 -- whatever the exchange finds: it is made, with this event, or lost
-pub exchange-by : (key : Start) (me : ℕ) (v : View) (from to : ℕ) (new : View) (event : Event) → exchanged from to v v.call ≡ new
+pub tail_exchange-step : (key : Start) (me : ℕ) (v : View) (from to : ℕ) (new : View) (event : Event) → exchanged from to v v.call ≡ new
     → IsStep key me Tail from to v new event → (n : ℕ)
     → IsStep key me Tail n (either (eqb n from) to n) v (after_exchange from to n v) (cond (n == from) event none)
-exchange-by key me v from to new event is made n = dite (ℕ_discrete n from)
+tail_exchange-step key me v from to new event is made n = dite (ℕ_discrete n from)
     (λ same. subst (λ (b : Bool). IsStep key me Tail n (either b to n) v (cond b (exchanged from to v v.call) (lost_exchange n v))
     (cond b event none))
     (sym (eq-eqb n from same))
     (subst (λ (p : ℕ × View). IsStep key me Tail p.0 to v p.1 event) (λ i. (sym same i, sym is i)) made))
     (λ differ. subst (λ (b : Bool). IsStep key me Tail n (either b to n) v (cond b (exchanged from to v v.call) (lost_exchange n v))
     (cond b event none))
-    (sym (ne_eqb n from differ)) (tail-looks_as key me v (contended_losing v v.call) n))
+    (sym (ne_eqb n from differ)) (saw_tail_contended-step key me v (contended_losing v v.call) n))
 
 -- one that is made leaves this view
-pub exchange-made : (from to n : ℕ) (v new : View) → n ≡ from → exchanged from to v v.call ≡ new → after_exchange from to n v ≡ new
-exchange-made from to n v new same is = ap (λ b. cond b (exchanged from to v v.call) (lost_exchange n v)) (eq-eqb n from same) ∙ is
+pub after_exchange-made : (from to n : ℕ) (v new : View) → n ≡ from → exchanged from to v v.call ≡ new → after_exchange from to n v ≡ new
+after_exchange-made from to n v new same is = ap (λ b. cond b (exchanged from to v v.call) (lost_exchange n v)) (eq-eqb n from same) ∙ is

@@ -19,29 +19,29 @@ use Rattle.log_rule.specs.declared.view.Books.{Books}
 use Rattle.log_rule.specs.Books.{task_of, times_held, times_taken, taking_job, taking}
 use Rattle.log_rule.specs.Accounts.{Everywhere, IsAsTaken, MayBeTaken, HasOneHolder, HasDistinctJobs, moved_if_committed, Follows, IsUpToDate, WentBack, AccountsFollowList, KeepsAccounts}
 use Rattle.log_rule.specs.Words.{put}
-use Rattle.log_rule.proofs.Bookings.{everywhere-set, summed-set, all-held, all-taken, one-if, none-if}
+use Rattle.log_rule.proofs.Bookings.{everywhere-set, summed-set, all-weaken_if_held, all-weaken_if_taken, cond-one_if_equal, cond-zero_if_unequal}
 
-pub put-same : (words : ℕ → ℕ) (account word other : ℕ) → other ≡ account → put words account word other ≡ word
-put-same words account word other same = ap (λ (b : Bool). cond b word (words other)) (eq-eqb other account same)
+pub put-at_equal : (words : ℕ → ℕ) (account word other : ℕ) → other ≡ account → put words account word other ≡ word
+put-at_equal words account word other same = ap (λ (b : Bool). cond b word (words other)) (eq-eqb other account same)
 
-pub put-else : (words : ℕ → ℕ) (account word other : ℕ) → other ≢ account → put words account word other ≡ words other
-put-else words account word other differ = ap (λ (b : Bool). cond b word (words other)) (ne_eqb other account differ)
+pub put-at_unequal : (words : ℕ → ℕ) (account word other : ℕ) → other ≢ account → put words account word other ≡ words other
+put-at_unequal words account word other differ = ap (λ (b : Bool). cond b word (words other)) (ne_eqb other account differ)
 
 -- what is known of other words
-pub as_taken-else : (accounts : ℕ) (words : ℕ → ℕ) (account word : ℕ) (held : Taken) → held.account ≢ account → IsAsTaken accounts words held
+pub as_taken-put_other : (accounts : ℕ) (words : ℕ → ℕ) (account word : ℕ) (held : Taken) → held.account ≢ account → IsAsTaken accounts words held
     → IsAsTaken accounts (put words account word) held
-as_taken-else accounts words account word held differ old = let same = put-else words account word held.account differ in record {
+as_taken-put_other accounts words account word held differ old = let same = put-at_unequal words account word held.account differ in record {
   known = old.known;
   taken = ap held_in same ∙ old.taken;
   balance = ap balance_in same ∙ old.balance;
   last_commit = ap last_commit_in same ∙ old.last_commit;
 }
 
-pub free-else : (base : BaseState) (h : List Placed) (words : ℕ → ℕ) (account word other : ℕ) → other ≢ account
+pub free-put_other : (base : BaseState) (h : List Placed) (words : ℕ → ℕ) (account word other : ℕ) → other ≢ account
     → (held_in (words other) ≡ false → IsUpToDate base h other (words other))
     → held_in (put words account word other) ≡ false → IsUpToDate base h other (put words account word other)
-free-else base h words account word other differ old =
-    subst (λ (w : ℕ). held_in w ≡ false → IsUpToDate base h other w) (sym (put-else words account word other differ)) old
+free-put_other base h words account word other differ old =
+    subst (λ (w : ℕ). held_in w ≡ false → IsUpToDate base h other w) (sym (put-at_unequal words account word other differ)) old
 
 -- what the parts say of one seat's books
 abbrev pub RunsPartly : BaseState → List Placed → Books → Type 0
@@ -64,9 +64,9 @@ LastIsOne accounts books = 1 ≤ books.last.number → MayBeTaken accounts books
 
 module _ (base : BaseState) (words : ℕ → ℕ) (h : List Placed) (all : List Books) (me : ℕ) (mine : Books) (at : get_elem? all me ≡ some mine) where
   -- jobs only grow
-  pub distinct-before : (new : Books) → ((number : ℕ) → times_taken number mine.jobs ≤ times_taken number new.jobs) → HasDistinctJobs (set all me new)
+  pub distinct_jobs-before_set : (new : Books) → ((number : ℕ) → times_taken number mine.jobs ≤ times_taken number new.jobs) → HasDistinctJobs (set all me new)
       → HasDistinctJobs all
-  distinct-before new more distinct number =
+  distinct_jobs-before_set new more distinct number =
       let sum = summed-set (λ (books : Books). times_taken number books.jobs) all me mine new at in let one = distinct number in let grow = more number in omega arith
 
   module _ (taken : TakenJob) (allowed : MayBeTaken base.accounts taken) (above : AllByRecursion (λ (job : TakenJob). job.number < taken.number) mine.jobs)
@@ -75,7 +75,7 @@ module _ (base : BaseState) (words : ℕ → ℕ) (h : List Placed) (all : List 
     new = taking_job taken mine
 
     one : cond {A = ℕ} (taken.number == taken.number) 1 0 ≡ 1
-    one = one-if taken.number taken.number refl
+    one = cond-one_if_equal taken.number taken.number refl
 
     job-holder : HasOneHolder base.accounts words all → HasOneHolder base.accounts words (set all me new)
     job-holder s = record {
@@ -102,7 +102,7 @@ module _ (base : BaseState) (words : ℕ → ℕ) (h : List Placed) (all : List 
         range = s.range;
         placed = everywhere-set (Ties h) all me new s.placed (λ _. unknown);
         last = everywhere-set Lasts all me new s.last
-            (λ _. ((λ _. refl), all-taken _ (λ (job : TakenJob). job.number ≡ taken.number → job.job ≡ taken.job) mine.jobs above (λ job _ below same. absurd (omega arith))));
+            (λ _. ((λ _. refl), all-weaken_if_taken _ (λ (job : TakenJob). job.number ≡ taken.number → job.job ≡ taken.job) mine.jobs above (λ job _ below same. absurd (omega arith))));
         free = s.free;
         held = everywhere-set (FollowsAll base h) all me new s.held (subst (AllByRecursion (Follows base h [])) (sym none-held) tt);
         given = everywhere-set (AllWentBack base h) all me new s.given (s.given me mine at);
@@ -111,10 +111,10 @@ module _ (base : BaseState) (words : ℕ → ℕ) (h : List Placed) (all : List 
             (let sum = summed-set (λ (books : Books). times_taken number books.jobs) all me mine new at in omega arith);
       }
 
-    pub takes-job : KeepsAccounts base words h all → KeepsAccounts base words h (set all me new)
-    takes-job s = record {
+    pub take_job-keeps_accounts : KeepsAccounts base words h all → KeepsAccounts base words h (set all me new)
+    take_job-keeps_accounts s = record {
       holder = job-holder s.holder;
-      follows = λ distinct. job-follows distinct (s.follows (distinct-before new (λ number. omega arith) distinct));
+      follows = λ distinct. job-follows distinct (s.follows (distinct_jobs-before_set new (λ number. omega arith) distinct));
     }
 
   -- a free account, whose word is then held with the same values
@@ -128,27 +128,27 @@ module _ (base : BaseState) (words : ℕ → ℕ) (h : List Placed) (all : List 
     words' = put words held.account word
 
     others-taken : (books : Books) → AllByRecursion (IsAsTaken base.accounts words) books.held → AllByRecursion (IsAsTaken base.accounts words') books.held
-    others-taken books old = all-held _ (IsAsTaken base.accounts words') books.held old
-        (λ z _ t. as_taken-else base.accounts words held.account word z (λ same. true≢false (sym t.taken ∙ (ap (λ a. held_in (words a)) same ∙ free))) t)
+    others-taken books old = all-weaken_if_held _ (IsAsTaken base.accounts words') books.held old
+        (λ z _ t. as_taken-put_other base.accounts words held.account word z (λ same. true≢false (sym t.taken ∙ (ap (λ a. held_in (words a)) same ∙ free))) t)
 
     account-holder : HasOneHolder base.accounts words all → HasOneHolder base.accounts words' (set all me new')
     account-holder s = record {
       few = s.few;
       counts = λ account below. let sum = summed-set (λ (books : Books). times_held account books.held) all me mine new' at in
           let count = s.counts account below in dite (ℕ_discrete account held.account)
-          (λ same. let one' = one-if held.account account (sym same) in
+          (λ same. let one' = cond-one_if_equal held.account account (sym same) in
           let none : cond {A = ℕ} (held_in (words account)) 1 0 ≡ 0 = ap (λ b. cond {A = ℕ} b 1 0) (ap (λ a. held_in (words a)) same ∙ free) in
-          let now : cond {A = ℕ} (held_in (words' account)) 1 0 ≡ 1 = ap (λ b. cond {A = ℕ} b 1 0) (ap held_in (put-same words held.account word account same) ∙ is-held) in omega arith)
-          (λ differ. let none = none-if held.account account (λ e. differ (sym e)) in
+          let now : cond {A = ℕ} (held_in (words' account)) 1 0 ≡ 1 = ap (λ b. cond {A = ℕ} b 1 0) (ap held_in (put-at_equal words held.account word account same) ∙ is-held) in omega arith)
+          (λ differ. let none = cond-zero_if_unequal held.account account (λ e. differ (sym e)) in
           let now : cond {A = ℕ} (held_in (words' account)) 1 0 ≡ cond {A = ℕ} (held_in (words account)) 1 0 =
-          ap (λ w. cond {A = ℕ} (held_in w) 1 0) (put-else words held.account word account differ) in omega arith);
+          ap (λ w. cond {A = ℕ} (held_in w) 1 0) (put-at_unequal words held.account word account differ) in omega arith);
       taken = everywhere-moves' (λ (books : Books). AllByRecursion (IsAsTaken base.accounts words) books.held)
           (λ (books : Books). AllByRecursion (IsAsTaken base.accounts words') books.held) s.taken (
             record {
               known = known;
-              taken = ap held_in (put-same words held.account word held.account refl) ∙ is-held;
-              balance = ap balance_in (put-same words held.account word held.account refl) ∙ balance';
-              last_commit = ap last_commit_in (put-same words held.account word held.account refl) ∙ last_commit';
+              taken = ap held_in (put-at_equal words held.account word held.account refl) ∙ is-held;
+              balance = ap balance_in (put-at_equal words held.account word held.account refl) ∙ balance';
+              last_commit = ap last_commit_in (put-at_equal words held.account word held.account refl) ∙ last_commit';
             },
             others-taken mine (s.taken me mine at),
           ) others-taken;
@@ -156,7 +156,7 @@ module _ (base : BaseState) (words : ℕ → ℕ) (h : List Placed) (all : List 
     }
       where
         everywhere-moves' : (P Q : Books → Type 0) → Everywhere P all → Q new' → ((x : Books) → P x → Q x) → Everywhere Q (set all me new')
-        everywhere-moves' P Q each now more = Rattle.log_rule.proofs.Bookings.everywhere-moves P Q all me new' each now (λ _ x _ _. more x)
+        everywhere-moves' P Q each now more = Rattle.log_rule.proofs.Bookings.everywhere-set_weaken P Q all me new' each now (λ _ x _ _. more x)
 
     module _ (uncommitted : has_commit (recs_of mine.placed) ≡ false) (s : AccountsFollowList base words h all) where
       now-follows : Follows base h mine.placed held
@@ -175,8 +175,8 @@ module _ (base : BaseState) (words : ℕ → ℕ) (h : List Placed) (all : List 
         placed = everywhere-set (Ties h) all me new' s.placed (s.placed me mine at);
         last = everywhere-set Lasts all me new' s.last (s.last me mine at);
         free = λ account below off. dite (ℕ_discrete account held.account)
-            (λ same. absurd (true≢false (sym (ap held_in (put-same words held.account word account same) ∙ is-held) ∙ off)))
-            (λ differ. free-else base h words held.account word account differ (s.free account below) off);
+            (λ same. absurd (true≢false (sym (ap held_in (put-at_equal words held.account word account same) ∙ is-held) ∙ off)))
+            (λ differ. free-put_other base h words held.account word account differ (s.free account below) off);
         held = everywhere-set (FollowsAll base h) all me new' s.held (now-follows, s.held me mine at);
         given = everywhere-set (AllWentBack base h) all me new' s.given (s.given me mine at);
         runs = everywhere-set (RunsPartly base h) all me new' s.runs (s.runs me mine at);
@@ -184,8 +184,8 @@ module _ (base : BaseState) (words : ℕ → ℕ) (h : List Placed) (all : List 
             (let sum = summed-set (λ (books : Books). times_taken number books.jobs) all me mine new' at in omega arith);
       }
 
-    pub takes-account : has_commit (recs_of mine.placed) ≡ false → KeepsAccounts base words h all → KeepsAccounts base words' h (set all me new')
-    takes-account uncommitted s = record {
+    pub take_account-keeps_accounts : has_commit (recs_of mine.placed) ≡ false → KeepsAccounts base words h all → KeepsAccounts base words' h (set all me new')
+    take_account-keeps_accounts uncommitted s = record {
       holder = account-holder s.holder;
-      follows = λ distinct. account-follows uncommitted (s.follows (distinct-before new' (λ number. omega arith) distinct));
+      follows = λ distinct. account-follows uncommitted (s.follows (distinct_jobs-before_set new' (λ number. omega arith) distinct));
     }

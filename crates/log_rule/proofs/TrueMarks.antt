@@ -7,22 +7,22 @@ use native.Mathlib.Decide.{ℕ_discrete, dec_lt}
 use Rattle.log_rule.specs.Log.{LogRange, Tiles, IsReleased}
 use Rattle.log_rule.specs.Marks.{IsReady, IsReadyIn, IsCurrentMark, HasTrueMark, IsFirstReleased, FirstEnds}
 use Rattle.log_rule.specs.Words.{put}
-use Rattle.log_rule.proofs.Filling.{differ_in_ring, put-here, put-other}
-use Rattle.log_rule.proofs.RangeLists.{tiles-le, tiles-mid, tiles-replaced}
+use Rattle.log_rule.proofs.Filling.{modulo-differ_if_near, put-at, put-other}
+use Rattle.log_rule.proofs.RangeLists.{tiles-le, tiles-split, tiles-all_replaced}
 
 -- a range that is ready stands among others
-pub ready-here : (at end : ℕ) (ls rs : List LogRange) (r : LogRange) → IsReady at end r → IsReadyIn at end (ls ++ r ∷ rs)
-ready-here at end [] rs r ready = inl ready
-ready-here at end (l ∷ ls) rs r ready = inr (ready-here at end ls rs r ready)
+pub ready-is_ready_in : (at end : ℕ) (ls rs : List LogRange) (r : LogRange) → IsReady at end r → IsReadyIn at end (ls ++ r ∷ rs)
+ready-is_ready_in at end [] rs r ready = inl ready
+ready-is_ready_in at end (l ∷ ls) rs r ready = inr (ready-is_ready_in at end ls rs r ready)
 
-pub ready-push : (at end : ℕ) (ranges more : List LogRange) → IsReadyIn at end ranges → IsReadyIn at end (ranges ++ more)
-ready-push at end [] more ready = absurd ready
-ready-push at end (r ∷ rs) more ready = ⊎_elim (λ here. inl here) (λ later. inr (ready-push at end rs more later)) ready
+pub ready_in-append : (at end : ℕ) (ranges more : List LogRange) → IsReadyIn at end ranges → IsReadyIn at end (ranges ++ more)
+ready_in-append at end [] more ready = absurd ready
+ready_in-append at end (r ∷ rs) more ready = ⊎_elim (λ here. inl here) (λ later. inr (ready_in-append at end rs more later)) ready
 
 -- one that is not released is exchanged for another
-pub ready-mid : (at end : ℕ) (ls rs : List LogRange) (r r' : LogRange) → (IsReleased r → ⊥) → IsReadyIn at end (ls ++ r ∷ rs) → IsReadyIn at end (ls ++ r' ∷ rs)
-ready-mid at end [] rs r r' unreleased ready = ⊎_elim (λ (here : IsReady at end r). absurd (unreleased here.released)) (λ later. inr later) ready
-ready-mid at end (l ∷ ls) rs r r' unreleased ready = ⊎_elim (λ here. inl here) (λ later. inr (ready-mid at end ls rs r r' unreleased later)) ready
+pub ready_in-mid_replaced : (at end : ℕ) (ls rs : List LogRange) (r r' : LogRange) → (IsReleased r → ⊥) → IsReadyIn at end (ls ++ r ∷ rs) → IsReadyIn at end (ls ++ r' ∷ rs)
+ready_in-mid_replaced at end [] rs r r' unreleased ready = ⊎_elim (λ (here : IsReady at end r). absurd (unreleased here.released)) (λ later. inr later) ready
+ready_in-mid_replaced at end (l ∷ ls) rs r r' unreleased ready = ⊎_elim (λ here. inl here) (λ later. inr (ready_in-mid_replaced at end ls rs r r' unreleased later)) ready
 
 -- what is ready lies within the tiling
 ready-low : (most from to at end : ℕ) (ranges : List LogRange) → Tiles most from ranges to → IsReadyIn at end ranges → from ≤ at
@@ -35,28 +35,28 @@ abbrev pub IsFirstReady : ℕ → ℕ → List LogRange → Type 0
 IsFirstReady at end [] = ⊥
 IsFirstReady at end (r ∷ rs) = IsReady at end r
 
-pub ready-first : (most from to end : ℕ) (ranges : List LogRange) → Tiles most from ranges to → IsReadyIn from end ranges → IsFirstReady from end ranges
-ready-first most from to end [] t ready = absurd ready
-ready-first most from to end (r ∷ rs) t ready = ⊎_elim (λ here. here)
+pub ready_in-first_ready : (most from to end : ℕ) (ranges : List LogRange) → Tiles most from ranges to → IsReadyIn from end ranges → IsFirstReady from end ranges
+ready_in-first_ready most from to end [] t ready = absurd ready
+ready_in-first_ready most from to end (r ∷ rs) t ready = ⊎_elim (λ here. here)
     (λ later. absurd (omega (arith, ready-low most (from + r.size) to from end rs t.3 later, t.1))) ready
 
-pub first-ends : (at end : ℕ) (ranges : List LogRange) → IsFirstReady at end ranges → FirstEnds ranges end
-first-ends at end [] ready = absurd ready
-first-ends at end (r ∷ rs) ready = (ready.released, sym ready.ends)
+pub first_ready-first_ends : (at end : ℕ) (ranges : List LogRange) → IsFirstReady at end ranges → FirstEnds ranges end
+first_ready-first_ends at end [] ready = absurd ready
+first_ready-first_ends at end (r ∷ rs) ready = (ready.released, sym ready.ends)
 
 -- the mark at exposed is above exposed where the first range ahead is released
-pub first-marked : (most size exposed tail : ℕ) (mark : ℕ → ℕ) (ahead : List LogRange) → Tiles most exposed ahead tail
+pub true_mark-above_exposed : (most size exposed tail : ℕ) (mark : ℕ → ℕ) (ahead : List LogRange) → Tiles most exposed ahead tail
     → AllByRecursion (HasTrueMark size mark) ahead → IsFirstReleased ahead → exposed < mark (exposed % size)
-first-marked most size exposed tail mark [] t true' first = absurd first
-first-marked most size exposed tail mark (r ∷ rs) t true' first =
+true_mark-above_exposed most size exposed tail mark [] t true' first = absurd first
+true_mark-above_exposed most size exposed tail mark (r ∷ rs) t true' first =
     let high : r.base + r.size ≤ mark (r.base % size) = true'.0 first in
     let same : mark (r.base % size) ≡ mark (exposed % size) = ap (λ n. mark (n % size)) t.0 in omega (arith, high, same, t.0, t.1)
 
 -- and only there
-pub marked-first : (most size exposed tail : ℕ) (mark : ℕ → ℕ) (ahead : List LogRange) → Tiles most exposed ahead tail
+pub current_mark-first_ready : (most size exposed tail : ℕ) (mark : ℕ → ℕ) (ahead : List LogRange) → Tiles most exposed ahead tail
     → IsCurrentMark size mark ahead exposed → exposed < mark (exposed % size) → IsFirstReady exposed (mark (exposed % size)) ahead
-marked-first most size exposed tail mark ahead t current above =
-    ⊎_elim (λ low. absurd (omega (arith, low, above))) (λ ready. ready-first most exposed tail _ ahead t ready) current
+current_mark-first_ready most size exposed tail mark ahead t current above =
+    ⊎_elim (λ low. absurd (omega (arith, low, above))) (λ ready. ready_in-first_ready most exposed tail _ ahead t ready) current
 
 module _ (most size : ℕ) (mark : ℕ → ℕ) (ls rs : List LogRange) (r r' : LogRange) where
   abbrev end : ℕ
@@ -66,47 +66,47 @@ module _ (most size : ℕ) (mark : ℕ → ℕ) (ls rs : List LogRange) (r r' : 
   mark' = put mark (r.base % size) end
 
   at-base : (x : ℕ) → x % size ≡ r.base % size → mark' (x % size) ≡ end
-  at-base x same = ap mark' same ∙ put-here mark (r.base % size) end
+  at-base x same = ap mark' same ∙ put-at mark (r.base % size) end
 
   -- A store of a range's mark keeps all marks true: those of ranges of a lap before, which end at or below its base, those of others of
   -- this lap, whose marks lie elsewhere, and its own.
-  pub true-store : (start tail : ℕ) → Tiles most start (ls ++ r ∷ rs) tail → r'.base ≡ r.base → r'.size ≡ r.size → tail ≤ r.base + size
+  pub true_mark-store : (start tail : ℕ) → Tiles most start (ls ++ r ∷ rs) tail → r'.base ≡ r.base → r'.size ≡ r.size → tail ≤ r.base + size
       → AllByRecursion (HasTrueMark size mark) (ls ++ r ∷ rs) → AllByRecursion (HasTrueMark size mark') (ls ++ r' ∷ rs)
-  true-store start tail tiles base-is size-is near all =
-      tiles-replaced (HasTrueMark size mark) (HasTrueMark size mark') most start tail ls rs r r' tiles all
+  true_mark-store start tail tiles base-is size-is near all =
+      tiles-all_replaced (HasTrueMark size mark) (HasTrueMark size mark') most start tail ls rs r r' tiles all
       (λ _. omega (arith, base-is, size-is, at-base r'.base (ap (λ n. n % size) base-is)))
       (λ q true' least lo hi apart released. dite (ℕ_discrete (q.base % size) (r.base % size))
       (λ same. ⊎_elim (λ before. omega (arith, before, at-base q.base same))
-      (λ behind. absurd (differ_in_ring q.base r.base size (λ e. omega (arith, e, behind, positive)) (omega (arith, near, hi, least))
+      (λ behind. absurd (modulo-differ_if_near q.base r.base size (λ e. omega (arith, e, behind, positive)) (omega (arith, near, hi, least))
       (omega (arith, behind, positive)) same)) apart)
       (λ differ. subst (λ n. q.base + q.size ≤ n) (sym (put-other mark (r.base % size) end (q.base % size) differ)) (true' released)))
     where
       positive : 1 ≤ r.size
-      positive = (tiles-mid most start tail ls rs r tiles).1
+      positive = (tiles-split most start tail ls rs r tiles).1
 
   -- and current
-  pub current-store : (exposed tail : ℕ) → Tiles most exposed (ls ++ r ∷ rs) tail → tail ≤ exposed + size → (IsReleased r → ⊥) → IsReady r.base end r'
+  pub current_mark-store : (exposed tail : ℕ) → Tiles most exposed (ls ++ r ∷ rs) tail → tail ≤ exposed + size → (IsReleased r → ⊥) → IsReady r.base end r'
       → ((at : ℕ) → exposed ≤ at → at < exposed + size → IsCurrentMark size mark (ls ++ r ∷ rs) at)
       → (at : ℕ) → exposed ≤ at → at < exposed + size → IsCurrentMark size mark' (ls ++ r' ∷ rs) at
-  current-store exposed tail tiles near unreleased ready current at lo hi = dite (ℕ_discrete at r.base)
+  current_mark-store exposed tail tiles near unreleased ready current at lo hi = dite (ℕ_discrete at r.base)
       (λ same. inr (subst (λ (p : ℕ × ℕ). IsReadyIn p.0 p.1 (ls ++ r' ∷ rs))
-      (λ i. (sym same i, sym (at-base at (ap (λ n. n % size) same)) i)) (ready-here r.base end ls rs r' ready)))
+      (λ i. (sym same i, sym (at-base at (ap (λ n. n % size) same)) i)) (ready-is_ready_in r.base end ls rs r' ready)))
       (λ differ. let kept : mark' (at % size) ≡ mark (at % size) = put-other mark (r.base % size) end (at % size)
-      (differ_in_ring at r.base size differ (omega (arith, hi, above)) (omega (arith, lo, below, near))) in
+      (modulo-differ_if_near at r.base size differ (omega (arith, hi, above)) (omega (arith, lo, below, near))) in
       ⊎_elim (λ low. inl (omega (arith, kept, low)))
-      (λ h. inr (subst (λ n. IsReadyIn at n (ls ++ r' ∷ rs)) (sym kept) (ready-mid at (mark (at % size)) ls rs r r' unreleased h))) (current at lo hi))
+      (λ h. inr (subst (λ n. IsReadyIn at n (ls ++ r' ∷ rs)) (sym kept) (ready_in-mid_replaced at (mark (at % size)) ls rs r r' unreleased h))) (current at lo hi))
     where
       above : exposed ≤ r.base
-      above = tiles-le most exposed r.base ls (tiles-mid most exposed tail ls rs r tiles).0
+      above = tiles-le most exposed r.base ls (tiles-split most exposed tail ls rs r tiles).0
 
       below : r.base < tail
-      below = let h = tiles-mid most exposed tail ls rs r tiles in omega (arith, h.1, tiles-le most (r.base + r.size) tail rs h.3)
+      below = let h = tiles-split most exposed tail ls rs r tiles in omega (arith, h.1, tiles-le most (r.base + r.size) tail rs h.3)
 
 -- exposed is raised past the first range
-pub current-raise : (most size exposed tail : ℕ) (mark : ℕ → ℕ) (r : LogRange) (rest : List LogRange) → Tiles most exposed (r ∷ rest) tail → most ≤ size
+pub current_mark-raise : (most size exposed tail : ℕ) (mark : ℕ → ℕ) (r : LogRange) (rest : List LogRange) → Tiles most exposed (r ∷ rest) tail → most ≤ size
     → ((at : ℕ) → exposed ≤ at → at < exposed + size → IsCurrentMark size mark (r ∷ rest) at)
     → (at : ℕ) → exposed + r.size ≤ at → at < exposed + r.size + size → IsCurrentMark size mark rest at
-current-raise most size exposed tail mark r rest t few current at lo hi = dite (dec_lt at (exposed + size))
+current_mark-raise most size exposed tail mark r rest t few current at lo hi = dite (dec_lt at (exposed + size))
     (λ near. ⊎_elim (λ low. inl low) (λ ready. inr (later (mark (at % size)) ready)) (current at (omega (arith, lo)) near))
     (λ far. let before : ℕ = at - size in
     let up : before + size ≡ at = omega (arith, far) in

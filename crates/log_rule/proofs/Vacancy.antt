@@ -12,7 +12,7 @@ use Rattle.log_rule.specs.Slots.{known_phase, led_phase, pieces_at, phase_at, su
 use Rattle.log_rule.specs.Sound.{IsSound}
 use Rattle.log_rule.specs.Views.{nobody}
 use Rattle.log_rule.specs.Words.{Words}
-use Rattle.log_rule.proofs.Sharing.{no-members}
+use Rattle.log_rule.proofs.Sharing.{own_pieces_none-no_members}
 
 -- a phase that a seat leads is led by somebody
 led-by_nobody : (leader : ℕ) (p : GroupPhase) → cond {A = List GroupPhase} (leader == leader) (known_phase p ∷ []) [] ≡ [] → ⊥
@@ -39,11 +39,11 @@ module _ (key : Start) (words : Words) (views : List View) (log : Log) (s : IsSo
   pub vacant-at_rest : (log.groups slot).phase ≡ Vacant
   vacant-at_rest = is-vacant (key.ring / 4) (words.slot slot) (words.base slot) (log.groups slot).members (log.groups slot).phase
       (s.slots slot).words
-      (no-members (log.groups slot).members (λ j. (s.owners j).joins slot ∙ ap (pieces_at slot) (idle j)))
+      (own_pieces_none-no_members (log.groups slot).members (λ j. (s.owners j).joins slot ∙ ap (pieces_at slot) (idle j)))
       (λ j. (s.owners j).leads slot ∙ ap (phase_at j slot) (idle j))
 
-  pub word-at_rest : words.slot slot ≡ 0
-  word-at_rest = let is : IsVacant (words.slot slot) (log.groups slot).members =
+  pub slot_word_zero-at_rest : words.slot slot ≡ 0
+  slot_word_zero-at_rest = let is : IsVacant (words.slot slot) (log.groups slot).members =
       subst (IsAtPhase (key.ring / 4) (words.slot slot) (words.base slot) (log.groups slot).members) vacant-at_rest (s.slots slot).words
       in is.word_is
 
@@ -53,8 +53,8 @@ pub in_use-more : (ring n count word : ℕ) (words : List ℕ) → word ≡ get_
     → count + min word 1 ≡ in_use ring (n + 1) words
 in_use-more ring n count word words is was = (λ i. was i + min (is i) 1) ∙ ap (λ k. in_use ring k words) (sym (add-one n))
 
-pub none-in_use : (ring n : ℕ) (words : List ℕ) → ((slot : ℕ) → slot < n → slice_index words (index_of ring 0 (Slot slot)) ≡ 0)
+pub in_use-all_zero : (ring n : ℕ) (words : List ℕ) → ((slot : ℕ) → slot < n → slice_index words (index_of ring 0 (Slot slot)) ≡ 0)
     → in_use ring n words ≡ 0
-none-in_use ring zero words none = refl
-none-in_use ring (suc n) words none =
-    λ i. none-in_use ring n words (λ slot below. none slot (omega arith)) i + min (none n (omega arith) i) 1
+in_use-all_zero ring zero words none = refl
+in_use-all_zero ring (suc n) words none =
+    λ i. in_use-all_zero ring n words (λ slot below. none slot (omega arith)) i + min (none n (omega arith) i) 1

@@ -302,15 +302,15 @@ module _ (size slots accounts : ℕ) where
   }
 
   -- what a list holds at the word's place is what the word holds
-  pub read-word : (ws : List ℕ) (word : Word) → Fits size slots accounts word
+  pub get_or-word_at : (ws : List ℕ) (word : Word) → Fits size slots accounts word
       → get_or ws (index_of size slots word) 0 ≡ word_at (words_of size slots accounts ws) word
-  read-word ws Tail fits = refl
-  read-word ws Exposed fits = refl
-  read-word ws Durable fits = refl
-  read-word ws Stop fits = refl
-  read-word ws Crew fits = refl
-  read-word ws (Ring index) (in_ring _ below) = sym (ap (λ b. cond b (read size slots ws (Ring index)) 0) (lt-ltb index size below))
-  read-word ws (Mark index) (in_marks _ below) = sym (ap (λ b. cond b (read size slots ws (Mark index)) 0) (lt-ltb index size below))
-  read-word ws (Slot slot) (of_slot _ below) = sym (ap (λ b. cond b (read size slots ws (Slot slot)) 0) (lt-ltb slot slots below))
-  read-word ws (Base slot) (of_base _ below) = sym (ap (λ b. cond b (read size slots ws (Base slot)) 0) (lt-ltb slot slots below))
-  read-word ws (Account account) (of_account _ below) = sym (ap (λ b. cond b (read size slots ws (Account account)) 0) (lt-ltb account accounts below))
+  get_or-word_at ws Tail fits = refl
+  get_or-word_at ws Exposed fits = refl
+  get_or-word_at ws Durable fits = refl
+  get_or-word_at ws Stop fits = refl
+  get_or-word_at ws Crew fits = refl
+  get_or-word_at ws (Ring index) (in_ring _ below) = sym (ap (λ b. cond b (read size slots ws (Ring index)) 0) (lt-ltb index size below))
+  get_or-word_at ws (Mark index) (in_marks _ below) = sym (ap (λ b. cond b (read size slots ws (Mark index)) 0) (lt-ltb index size below))
+  get_or-word_at ws (Slot slot) (of_slot _ below) = sym (ap (λ b. cond b (read size slots ws (Slot slot)) 0) (lt-ltb slot slots below))
+  get_or-word_at ws (Base slot) (of_base _ below) = sym (ap (λ b. cond b (read size slots ws (Base slot)) 0) (lt-ltb slot slots below))
+  get_or-word_at ws (Account account) (of_account _ below) = sym (ap (λ b. cond b (read size slots ws (Account account)) 0) (lt-ltb account accounts below))

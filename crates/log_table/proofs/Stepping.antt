@@ -16,16 +16,16 @@ abbrev pub MovesBase : Seat → Base (Unit {0}) View → View → Type 0 → Typ
 MovesBase old base view Told = (base.table_id ≡ old.base.table_id) × (base.id ≡ old.base.id)
     × ((base.me ≡ (view, old.base.me.1)) × Told)
 
--- the seat becomes then this one
-pub becomes : {old : Seat} {base : Base (Unit {0}) View} {named : old.worker ≡ base.me.0.standing.worker} {view : View}
+-- the seat MovesBase-becomes then this one
+pub MovesBase-becomes : {old : Seat} {base : Base (Unit {0}) View} {named : old.worker ≡ base.me.0.standing.worker} {view : View}
     {Told : Type 0} → MovesBase old base view Told → Becomes old (record { base = base; worker = old.worker; named = named }) view
-becomes step = record { table_is = step.0; number = step.1; me = step.2.0; worker = refl }
+MovesBase-becomes step = record { table_is = step.0; number = step.1; me = step.2.0; worker = refl }
 
 -- the same, where the view is called otherwise
-pub becomes_as : {old : Seat} {base : Base (Unit {0}) View} {named : old.worker ≡ base.me.0.standing.worker} {view : View}
+pub MovesBase-becomes_called : {old : Seat} {base : Base (Unit {0}) View} {named : old.worker ≡ base.me.0.standing.worker} {view : View}
     {Told : Type 0} (called : View) → view ≡ called → MovesBase old base view Told
     → Becomes old (record { base = base; worker = old.worker; named = named }) called
-becomes_as {old} called is step =
+MovesBase-becomes_called {old} called is step =
     record { table_is = step.0; number = step.1; me = step.2.0 ∙ ap (λ view. (view, old.base.me.1)) is; worker = refl }
 
 -- a word is that of the slot's state which is read from it

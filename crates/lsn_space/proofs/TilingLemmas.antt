@@ -19,22 +19,22 @@ module _ {A : Type 0} where
   found-passes p (x ∷ xs) r is = ⊎_elim (λ here. ap p (sym here.1) ∙ here.0) (λ later. found-passes p xs r later.1) (found-cases p x xs r is)
 
   -- what holds of each element holds of the one that is found
-  pub found-has : (P : A → Type 0) (p : A → Bool) (xs : List A) (r : A) → find p xs ≡ Some r → AllByRecursion P xs → P r
-  found-has P p [] r is all = absurd (cc)
-  found-has P p (x ∷ xs) r is all = ⊎_elim (λ here. subst P here.1 all.0) (λ later. found-has P p xs r later.1 all.1) (found-cases p x xs r is)
+  pub all-found : (P : A → Type 0) (p : A → Bool) (xs : List A) (r : A) → find p xs ≡ Some r → AllByRecursion P xs → P r
+  all-found P p [] r is all = absurd (cc)
+  all-found P p (x ∷ xs) r is all = ⊎_elim (λ here. subst P here.1 all.0) (λ later. all-found P p xs r later.1 all.1) (found-cases p x xs r is)
 
   -- what is found is found in a longer list too
-  pub find-append : (p : A → Bool) (xs ys : List A) (r : A) → find p xs ≡ Some r → find p (xs ++ ys) ≡ Some r
-  find-append p [] ys r is = absurd (cc)
-  find-append p (x ∷ xs) ys r is = ⊎_elim
+  pub find-append_found : (p : A → Bool) (xs ys : List A) (r : A) → find p xs ≡ Some r → find p (xs ++ ys) ≡ Some r
+  find-append_found p [] ys r is = absurd (cc)
+  find-append_found p (x ∷ xs) ys r is = ⊎_elim
       (λ here. ap (λ b. cond b (Some x) (find p (xs ++ ys))) here.0 ∙ ap Some here.1)
-      (λ later. ap (λ b. cond b (Some x) (find p (xs ++ ys))) later.0 ∙ find-append p xs ys r later.1)
+      (λ later. ap (λ b. cond b (Some x) (find p (xs ++ ys))) later.0 ∙ find-append_found p xs ys r later.1)
       (found-cases p x xs r is)
 
   -- where none passes, the search goes on behind them
-  pub find-none : (p : A → Bool) (xs ys : List A) → AllByRecursion (λ x. p x ≡ false) xs → find p (xs ++ ys) ≡ find p ys
-  find-none p [] ys all = refl
-  find-none p (x ∷ xs) ys all = ap (λ b. cond b (Some x) (find p (xs ++ ys))) all.0 ∙ find-none p xs ys all.1
+  pub find-append_unfound : (p : A → Bool) (xs ys : List A) → AllByRecursion (λ x. p x ≡ false) xs → find p (xs ++ ys) ≡ find p ys
+  find-append_unfound p [] ys all = refl
+  find-append_unfound p (x ∷ xs) ys all = ap (λ b. cond b (Some x) (find p (xs ++ ys))) all.0 ∙ find-append_unfound p xs ys all.1
 
   -- a change that the test does not see
   pub find-map : (p : A → Bool) (f : A → A) (xs : List A) → ((x : A) → p (f x) ≡ p x) → find p (map f xs) ≡ option_map f (find p xs)
@@ -45,9 +45,9 @@ module _ {A : Type 0} where
       by_test true rest = refl
       by_test false rest = rest
 
-  pub all-weaker : (P Q : A → Type 0) (xs : List A) → ((x : A) → P x → Q x) → AllByRecursion P xs → AllByRecursion Q xs
-  all-weaker P Q [] weaker all = tt
-  all-weaker P Q (x ∷ xs) weaker all = (weaker x all.0, all-weaker P Q xs weaker all.1)
+  pub all-weaken : (P Q : A → Type 0) (xs : List A) → ((x : A) → P x → Q x) → AllByRecursion P xs → AllByRecursion Q xs
+  all-weaken P Q [] weaker all = tt
+  all-weaken P Q (x ∷ xs) weaker all = (weaker x all.0, all-weaken P Q xs weaker all.1)
 
   pub all-both : (P Q R : A → Type 0) (xs : List A) → ((x : A) → P x → Q x → R x) → AllByRecursion P xs → AllByRecursion Q xs → AllByRecursion R xs
   all-both P Q R [] both ps qs = tt
@@ -100,36 +100,36 @@ module _ {A : Type 0} (base : A → ℕ) (size : A → ℕ) where
   pub tiling-within : (from : ℕ) (xs : List A) (to : ℕ) → IsTiling base size from xs to → AllByRecursion (λ x. (from ≤ base x) × (base x + size x ≤ to)) xs
   tiling-within from [] to tiles = tt
   tiling-within from (x ∷ xs) to tiles = let le = tiling-le (from + size x) xs to tiles.1 in
-      ((omega (arith, tiles.0), omega (arith, tiles.0)), all-weaker _ _ xs (λ y within. (omega arith, within.1)) (tiling-within (from + size x) xs to tiles.1))
+      ((omega (arith, tiles.0), omega (arith, tiles.0)), all-weaken _ _ xs (λ y within. (omega arith, within.1)) (tiling-within (from + size x) xs to tiles.1))
 
   -- each range is the one that is found, or apart from it
-  pub tiling-apart : (from : ℕ) (xs : List A) (to : ℕ) (p : A → Bool) (r : A) → IsTiling base size from xs to → find p xs ≡ Some r → AllByRecursion (λ q. (q ≡ r) ⊎ IsApart r q) xs
-  tiling-apart from [] to p r tiles is = tt
-  tiling-apart from (x ∷ xs) to p r tiles is = let behind = tiling-within (from + size x) xs to tiles.1 in ⊎_elim
+  pub tiling-found_or_apart : (from : ℕ) (xs : List A) (to : ℕ) (p : A → Bool) (r : A) → IsTiling base size from xs to → find p xs ≡ Some r → AllByRecursion (λ q. (q ≡ r) ⊎ IsApart r q) xs
+  tiling-found_or_apart from [] to p r tiles is = tt
+  tiling-found_or_apart from (x ∷ xs) to p r tiles is = let behind = tiling-within (from + size x) xs to tiles.1 in ⊎_elim
       (λ here. (
         inl here.1,
         subst (λ z. AllByRecursion (λ q. (q ≡ z) ⊎ IsApart z q) xs) here.1
-            (all-weaker _ _ xs (λ y within. inr (inr (omega (arith, tiles.0, within.0)))) behind),
+            (all-weaken _ _ xs (λ y within. inr (inr (omega (arith, tiles.0, within.0)))) behind),
       ))
-      (λ later. let within = found-has _ p xs r later.1 behind in
-      (inr (inl (omega (arith, tiles.0, within.0))), tiling-apart (from + size x) xs to p r tiles.1 later.1))
+      (λ later. let within = all-found _ p xs r later.1 behind in
+      (inr (inl (omega (arith, tiles.0, within.0))), tiling-found_or_apart (from + size x) xs to p r tiles.1 later.1))
       (found-cases p x xs r is)
 
   -- the end of a range that is found is a boundary
-  pub boundary-end : (from : ℕ) (xs : List A) (to : ℕ) (p : A → Bool) (r : A) → IsTiling base size from xs to → find p xs ≡ Some r → IsTilingBoundary size from xs (base r + size r)
-  boundary-end from [] to p r tiles is = absurd (cc)
-  boundary-end from (x ∷ xs) to p r tiles is = ⊎_elim
+  pub boundary-end_of_found : (from : ℕ) (xs : List A) (to : ℕ) (p : A → Bool) (r : A) → IsTiling base size from xs to → find p xs ≡ Some r → IsTilingBoundary size from xs (base r + size r)
+  boundary-end_of_found from [] to p r tiles is = absurd (cc)
+  boundary-end_of_found from (x ∷ xs) to p r tiles is = ⊎_elim
       (λ here. inr (subst (λ z. IsTilingBoundary size (from + size x) xs z)
       (ap (λ n. n + size x) (sym tiles.0) ∙ ap (λ z. base z + size z) here.1) (boundary-from size (from + size x) xs)))
-      (λ later. inr (boundary-end (from + size x) xs to p r tiles.1 later.1))
+      (λ later. inr (boundary-end_of_found (from + size x) xs to p r tiles.1 later.1))
       (found-cases p x xs r is)
 
   -- a boundary is the last end, or a range starts there
-  pub boundary-starts : (from : ℕ) (xs : List A) (to : ℕ) (at : ℕ) → IsTiling base size from xs to → IsTilingBoundary size from xs at → (at ≡ to) ⊎ ((r : A) × (find (λ x. base x == at) xs ≡ Some r))
-  boundary-starts from [] to at tiles is = inl (is ∙ tiles)
-  boundary-starts from (x ∷ xs) to at tiles is = ⊎_elim
+  pub boundary-last_end_or_start : (from : ℕ) (xs : List A) (to : ℕ) (at : ℕ) → IsTiling base size from xs to → IsTilingBoundary size from xs at → (at ≡ to) ⊎ ((r : A) × (find (λ x. base x == at) xs ≡ Some r))
+  boundary-last_end_or_start from [] to at tiles is = inl (is ∙ tiles)
+  boundary-last_end_or_start from (x ∷ xs) to at tiles is = ⊎_elim
       (λ here. inr (x, ap (λ b. cond b (Some x) (find (λ y. base y == at) xs)) (eq-eqb (base x) at (tiles.0 ∙ sym here))))
-      (λ rest. ⊎_elim inl (λ found. inr (by_test (base x == at) found)) (boundary-starts (from + size x) xs to at tiles.1 rest)) is
+      (λ rest. ⊎_elim inl (λ found. inr (by_test (base x == at) found)) (boundary-last_end_or_start (from + size x) xs to at tiles.1 rest)) is
     where
       by_test : (b : Bool) → (r : A) × (find (λ y. base y == at) xs ≡ Some r) → (r : A) × (cond b (Some x) (find (λ y. base y == at) xs) ≡ Some r)
       by_test true found = (x, refl)

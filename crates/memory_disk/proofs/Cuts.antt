@@ -20,10 +20,10 @@ IsTorn-none at old new torn =
     sym (take-append-drop at new) ∙ ap (λ (front : List ℕ). front ++ drop at new) torn.before ∙ ap (λ (back : List ℕ). take at old ++ back) after ∙ take-append-drop at old
 
 -- a write that was torn by a pick of no more than its length: so many of its first bytes
-pub put-front : (at left landed rest noisy : ℕ) (bytes old placed new : List ℕ) → left ≤ length bytes
+pub picked_torn-put_front : (at left landed rest noisy : ℕ) (bytes old placed new : List ℕ) → left ≤ length bytes
     → landed ≡ left % (length bytes + 1) → rest ≡ left / (length bytes + 1) → noisy ≡ rest % (landed + 1)
     → placed ≡ put at (take landed bytes) old → IsTorn at noisy placed new → new ≡ put at (take left bytes) old
-put-front at left landed rest noisy bytes old placed new few landed_is rest_is noisy_is placed_is torn =
+picked_torn-put_front at left landed rest noisy bytes old placed new few landed_is rest_is noisy_is placed_is torn =
     let below : left < length bytes + 1 = omega (arith, few) in
     let all : landed ≡ left = landed_is ∙ mod-eq_of_lt below in
     let quiet : noisy ≡ 0 = noisy_is ∙ ap (λ (n : ℕ). n % (landed + 1)) (rest_is ∙ div-eq_of_lt below) ∙ zero-mod (landed + 1) in

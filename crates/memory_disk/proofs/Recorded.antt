@@ -57,8 +57,8 @@ module _ (first held log : List ℕ) (steps later : List Step) (room written_cou
   }
 
 -- the same of what contracts see of the fields
-pub state-more : (fields now : DiskState) (history : List Event) (event : Event) (cost count : ℕ) → fields ≡ now → history ≡ event ∷ fields.history
+pub state-push_event : (fields now : DiskState) (history : List Event) (event : Event) (cost count : ℕ) → fields ≡ now → history ≡ event ∷ fields.history
     → record fields { history = history; room = fields.room - cost; written_count = fields.written_count + count }
     ≡ record now { history = event ∷ now.history; room = now.room - cost; written_count = now.written_count + count }
-state-more fields now history event cost count same history_is =
+state-push_event fields now history event cost count same history_is =
     rw history_is (ap (λ (d : DiskState). record d { history = event ∷ d.history; room = d.room - cost; written_count = d.written_count + count }) same)

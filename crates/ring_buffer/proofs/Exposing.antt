@@ -30,8 +30,8 @@ pub record Exposes (first seat : Seat) (at : ℕ) : Type 0 where
   pub grows : (view_of first).seen.exposed ≤ at
 
 -- a call that is a mark's
-pub HasMarked-call : (view : View) (after : After) → view.call ≡ Marked after → HasMarked view
-HasMarked-call view after is = is ∙ sym (ap (λ call. Marked (follow_up call)) is)
+pub HasMarked-marked_call : (view : View) (after : After) → view.call ≡ Marked after → HasMarked view
+HasMarked-marked_call view after is = is ∙ sym (ap (λ call. Marked (follow_up call)) is)
 
 -- after the look at exposed
 module _ (first seat : Seat) (at : ℕ) (becomes : Becomes first seat (saw_exposed at (view_of first))) where

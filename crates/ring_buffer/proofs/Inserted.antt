@@ -36,8 +36,8 @@ module _ (placed filled done last : Seat) (units : List ℕ) (steps : ℕ)
     done-is : view_of done ≡ marked (view_of filled)
     done-is = ap (λ me. me.0) marks.me
 
-    pub same-inserted : (view_of placed).seen.steps ≤ steps → IsSameWorker placed last
-    same-inserted later =
+    pub IsSameWorker-inserted : (view_of placed).seen.steps ≤ steps → IsSameWorker placed last
+    IsSameWorker-inserted later =
         IsSameWorker-trans placed filled last
         (IsSameWorker-becomes placed filled (with_units units steps (view_of placed)) fills record {
           constants = refl;
@@ -63,18 +63,18 @@ module _ (placed filled done last : Seat) (units : List ℕ) (steps : ℕ)
         stays.entries ∙ (ap (λ (v : View). v.entries) done-is
         ∙ ((λ i. (filled-is i).entries ++ run_in (filled-is i).call) ∙ ap (λ call. (view_of placed).entries ++ run_in call) filling))
 
-    pub call-inserted : (entry : Entry) → filled_with units (view_of placed).call ≡ Filling entry → (view_of done).call ≡ Marked Nothing
-    call-inserted entry filling =
+    pub call_done-marked_nothing : (entry : Entry) → filled_with units (view_of placed).call ≡ Filling entry → (view_of done).call ≡ Marked Nothing
+    call_done-marked_nothing entry filling =
         ap (λ (v : View). v.call) done-is ∙ ap (λ call. Marked (follow_up call)) ((λ i. (filled-is i).call) ∙ filling)
 
     pub idle-inserted : (entry : Entry) → filled_with units (view_of placed).call ≡ Filling entry → (view_of last).call ≡ Idle
-    idle-inserted entry filling = over.call ∙ ap (λ call. call_after (follow_up call)) (call-inserted entry filling)
+    idle-inserted entry filling = over.call ∙ ap (λ call. call_after (follow_up call)) (call_done-marked_nothing entry filling)
 
-    pub books-inserted : (view_of last).books ≡ (view_of placed).books
-    books-inserted = stays.books ∙ (ap (λ (v : View). v.books) done-is ∙ ap (λ (v : View). v.books) filled-is)
+    pub books_inserted-unchanged : (view_of last).books ≡ (view_of placed).books
+    books_inserted-unchanged = stays.books ∙ (ap (λ (v : View). v.books) done-is ∙ ap (λ (v : View). v.books) filled-is)
 
-    pub stop-inserted : (view_of last).seen.stop ≡ (view_of placed).seen.stop
-    stop-inserted = stays.stop ∙ (ap (λ (v : View). v.seen.stop) done-is ∙ ap (λ (v : View). v.seen.stop) filled-is)
+    pub stop_inserted-unchanged : (view_of last).seen.stop ≡ (view_of placed).seen.stop
+    stop_inserted-unchanged = stays.stop ∙ (ap (λ (v : View). v.seen.stop) done-is ∙ ap (λ (v : View). v.seen.stop) filled-is)
 
-    pub contended-inserted : (view_of last).contended ≡ (view_of placed).contended
-    contended-inserted = stays.contended ∙ (ap (λ (v : View). v.contended) done-is ∙ ap (λ (v : View). v.contended) filled-is)
+    pub contended_inserted-unchanged : (view_of last).contended ≡ (view_of placed).contended
+    contended_inserted-unchanged = stays.contended ∙ (ap (λ (v : View). v.contended) done-is ∙ ap (λ (v : View). v.contended) filled-is)

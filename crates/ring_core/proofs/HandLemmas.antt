@@ -58,12 +58,12 @@ base_in-some Marked base is = absurd (cc)
 base_in-some (Holds at) base is = absurd (cc)
 base_in-some (Raises at) base is = absurd (cc)
 
-pub base_in-none : (stage : Stage) (rs : List Reservation) → base_in stage ≡ None → worked_on stage rs ≡ None
-base_in-none Idle rs is = refl
-base_in-none (Works n) rs is = absurd (cc)
-base_in-none Marked rs is = refl
-base_in-none (Holds at) rs is = refl
-base_in-none (Raises at) rs is = refl
+pub base_in_none-worked_on_none : (stage : Stage) (rs : List Reservation) → base_in stage ≡ None → worked_on stage rs ≡ None
+base_in_none-worked_on_none Idle rs is = refl
+base_in_none-worked_on_none (Works n) rs is = absurd (cc)
+base_in_none-worked_on_none Marked rs is = refl
+base_in_none-worked_on_none (Holds at) rs is = refl
+base_in_none-worked_on_none (Raises at) rs is = refl
 
 pub looks_at-some : (stage : Stage) (place : ℕ) → looks_at stage ≡ Some place → stage ≡ Holds place
 looks_at-some Idle place is = absurd (cc)
@@ -80,27 +80,27 @@ raises_from-some (Holds at) place is = absurd (cc)
 raises_from-some (Raises at) place is = let same : at ≡ place = cc in ap Raises same
 
 -- the actor is a carrier itself
-pub carries-itself : (actor : ℕ) (stage : Stage) (hands : List Hand) (place : ℕ) → IsOnTheWay place stage → HasCarrier (with_stage actor stage hands) place
-carries-itself actor stage hands place is = record { actor = actor; on_the_way = subst (IsOnTheWay place) (sym (stage_of-with_same actor stage hands)) is }
+pub on_the_way-has_carrier : (actor : ℕ) (stage : Stage) (hands : List Hand) (place : ℕ) → IsOnTheWay place stage → HasCarrier (with_stage actor stage hands) place
+on_the_way-has_carrier actor stage hands place is = record { actor = actor; on_the_way = subst (IsOnTheWay place) (sym (stage_of-with_same actor stage hands)) is }
 
 -- a carrier that turns stays one, if it is on the way after it as before
-pub carrier-stays : (actor : ℕ) (stage : Stage) (hands : List Hand) (place : ℕ) → (IsOnTheWay place (stage_of actor hands) → IsOnTheWay place stage) → HasCarrier hands place → HasCarrier (with_stage actor stage hands) place
-carrier-stays actor stage hands place stays c = dite (ℕ_discrete c.actor actor)
-    (λ same. carries-itself actor stage hands place (stays (subst (λ n. IsOnTheWay place (stage_of n hands)) same c.on_the_way)))
+pub has_carrier-with_stage : (actor : ℕ) (stage : Stage) (hands : List Hand) (place : ℕ) → (IsOnTheWay place (stage_of actor hands) → IsOnTheWay place stage) → HasCarrier hands place → HasCarrier (with_stage actor stage hands) place
+has_carrier-with_stage actor stage hands place stays c = dite (ℕ_discrete c.actor actor)
+    (λ same. on_the_way-has_carrier actor stage hands place (stays (subst (λ n. IsOnTheWay place (stage_of n hands)) same c.on_the_way)))
     (λ differ. record { actor = c.actor; on_the_way = subst (IsOnTheWay place) (sym (stage_of-with_other actor c.actor stage hands differ)) c.on_the_way })
 
 -- what is true of a stage in one log is true of it in another that passed no less, and where no mark is gone
-pub true-still : (l l' : RingLog) → ((at : ℕ) → IsLogBoundary l at → IsLogBoundary l' at) → l.exposed ≤ l'.exposed → ((at : ℕ) → is_marked at l.reservations ≡ true → is_marked at l'.reservations ≡ true)
+pub true_hand-more : (l l' : RingLog) → ((at : ℕ) → IsLogBoundary l at → IsLogBoundary l' at) → l.exposed ≤ l'.exposed → ((at : ℕ) → is_marked at l.reservations ≡ true → is_marked at l'.reservations ≡ true)
     → (stage : Stage) → IsTrueHand l stage → IsTrueHand l' stage
-true-still l l' boundary forward marks Idle is = tt
-true-still l l' boundary forward marks (Works base) is = tt
-true-still l l' boundary forward marks Marked is = tt
-true-still l l' boundary forward marks (Holds at) is = record { boundary = boundary at is.boundary; exposed = omega (arith, is.exposed, forward) }
-true-still l l' boundary forward marks (Raises at) is = (record { boundary = boundary at is.0.boundary; exposed = omega (arith, is.0.exposed, forward) }, marks at is.1)
+true_hand-more l l' boundary forward marks Idle is = tt
+true_hand-more l l' boundary forward marks (Works base) is = tt
+true_hand-more l l' boundary forward marks Marked is = tt
+true_hand-more l l' boundary forward marks (Holds at) is = record { boundary = boundary at is.boundary; exposed = omega (arith, is.exposed, forward) }
+true_hand-more l l' boundary forward marks (Raises at) is = (record { boundary = boundary at is.0.boundary; exposed = omega (arith, is.0.exposed, forward) }, marks at is.1)
 
 -- and of all hands, where one actor turns to another stage
-pub hands-still : (l l' : RingLog) (actor : ℕ) (now : Stage) (hands : List Hand) → ((stage : Stage) → IsTrueHand l stage → IsTrueHand l' stage) → IsTrueHand l' now
+pub true_hands-with_stage : (l l' : RingLog) (actor : ℕ) (now : Stage) (hands : List Hand) → ((stage : Stage) → IsTrueHand l stage → IsTrueHand l' stage) → IsTrueHand l' now
     → ((other : ℕ) → IsTrueHand l (stage_of other hands)) → (other : ℕ) → IsTrueHand l' (stage_of other (with_stage actor now hands))
-hands-still l l' actor now hands still mine old other = dite (ℕ_discrete other actor)
+true_hands-with_stage l l' actor now hands still mine old other = dite (ℕ_discrete other actor)
     (λ same. subst (λ n. IsTrueHand l' (stage_of n (with_stage actor now hands))) (sym same) (subst (IsTrueHand l') (sym (stage_of-with_same actor now hands)) mine))
     (λ differ. subst (IsTrueHand l') (sym (stage_of-with_other actor other now hands differ)) (still (stage_of other hands) (old other)))

@@ -3,10 +3,10 @@ use Rattle.std.proofs.Common.{◌≡◌, ◌≢◌, ◌⊎◌, ⊎_elim, ℕ, �
 use Rattle.std.specs.List.{AllByRecursion, find}
 use Rattle.std.specs.Option.{IsSomeAnd, option_map, option_map_or}
 use Rattle.lsn_space.specs.declared.lsn.TheConstants.{LAST}
-use Rattle.lsn_space.proofs.TilingLemmas.{found-has, find-none, all-weaker, all-both, all-map, all-push, tiling-push, tiling-map, tiling-within, boundary-push, boundary-map, boundary-end}
+use Rattle.lsn_space.proofs.TilingLemmas.{all-found, find-append_unfound, all-weaken, all-both, all-map, all-push, tiling-push, tiling-map, tiling-within, boundary-push, boundary-map, boundary-end_of_found}
 use Rattle.ring_core.specs.RingLog.{Reservation, RingLog, base_of, size_of, is_at, is_marked, end_at, empty_log, fresh, HasRoom, reserved, HasUnfilled, filled_at, filled, IsFull, released_at, marked, raised, MayFlush, flushed}
 use Rattle.ring_core.specs.LogLaws.{IsSoundLog}
-use Rattle.ring_core.proofs.RangeLemmas.{IsBeside, found-beside, found-base, find-changed, all-changed, filled_at-same, filled_at-other, released_at-same, released_at-other, some_and-some}
+use Rattle.ring_core.proofs.RangeLemmas.{IsBeside, found-beside, found-base, find_at-map, all-map_at_found, filled_at-same, filled_at-other, released_at-same, released_at-other, some_and-some}
 
 abbrev IsFullIfMarked : Reservation → Type 0
 IsFullIfMarked r = r.released ≡ true → IsFull r
@@ -18,18 +18,18 @@ IsMarkedBelow exposed r = r.base < exposed → r.released ≡ true
 exposed-filled : (exposed : ℕ) (rs : List Reservation) → AllByRecursion IsFullIfMarked rs → AllByRecursion (IsMarkedBelow exposed) rs → AllByRecursion (λ (r : Reservation). r.base < exposed → IsFull r) rs
 exposed-filled exposed rs full past = all-both _ _ _ rs (λ r f p below. f (p below)) full past
 
-pub besides : (l : RingLog) (base : ℕ) (r : Reservation) → IsSoundLog l → find (is_at base) l.reservations ≡ Some r → AllByRecursion (λ q. (q ≡ r) ⊎ IsBeside r q) l.reservations
-besides l base r sound is = found-beside l.start l.tail (l.ring / 4) base l.reservations r sound.tiles sound.sizes is
+pub sound_log-found_beside : (l : RingLog) (base : ℕ) (r : Reservation) → IsSoundLog l → find (is_at base) l.reservations ≡ Some r → AllByRecursion (λ q. (q ≡ r) ⊎ IsBeside r q) l.reservations
+sound_log-found_beside l base r sound is = found-beside l.start l.tail (l.ring / 4) base l.reservations r sound.tiles sound.sizes is
 
 -- each base lies below the tail
-pub bases-below : (l : RingLog) → IsSoundLog l → AllByRecursion (λ (r : Reservation). r.base < l.tail) l.reservations
-bases-below l sound = all-both _ _ _ l.reservations (λ r within size. omega (arith, within.1, size.0))
+pub bases-below_tail : (l : RingLog) → IsSoundLog l → AllByRecursion (λ (r : Reservation). r.base < l.tail) l.reservations
+bases-below_tail l sound = all-both _ _ _ l.reservations (λ r within size. omega (arith, within.1, size.0))
     (tiling-within base_of size_of l.start l.reservations l.tail sound.tiles) sound.sizes
 
 -- the new reservation is found at the tail
-pub tail-found : (l : RingLog) (n : ℕ) → IsSoundLog l → find (is_at l.tail) (l.reservations ++ fresh l.tail n ∷ []) ≡ Some (fresh l.tail n)
-tail-found l n sound = find-none (is_at l.tail) l.reservations (fresh l.tail n ∷ [])
-    (all-weaker _ _ l.reservations (λ r below. ne_eqb r.base l.tail (λ e. omega (arith, below))) (bases-below l sound))
+pub fresh-found_at_tail : (l : RingLog) (n : ℕ) → IsSoundLog l → find (is_at l.tail) (l.reservations ++ fresh l.tail n ∷ []) ≡ Some (fresh l.tail n)
+fresh-found_at_tail l n sound = find-append_unfound (is_at l.tail) l.reservations (fresh l.tail n ∷ [])
+    (all-weaken _ _ l.reservations (λ r below. ne_eqb r.base l.tail (λ e. omega (arith, below))) (bases-below_tail l sound))
     ∙ ap (λ b. cond b (Some (fresh l.tail n)) None) (eq-eqb l.tail l.tail refl)
 
 -- a marked place has a reservation
@@ -41,11 +41,11 @@ marked-found place rs is = by_found (find (is_at place) rs) refl is
     by_found (Some r) found is = (r, found, is)
 
 -- where a reservation is found, it says whether the place is marked
-pub found-marked : (place : ℕ) (rs : List Reservation) (r : Reservation) → find (is_at place) rs ≡ Some r → is_marked place rs ≡ r.released
-found-marked place rs r is = ap (λ o. option_map_or (λ (q : Reservation). q.released) o false) is
+pub found-marked_if_released : (place : ℕ) (rs : List Reservation) (r : Reservation) → find (is_at place) rs ≡ Some r → is_marked place rs ≡ r.released
+found-marked_if_released place rs r is = ap (λ o. option_map_or (λ (q : Reservation). q.released) o false) is
 
-pub found-end : (base : ℕ) (rs : List Reservation) (r : Reservation) → find (is_at base) rs ≡ Some r → end_at base rs ≡ r.base + r.size
-found-end base rs r is = ap (λ o. option_map_or (λ (q : Reservation). q.base + q.size) o base) is
+pub end_at-found : (base : ℕ) (rs : List Reservation) (r : Reservation) → find (is_at base) rs ≡ Some r → end_at base rs ≡ r.base + r.size
+end_at-found base rs r is = ap (λ o. option_map_or (λ (q : Reservation). q.base + q.size) o base) is
 
 pub empty-sound : (start ring : ℕ) → start ≤ LAST → IsSoundLog (empty_log start ring)
 empty-sound start ring within = record {
@@ -88,7 +88,7 @@ pub unfilled-open : (l : RingLog) (base : ℕ) (r : Reservation) → IsSoundLog 
 unfilled-open l base r sound is unfilled = by_flag r.released refl
   where
     by_flag : (b : Bool) → r.released ≡ b → b ≡ false
-    by_flag true flag = let full : IsFull r = found-has IsFullIfMarked (is_at base) l.reservations r is sound.full flag in absurd (omega (arith, full, unfilled))
+    by_flag true flag = let full : IsFull r = all-found IsFullIfMarked (is_at base) l.reservations r is sound.full flag in absurd (omega (arith, full, unfilled))
     by_flag false flag = refl
 
 module _ (l : RingLog) (base : ℕ) (r : Reservation) (sound : IsSoundLog l) (is : find (is_at base) l.reservations ≡ Some r) where
@@ -96,7 +96,7 @@ module _ (l : RingLog) (base : ℕ) (r : Reservation) (sound : IsSoundLog l) (is
   at-base = found-base base l.reservations r is
 
   beside : AllByRecursion (λ q. (q ≡ r) ⊎ IsBeside r q) l.reservations
-  beside = besides l base r sound is
+  beside = sound_log-found_beside l base r sound is
 
   differs : (q : Reservation) → IsBeside r q → q.base ≢ base
   differs q side same = side.differs (same ∙ sym at-base)
@@ -104,14 +104,14 @@ module _ (l : RingLog) (base : ℕ) (r : Reservation) (sound : IsSoundLog l) (is
   fills : HasUnfilled r → IsSoundLog (filled l base)
   fills unfilled =
       let open' = unfilled-open l base r sound is unfilled in
-      let full = all-changed IsFullIfMarked IsFullIfMarked (filled_at base) l.reservations r beside
+      let full = all-map_at_found IsFullIfMarked IsFullIfMarked (filled_at base) l.reservations r beside
       (λ closed. absurd (true≢false (sym closed ∙ open')))
       (λ q side h. subst IsFullIfMarked (sym (filled_at-other base q (differs q side))) h) sound.full in
       let past = all-map (IsMarkedBelow l.exposed) (filled_at base) l.reservations sound.past in
       record {
         tiles = tiling-map base_of size_of (filled_at base) l.start l.reservations l.tail (λ q. refl) (λ q. refl) sound.tiles;
         sizes = all-map _ (filled_at base) l.reservations sound.sizes;
-        counted = all-changed (λ q. q.filled ≤ q.size) (λ q. q.filled ≤ q.size) (filled_at base) l.reservations r beside
+        counted = all-map_at_found (λ q. q.filled ≤ q.size) (λ q. q.filled ≤ q.size) (filled_at base) l.reservations r beside
             (subst (λ q. q.filled ≤ q.size) (sym (filled_at-same base r at-base)) (omega (arith, unfilled)))
             (λ q side h. subst (λ z. z.filled ≤ z.size) (sym (filled_at-other base q (differs q side))) h) sound.counted;
         full = full;
@@ -127,9 +127,9 @@ module _ (l : RingLog) (base : ℕ) (r : Reservation) (sound : IsSoundLog l) (is
 
   marks : IsFull r → IsSoundLog (marked l base)
   marks is_full =
-      let full = all-changed IsFullIfMarked IsFullIfMarked (released_at base) l.reservations r beside
+      let full = all-map_at_found IsFullIfMarked IsFullIfMarked (released_at base) l.reservations r beside
       (λ _. is_full) (λ q side h. subst IsFullIfMarked (sym (released_at-other base q (differs q side))) h) sound.full in
-      let past = all-changed (IsMarkedBelow l.exposed) (IsMarkedBelow l.exposed) (released_at base) l.reservations r beside
+      let past = all-map_at_found (IsMarkedBelow l.exposed) (IsMarkedBelow l.exposed) (released_at base) l.reservations r beside
       (λ _. ap (λ (q : Reservation). q.released) (released_at-same base r at-base))
       (λ q side h. subst (IsMarkedBelow l.exposed) (sym (released_at-other base q (differs q side))) h) sound.past in
       record {
@@ -149,7 +149,7 @@ module _ (l : RingLog) (base : ℕ) (r : Reservation) (sound : IsSoundLog l) (is
 
   raises : r.released ≡ true → l.exposed ≡ base → IsSoundLog (record l { exposed = r.base + r.size })
   raises closed here =
-      let within = found-has _ (is_at base) l.reservations r is (tiling-within base_of size_of l.start l.reservations l.tail sound.tiles) in
+      let within = all-found _ (is_at base) l.reservations r is (tiling-within base_of size_of l.start l.reservations l.tail sound.tiles) in
       let past = all-both _ _ (IsMarkedBelow (r.base + r.size)) l.reservations
       (λ q side old below. ⊎_elim (λ same. ap (λ (z : Reservation). z.released) same ∙ closed)
       (λ beside. ⊎_elim (λ before. old (omega (arith, before, here, at-base))) (λ behind. absurd (omega (arith, below, behind))) beside.side) side)
@@ -166,7 +166,7 @@ module _ (l : RingLog) (base : ℕ) (r : Reservation) (sound : IsSoundLog l) (is
         within_ring = sound.within_ring;
         within_log = sound.within_log;
         durable_boundary = sound.durable_boundary;
-        exposed_boundary = boundary-end base_of size_of l.start l.reservations l.tail (is_at base) r sound.tiles is;
+        exposed_boundary = boundary-end_of_found base_of size_of l.start l.reservations l.tail (is_at base) r sound.tiles is;
       }
 
 pub filled-sound : (l : RingLog) (base : ℕ) → IsSoundLog l → IsSomeAnd (find (is_at base) l.reservations) HasUnfilled → IsSoundLog (filled l base)
@@ -180,7 +180,7 @@ raised-sound l base sound is = by_test (l.exposed == base) refl
   where
     by_test : (b : Bool) → (l.exposed == base) ≡ b → IsSoundLog (record l { exposed = cond b (end_at base l.reservations) l.exposed })
     by_test true here = let found = marked-found base l.reservations is in
-        subst (λ n. IsSoundLog (record l { exposed = n })) (sym (found-end base l.reservations found.0 found.1))
+        subst (λ n. IsSoundLog (record l { exposed = n })) (sym (end_at-found base l.reservations found.0 found.1))
         (raises l base found.0 sound found.1 found.2 (eqb-true l.exposed base here))
     by_test false moved = sound
 
@@ -191,7 +191,7 @@ raised-forward l base sound is = by_test (l.exposed == base) refl
     by_test : (b : Bool) → (l.exposed == base) ≡ b → l.exposed ≤ cond b (end_at base l.reservations) l.exposed
     by_test true here =
         let found = marked-found base l.reservations is in
-        let ends = found-end base l.reservations found.0 found.1 in
+        let ends = end_at-found base l.reservations found.0 found.1 in
         let starts = found-base base l.reservations found.0 found.1 in
         let same = eqb-true l.exposed base here in omega (arith, ends, starts, same)
     by_test false moved = le_refl _
@@ -213,13 +213,13 @@ flushed-sound l to sound may = record {
 }
 
 -- a fresh reservation marks nothing
-pub marked-reserved : (place base n : ℕ) (rs : List Reservation) → is_marked place (rs ++ fresh base n ∷ []) ≡ is_marked place rs
-marked-reserved place base n [] = by_test (base == place)
+pub is_marked-append_fresh : (place base n : ℕ) (rs : List Reservation) → is_marked place (rs ++ fresh base n ∷ []) ≡ is_marked place rs
+is_marked-append_fresh place base n [] = by_test (base == place)
   where
     by_test : (b : Bool) → option_map_or (λ (r : Reservation). r.released) (cond b (Some (fresh base n)) None) false ≡ false
     by_test true = refl
     by_test false = refl
-marked-reserved place base n (r ∷ rs) = by_test (r.base == place) (marked-reserved place base n rs)
+is_marked-append_fresh place base n (r ∷ rs) = by_test (r.base == place) (is_marked-append_fresh place base n rs)
   where
     by_test : (b : Bool) → is_marked place (rs ++ fresh base n ∷ []) ≡ is_marked place rs
         → option_map_or (λ (q : Reservation). q.released) (cond b (Some r) (find (is_at place) (rs ++ fresh base n ∷ []))) false ≡ option_map_or (λ (q : Reservation). q.released) (cond b (Some r) (find (is_at place) rs)) false
@@ -227,19 +227,19 @@ marked-reserved place base n (r ∷ rs) = by_test (r.base == place) (marked-rese
     by_test false rest = rest
 
 -- nor does a unit that is filled
-pub marked-filled : (place base : ℕ) (rs : List Reservation) → is_marked place (map (filled_at base) rs) ≡ is_marked place rs
-marked-filled place base rs = ap (λ o. option_map_or (λ (r : Reservation). r.released) o false) (find-changed (filled_at base) place rs (λ q. refl)) ∙ by_found (find (is_at place) rs)
+pub is_marked-filled_at : (place base : ℕ) (rs : List Reservation) → is_marked place (map (filled_at base) rs) ≡ is_marked place rs
+is_marked-filled_at place base rs = ap (λ o. option_map_or (λ (r : Reservation). r.released) o false) (find_at-map (filled_at base) place rs (λ q. refl)) ∙ by_found (find (is_at place) rs)
   where
     by_found : (o : Option Reservation) → option_map_or (λ (r : Reservation). r.released) (option_map (filled_at base) o) false ≡ option_map_or (λ (r : Reservation). r.released) o false
     by_found None = refl
     by_found (Some r) = refl
 
 -- no mark is ever taken away
-pub marked-still : (place base : ℕ) (rs : List Reservation) → is_marked place rs ≡ true → is_marked place (map (released_at base) rs) ≡ true
-marked-still place base rs is =
+pub is_marked-released_at : (place base : ℕ) (rs : List Reservation) → is_marked place rs ≡ true → is_marked place (map (released_at base) rs) ≡ true
+is_marked-released_at place base rs is =
     let found = marked-found place rs is in
-    found-marked place (map (released_at base) rs) (released_at base found.0)
-    (find-changed (released_at base) place rs (λ q. refl) ∙ ap (option_map (released_at base)) found.1)
+    found-marked_if_released place (map (released_at base) rs) (released_at base found.0)
+    (find_at-map (released_at base) place rs (λ q. refl) ∙ ap (option_map (released_at base)) found.1)
     ∙ by_test (found.0.base == base) found.0.released found.2
   where
     by_test : (b released : Bool) → released ≡ true → cond b true released ≡ true

@@ -8,7 +8,7 @@ use Rattle.lsn_space.specs.declared.lsn.TheConstants.{LAST}
 use Rattle.lsn_space.proofs.TilingLemmas.{tiling-within}
 use Rattle.ring_core.specs.RingLog.{base_of, size_of, Reservation, RingLog, is_at, HasUnfilled, filled_at, filled, IsFull, released_at, marked}
 use Rattle.ring_core.specs.LogLaws.{IsSoundLog}
-use Rattle.ring_core.proofs.LookupLemmas.{map-at_base, slice_get-has}
+use Rattle.ring_core.proofs.LookupLemmas.{map_at_base-set, slice_get-all}
 use Rattle.ring_core.proofs.LogKeeping.{filled-sound, marked-sound}
 use Rattle.ring_core.proofs.RangeLemmas.{found-base, filled_at-same, filled_at-other, released_at-same, released_at-other}
 
@@ -23,22 +23,22 @@ module _ (now l : RingLog) (is : l ≡ now) (sound : IsSoundLog l) (base at : �
   there : slice_get l.reservations at ≡ Some r
   there = slice_get_read l.reservations (length l.reservations) at r refl (subst (λ z. at < length z.reservations) (sym is) within) read
 
-  pub found-is : find (is_at base) now.reservations ≡ Some r
-  found-is = found ∙ subst (λ z. slice_get z.reservations at ≡ Some r) is there
+  pub read-found_at_base : find (is_at base) now.reservations ≡ Some r
+  read-found_at_base = found ∙ subst (λ z. slice_get z.reservations at ≡ Some r) is there
 
   at-base : r.base ≡ base
-  at-base = found-base base now.reservations r found-is
+  at-base = found-base base now.reservations r read-found_at_base
 
   written : (f : Reservation → Reservation) → ((q : Reservation) → q.base ≢ base → f q ≡ q) → (r' : Reservation) → r' ≡ f r → set l.reservations at r' ≡ map f now.reservations
   written f others r' same = ap (set l.reservations at) same
-      ∙ sym (map-at_base l.start l.tail _ f l.reservations at r sound.tiles sound.sizes there (λ q differs. others q (λ e. differs (e ∙ sym at-base))))
+      ∙ sym (map_at_base-set l.start l.tail _ f l.reservations at r sound.tiles sound.sizes there (λ q differs. others q (λ e. differs (e ∙ sym at-base))))
       ∙ ap (λ (z : RingLog). map f z.reservations) is
 
   -- what is true of the one read is true of the one at the base
-  pub tells : (P : Reservation → Type 0) (b : Bool) → IsTrue b ↔ P r → IsTrue b ↔ IsSomeAnd (find (is_at base) now.reservations) P
-  tells P b is_so = (
-    (λ yes. subst (λ o. IsSomeAnd o P) (sym found-is) (is_so.0 yes)),
-    (λ has. is_so.1 (subst (λ o. IsSomeAnd o P) found-is has)),
+  pub read_decided-found_decided : (P : Reservation → Type 0) (b : Bool) → IsTrue b ↔ P r → IsTrue b ↔ IsSomeAnd (find (is_at base) now.reservations) P
+  read_decided-found_decided P b is_so = (
+    (λ yes. subst (λ o. IsSomeAnd o P) (sym read-found_at_base) (is_so.0 yes)),
+    (λ has. is_so.1 (subst (λ o. IsSomeAnd o P) read-found_at_base has)),
   )
 
   pub writes-filled : (b : Bool) (r' : Reservation) → OnTrue b (r' ≡ record r { filled = r.filled + 1 }) → OnTrue b (record l { reservations = set l.reservations at r' } ≡ filled now base)
@@ -54,8 +54,8 @@ module _ (now l : RingLog) (is : l ≡ now) (sound : IsSoundLog l) (base at : �
   writes-nothing false r' same = (λ i. record l { reservations = (ap (set l.reservations at) same ∙ set-itself l.reservations at r there) i }) ∙ is
 
   -- the end lies in the log
-  pub end-fits : r.base + r.size ≤ LAST
-  end-fits = let in_log = slice_get-has _ l.reservations at r there (tiling-within base_of size_of l.start l.reservations l.tail sound.tiles) in
+  pub reservation_end-within_log : r.base + r.size ≤ LAST
+  reservation_end-within_log = let in_log = slice_get-all _ l.reservations at r there (tiling-within base_of size_of l.start l.reservations l.tail sound.tiles) in
       omega (arith, in_log.1, sound.within_log)
 
 -- a log that was changed where it may be is sound

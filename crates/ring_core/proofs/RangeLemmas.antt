@@ -3,7 +3,7 @@ use Rattle.std.proofs.Common.{◌≡◌, ◌≢◌, ◌⊎◌, inl, inr, ⊎_eli
 use Rattle.std.specs.List.{AllByRecursion, find}
 use Rattle.std.specs.Option.{IsSomeAnd, option_map}
 use Rattle.lsn_space.specs.Tiling.{IsTiling}
-use Rattle.lsn_space.proofs.TilingLemmas.{found-passes, found-has, find-map, all-both, all-map, tiling-apart}
+use Rattle.lsn_space.proofs.TilingLemmas.{found-passes, all-found, find-map, all-both, all-map, tiling-found_or_apart}
 use Rattle.ring_core.specs.RingLog.{base_of, size_of, Reservation, is_at, filled_at, released_at}
 
 -- q lies before r or behind it
@@ -17,15 +17,15 @@ IsAllowed most r = (1 ≤ r.size) × (r.size ≤ most)
 -- each reservation is the one that is found, or lies beside it
 pub found-beside : (from to most base : ℕ) (rs : List Reservation) (r : Reservation) → IsTiling base_of size_of from rs to → AllByRecursion (IsAllowed most) rs → find (is_at base) rs ≡ Some r → AllByRecursion (λ q. (q ≡ r) ⊎ IsBeside r q) rs
 found-beside from to most base rs r tiles sizes is =
-    let positive = found-has (IsAllowed most) (is_at base) rs r is sizes in all-both _ _ _ rs
+    let positive = all-found (IsAllowed most) (is_at base) rs r is sizes in all-both _ _ _ rs
     (λ q size apart. ⊎_elim inl (λ sides. inr (⊎_elim
     (λ before. record { differs = λ same. omega (arith, size.0); side = inl (omega (arith, size.0)) })
     (λ behind. record { differs = λ same. omega (arith, positive.0); side = inr behind }) sides)) apart)
-    sizes (tiling-apart base_of size_of from rs to (is_at base) r tiles is)
+    sizes (tiling-found_or_apart base_of size_of from rs to (is_at base) r tiles is)
 
 -- the one that is found changes, and those beside it do not
-pub all-changed : (P Q : Reservation → Type 0) (f : Reservation → Reservation) (rs : List Reservation) (r : Reservation) → AllByRecursion (λ q. (q ≡ r) ⊎ IsBeside r q) rs → Q (f r) → ((q : Reservation) → IsBeside r q → P q → Q (f q)) → AllByRecursion P rs → AllByRecursion Q (map f rs)
-all-changed P Q f rs r besides now others all = all-map Q f rs (all-both _ _ _ rs
+pub all-map_at_found : (P Q : Reservation → Type 0) (f : Reservation → Reservation) (rs : List Reservation) (r : Reservation) → AllByRecursion (λ q. (q ≡ r) ⊎ IsBeside r q) rs → Q (f r) → ((q : Reservation) → IsBeside r q → P q → Q (f q)) → AllByRecursion P rs → AllByRecursion Q (map f rs)
+all-map_at_found P Q f rs r besides now others all = all-map Q f rs (all-both _ _ _ rs
     (λ q beside p. ⊎_elim (λ same. subst (λ z. Q (f z)) (sym same) now) (λ side. others q side p) beside) besides all)
 
 pub filled_at-same : (base : ℕ) (q : Reservation) → q.base ≡ base → filled_at base q ≡ record q { filled = q.filled + 1 }
@@ -53,5 +53,5 @@ pub found-base : (base : ℕ) (rs : List Reservation) (r : Reservation) → find
 found-base base rs r is = eqb-true r.base base (found-passes (is_at base) rs r is)
 
 -- what is found at a place, after a change of one reservation that leaves its base
-pub find-changed : (f : Reservation → Reservation) (place : ℕ) (rs : List Reservation) → ((q : Reservation) → (f q).base ≡ q.base) → find (is_at place) (map f rs) ≡ option_map f (find (is_at place) rs)
-find-changed f place rs bases = find-map (is_at place) f rs (λ q i. bases q i == place)
+pub find_at-map : (f : Reservation → Reservation) (place : ℕ) (rs : List Reservation) → ((q : Reservation) → (f q).base ≡ q.base) → find (is_at place) (map f rs) ≡ option_map f (find (is_at place) rs)
+find_at-map f place rs bases = find-map (is_at place) f rs (λ q i. bases q i == place)

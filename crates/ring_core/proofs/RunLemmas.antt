@@ -8,7 +8,7 @@ use Rattle.ring_core.specs.RingLog.{Reservation, RingLog, is_at, is_marked, HasU
 use Rattle.ring_core.specs.State.{Stage, Idle, Works, Marked, Holds, Raises, Hand, RingState, log_of, state, stage_of, with_stage, base_in, looks_at, raises_from, after_look, worked_on, in_hand}
 use Rattle.ring_core.specs.Machine.{MayReserve, after_reserve, after_fill, after_mark, after_look_mark, after_raise, RingStep}
 use Rattle.ring_core.specs.Laws.{IsTrueHand, IsSound}
-use Rattle.ring_core.proofs.HandLemmas.{base_in-some, base_in-none, raises_from-some}
+use Rattle.ring_core.proofs.HandLemmas.{base_in-some, base_in_none-worked_on_none, raises_from-some}
 use Rattle.ring_core.proofs.RangeLemmas.{found-base, some_and-some}
 
 -- the actor works on the reservation at a base
@@ -56,13 +56,13 @@ module _ (now s : RingState) (is : s ≡ now) (actor base : ℕ) (works : base_i
 -- an actor that works on nothing neither fills nor marks
 module _ (now : RingState) (actor : ℕ) (nothing : base_in (stage_of actor now.hands) ≡ None) where
   none-in_hand : in_hand now actor ≡ None
-  none-in_hand = base_in-none (stage_of actor now.hands) now.reservations nothing
+  none-in_hand = base_in_none-worked_on_none (stage_of actor now.hands) now.reservations nothing
 
-  pub fill-none : RingStep now (Fill actor) false now
-  fill-none = ((λ enabled. subst (λ o. IsSomeAnd o HasUnfilled) none-in_hand enabled), refl)
+  pub fill_none-refused : RingStep now (Fill actor) false now
+  fill_none-refused = ((λ enabled. subst (λ o. IsSomeAnd o HasUnfilled) none-in_hand enabled), refl)
 
-  pub mark-none : RingStep now (Mark actor) false now
-  mark-none = ((λ enabled. subst (λ o. IsSomeAnd o IsFull) none-in_hand enabled), refl)
+  pub mark_none-refused : RingStep now (Mark actor) false now
+  mark_none-refused = ((λ enabled. subst (λ o. IsSomeAnd o IsFull) none-in_hand enabled), refl)
 
 pub look_exposed-step : (now s : RingState) (is : s ≡ now) (actor at : ℕ) → stage_of actor s.hands ≡ Marked → at ≡ s.exposed → (hands : List Hand) → hands ≡ with_stage actor (Holds at) s.hands
     → RingStep now (LookExposed actor) true (state (log_of s) hands)
@@ -74,8 +74,8 @@ look_exposed-step now s is actor at mark here hands turned = subst (λ z. RingSt
 is_some-none : {o : Option ℕ} → o ≡ None → ¬ IsSome o
 is_some-none none is = true≢false (sym is ∙ ap is_some none)
 
-pub look_mark-none : (now : RingState) (actor : ℕ) → looks_at (stage_of actor now.hands) ≡ None → RingStep now (LookMark actor) false now
-look_mark-none now actor nothing = (is_some-none nothing, refl)
+pub look_mark_none-refused : (now : RingState) (actor : ℕ) → looks_at (stage_of actor now.hands) ≡ None → RingStep now (LookMark actor) false now
+look_mark_none-refused now actor nothing = (is_some-none nothing, refl)
 
 pub look_mark-step : (now s : RingState) (is : s ≡ now) (actor at : ℕ) → looks_at (stage_of actor s.hands) ≡ Some at → (stage : Stage) → stage ≡ after_look at (is_marked at s.reservations)
     → (hands : List Hand) → hands ≡ with_stage actor stage s.hands → RingStep now (LookMark actor) true (state (log_of s) hands)
@@ -84,8 +84,8 @@ look_mark-step now s is actor at looks stage after hands turned = subst (λ z. R
   ap (state (log_of s)) turned ∙ ap (λ st. state (log_of s) (with_stage actor st s.hands)) after ∙ ap (after_look_mark s actor) (sym looks),
 )
 
-pub raise-none : (now : RingState) (actor : ℕ) → raises_from (stage_of actor now.hands) ≡ None → RingStep now (Raise actor) false now
-raise-none now actor nothing = (is_some-none nothing, refl)
+pub raise_none-refused : (now : RingState) (actor : ℕ) → raises_from (stage_of actor now.hands) ≡ None → RingStep now (Raise actor) false now
+raise_none-refused now actor nothing = (is_some-none nothing, refl)
 
 pub raise-step : (now s : RingState) (is : s ≡ now) (actor from at : ℕ) → raises_from (stage_of actor s.hands) ≡ Some from → (l : RingLog) → l ≡ raised (log_of s) from → at ≡ l.exposed
     → (hands : List Hand) → hands ≡ with_stage actor (Holds at) s.hands → RingStep now (Raise actor) true (state l hands)

@@ -13,7 +13,7 @@ use Rattle.segment_file.specs.PackedBatch.{BatchState}
 use Rattle.segment_file.specs.declared.layout.TheConstants.{OPEN}
 use Rattle.segment_file.specs.declared.scan_result.Tail.{Tail}
 use Rattle.segment_cut.specs.Calls.{AddsCut, IsOnDisk}
-use Rattle.segment_cut.proofs.Behind.{added, behind-first, torn-no_log}
+use Rattle.segment_cut.proofs.Behind.{added, underway-tail_positive, torn-no_log}
 
 module _ {D T E : Type 0} (g : Ghosts D) (tail : Tail) (given left : BatchState) (old new : D)
     (image : g.honest old → g.images old (g.reads old))
@@ -22,7 +22,7 @@ module _ {D T E : Type 0} (g : Ghosts D) (tail : Tail) (given left : BatchState)
   no-log-since : g.honest old → Leaves g.moment g.images_since (λ c. BeginsAsLog c → ⊥) old new
   no-log-since honest =
       let was = underway honest in
-      let behind = behind-first tail was.0 was.1 _ _ (image honest) was.2 in
+      let behind = underway-tail_positive tail was.0 was.1 _ _ (image honest) was.2 in
       Leaves-weaken g.moment g.images_since _ _ old new (torn-no_log tail.at _ _ was.2.shut behind) wrote.moments
 
   adds-by : {F : Type 0} (answer : Result Tail F) → HasCause (g.faults old) (g.faults new) answer
@@ -52,11 +52,11 @@ module _ {D T E : Type 0} (g : Ghosts D) (tail : Tail) (given left : BatchState)
       (λ honest. rw is tt) (rw is tt) (rw is tt)
 
   -- it succeeded
-  pub adds-then : IsCountedBatch given.units → tail.next + length given.units ≤ LAST
+  pub adds-succeeded : IsCountedBatch given.units → tail.next + length given.units ≤ LAST
       → (g.honest old → g.reads new ≡ put tail.at (OPEN ∷ sealed given.units) (g.reads old)) → g.faults new ≡ g.faults old
       → {F : Type 0} (answer : Result Tail F) (end : Tail) → answer ≡ Ok end → end.at ≡ tail.at + (5 + 8 * length given.units)
       → end.next ≡ tail.next + length given.units → AddsCut g tail given left old new answer
-  adds-then counted fits written same answer end is at next =
+  adds-succeeded counted fits written same answer end is at next =
       let place : end.at ≡ tail.at + 5 + 8 * length given.units = omega (arith, at) in
       adds-by answer (rw is (record { later = wrote.cause.later; fine = same; failed = tt }))
       (λ honest. rw is (λ log batches was.

@@ -6,7 +6,7 @@ use Rattle.log_disk.specs.Faults.{raised, Rose}
 use Rattle.log_disk.specs.Lengths.{GrowsAtMostTo}
 use Rattle.log_disk.specs.declared.disk.LogDisk.{Ghosts}
 use Rattle.log_disk.proofs.Moments.{Leaves-trans, Leaves-weaken}
-use Rattle.log_disk.proofs.Uses.{Uses-then}
+use Rattle.log_disk.proofs.Uses.{Uses-trans}
 use Rattle.lsn_space.specs.Opening.{IsSnapshot, Opening}
 use Rattle.segment_head.specs.Head.{sealed_head}
 use Rattle.segment_file.specs.Calls.{WritesUnsynced}
@@ -20,7 +20,7 @@ use Rattle.segment_cut.specs.Calls.{BeginsCut}
 use Rattle.segment_cut.specs.Underway.{IsUnderway}
 use Rattle.segment_cut.proofs.Behind.{begun, torn-no_log}
 use Rattle.segment_cut.proofs.CallUses.{closes-uses, uses-done, uses-failed}
-use Rattle.segment_cut.proofs.Headed.{length-sealed}
+use Rattle.segment_cut.proofs.Headed.{length-sealed_head}
 
 -- what a call that begins a cut does, by what it uses of the disk
 begins-by : {D E : Type 0} (g : Ghosts D) (head : Opening) (old new : D) (answer : Result Tail E) → Uses g 3 4 old new answer
@@ -49,9 +49,9 @@ module _ {D T E : Type 0} (g : Ghosts D) (head : Opening) (old mid : D) (first :
   closed-no_log honest = Leaves-weaken g.moment g.images_since _ _ old mid (stays-no_log _) (closes.moments honest)
 
   -- the gate wasn't closed
-  pub begins-failed : Rose (g.faults old) (g.faults mid) → {F : Type 0} (answer : Result Tail F) (fault : F) → answer ≡ Err fault
+  pub begins-close_failed : Rose (g.faults old) (g.faults mid) → {F : Type 0} (answer : Result Tail F) (fault : F) → answer ≡ Err fault
       → BeginsCut g head old mid answer
-  begins-failed rose answer fault is =
+  begins-close_failed rose answer fault is =
       let closed = closes-uses g 0 old mid first closes in
       let uses = uses-failed g 2 3 3 4 old mid first (omega arith) (omega arith) closed rose answer fault is in
       begins-by g head old mid answer uses closed-no_log (λ honest. rw is tt) (rw is tt) (rw is tt) (rw is tt)
@@ -67,10 +67,10 @@ module _ {D T E : Type 0} (g : Ghosts D) (head : Opening) (old mid : D) (first :
 
     both-length : g.honest old → GrowsAtMostTo g (21 + 12 * length head.accounts) old new
     both-length honest =
-        omega (arith, closes.length honest, (wrote.torn (closes.honest.0 honest)).no_longer, length-sealed head)
+        omega (arith, closes.length honest, (wrote.torn (closes.honest.0 honest)).no_longer, length-sealed_head head)
 
     both-use : Uses g 3 4 old new second
-    both-use = Uses-then g second first 2 1 3 1 old mid new fine (closes-uses g 0 old mid first closes) (record {
+    both-use = Uses-trans g second first 2 1 3 1 old mid new fine (closes-uses g 0 old mid first closes) (record {
       count = wrote.count;
       later = wrote.later;
       honest = wrote.honest;
@@ -79,18 +79,18 @@ module _ {D T E : Type 0} (g : Ghosts D) (head : Opening) (old mid : D) (first :
     })
 
     -- and failed
-    pub begins-cut : Rose (g.faults mid) (g.faults new) → {F : Type 0} (answer : Result Tail F) (fault : F) → answer ≡ Err fault
+    pub begins-write_failed : Rose (g.faults mid) (g.faults new) → {F : Type 0} (answer : Result Tail F) (fault : F) → answer ≡ Err fault
         → BeginsCut g head old new answer
-    begins-cut rose answer fault is =
+    begins-write_failed rose answer fault is =
         let uses = uses-failed g 3 3 4 4 old new second (omega arith) (omega arith) both-use (rose ∙ ap raised fine) answer fault is in
         begins-by g head old new answer uses no-log-since (λ honest. rw is tt) (rw is tt) (rw is tt) (rw is tt) both-length
 
     -- and stands there
-    pub begins-then : (g.honest mid → g.images mid (g.reads mid)) → IsSnapshot head
+    pub begins-succeeded : (g.honest mid → g.images mid (g.reads mid)) → IsSnapshot head
         → (g.honest mid → g.reads new ≡ put 1 (sealed_head head) (g.reads mid)) → g.faults new ≡ g.faults mid
         → {F : Type 0} (answer : Result Tail F) (end : Tail) → answer ≡ Ok end → end.at ≡ 20 + 12 * length head.accounts
         → end.next ≡ head.lsn → BeginsCut g head old new answer
-    begins-then image held written same answer end is at next =
+    begins-succeeded image held written same answer end is at next =
         let there = closes.honest.0 in
         let uses = uses-done g 3 4 old new second both-use (same ∙ fine) answer end is in
         begins-by g head old new answer uses no-log-since

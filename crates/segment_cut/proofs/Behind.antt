@@ -16,11 +16,11 @@ use Rattle.segment_file.specs.Log.{Log, cut_log, with_units, IsFront, first_form
 use Rattle.segment_file.specs.StandingLog.{IsShut}
 use Rattle.segment_file.proofs.GateBytes.{closed-byte, behind, put-body, put-gate, shut-within}
 use Rattle.segment_file.proofs.Scanned.{stands-within}
-use Rattle.segment_file.proofs.Seams.{put-behind, slice_get-seam, slice_get-split, torn-byte}
+use Rattle.segment_file.proofs.Seams.{put-behind, slice_get-seam, slice_get-split, torn_byte-front_and_rest_kept}
 use Rattle.segment_file.proofs.StandingLemmas as standing
 use Rattle.segment_file.proofs.StandingLemmas.{stands-more, length-gated, length-recorded}
 use Rattle.segment_cut.specs.Underway.{BatchesStandAt, HoldsBatches, HoldsNoneOrBatches, IsUnderway}
-use Rattle.segment_cut.proofs.Headed.{length-sealed, opens-headed}
+use Rattle.segment_cut.proofs.Headed.{length-sealed_head, opens-headed}
 
 -- ---- the first byte
 
@@ -46,8 +46,8 @@ shut-no_log : (gate : ℕ) (c : List ℕ) → gate ≢ OPEN → slice_get c 0 �
 shut-no_log gate c shut is (inl log) = shut (same_Some _ _ (sym is ∙ ap (λ bytes. slice_get bytes 0) log.1))
 shut-no_log gate c shut is (inr log) = shut (same_Some _ _ (sym is ∙ ap (λ bytes. slice_get bytes 0) log.1))
 
-pub shut-none : (log : Log) (batches : List (List ℕ)) (images : List ℕ → Type 0) → IsShut 0 images → (c : List ℕ) → images c → HoldsNoneOrBatches log batches c
-shut-none log batches images shut c left = inl (shut-no_log shut.gate c shut.shut (shut.stable c left))
+pub shut-none_or : (log : Log) (batches : List (List ℕ)) (images : List ℕ → Type 0) → IsShut 0 images → (c : List ℕ) → images c → HoldsNoneOrBatches log batches c
+shut-none_or log batches images shut c left = inl (shut-no_log shut.gate c shut.shut (shut.stable c left))
 
 pub torn-no_log : (at n : ℕ) (images : List ℕ → Type 0) (shut : IsShut 0 images) → 1 ≤ at → (c : List ℕ) → MayBeTorn at n images c → BeginsAsLog c → ⊥
 torn-no_log at n images shut some c torn =
@@ -71,7 +71,7 @@ module _ (opening : Opening) (held : IsSnapshot opening) (file : List ℕ) (imag
       written ∙ put-body 0 images shut (sealed_head opening) file image
       ∙ ap (λ bytes. shut.gate ∷ bytes) (append_assoc (head opening) (CLOSED ∷ []) rest) in
       let place : tail.at ≡ length (shut.gate ∷ head opening) =
-      omega (arith, at, length-sealed opening, length-append (head opening) (CLOSED ∷ [])) in
+      omega (arith, at, length-sealed_head opening, length-append (head opening) (CLOSED ∷ [])) in
       record {
         shut = shut-torn 1 (length (sealed_head opening)) images news shut (omega arith) were;
         stands = subst (BatchesStandAt tail (cut_log opening) []) (sym opened) (opens-headed opening held tail at next rest, refl);
@@ -107,16 +107,16 @@ module _ (tail : Tail) (log : Log) (batches : List (List ℕ)) (file : List ℕ)
   long : 1 ≤ length file
   long = omega (arith, shut-within 0 images underway.shut file image)
 
-  pub within-underway : tail.at ≤ length file
-  within-underway = omega (arith, stands-within tail log (put 0 (OPEN ∷ []) file) underway.stands.0, length-opened file long)
+  pub underway-tail_within : tail.at ≤ length file
+  underway-tail_within = omega (arith, stands-within tail log (put 0 (OPEN ∷ []) file) underway.stands.0, length-opened file long)
 
   -- the log as it is read, once its first gate is open
   abbrev reads : ReadsTo (put 0 (OPEN ∷ []) file) log underway.stands.0.held.rest
   reads = underway.stands.0.held.reads
 
   -- the tail lies behind the first gate
-  pub behind-first : 1 ≤ tail.at
-  behind-first = omega (
+  pub underway-tail_positive : 1 ≤ tail.at
+  underway-tail_positive = omega (
     arith,
     length-recorded tail log (put 0 (OPEN ∷ []) file) underway.stands.0,
     length-append reads.front (flat_map gated reads.batches),
@@ -133,14 +133,14 @@ module _ (tail : Tail) (log : Log) (batches : List (List ℕ)) (file : List ℕ)
         let rest : List ℕ = drop (tail.at + length body) file in
         let split : body ++ rest ≡ gated more ++ (CLOSED ∷ rest) = ap (λ bytes. OPEN ∷ bytes) (append_assoc (batch more) (CLOSED ∷ []) rest) in
         let opened : put 0 (OPEN ∷ []) new ≡ take tail.at (put 0 (OPEN ∷ []) file) ++ (gated more ++ (CLOSED ∷ rest)) =
-        ap (put 0 (OPEN ∷ [])) written ∙ opened-put tail.at file body behind-first long
+        ap (put 0 (OPEN ∷ [])) written ∙ opened-put tail.at file body underway-tail_positive long
         ∙ ap (λ bytes. take tail.at (put 0 (OPEN ∷ []) file) ++ bytes) split in
         let whole : new ≡ (take tail.at file ++ gated more) ++ CLOSED ∷ rest =
         written ∙ append_assoc (take tail.at file) body rest ∙ ap (λ bytes. take tail.at file ++ bytes) split ∙ sym (append_assoc (take tail.at file) (gated more) (CLOSED ∷ rest)) in
         let place : new_tail.at ≡ length (take tail.at file ++ gated more) =
-        omega (arith, at, length-append (take tail.at file) (gated more), length-gated more, length-take-le tail.at file within-underway) in
+        omega (arith, at, length-append (take tail.at file) (gated more), length-gated more, length-take-le tail.at file underway-tail_within) in
         record {
-          shut = shut-torn tail.at (6 + 8 * length more) images news underway.shut behind-first were;
+          shut = shut-torn tail.at (6 + 8 * length more) images news underway.shut underway-tail_positive were;
           stands = (
             stands-more tail log (put 0 (OPEN ∷ []) file) underway.stands.0 more counted fits new_tail at next (put 0 (OPEN ∷ []) new) (CLOSED ∷ rest)
                 opened (closed-byte CLOSED rest (omega arith)),
@@ -163,20 +163,20 @@ module _ (tail : Tail) (log : Log) (batches : List (List ℕ)) (file : List ℕ)
   opens-none_or mids settled c torn =
       let byte : ℕ = get_or c 0 0 in
       let split : c ≡ byte ∷ drop 1 file =
-      torn-byte 0 [] refl underway.shut.gate (drop 1 file) c (subst (λ old. IsTorn 0 1 old c) (settled torn.0 torn.1 ∙ first-split) torn.2) in
+      torn_byte-front_and_rest_kept 0 [] refl underway.shut.gate (drop 1 file) c (subst (λ old. IsTorn 0 1 old c) (settled torn.0 torn.1 ∙ first-split) torn.2) in
       elim (cases_eq byte OPEN) [
         | inl opened ↦ inr (held-batches c (subst (BatchesStandAt tail log batches) (sym (split ∙ ap (λ b. b ∷ drop 1 file) opened ∙ sym (opened-is file))) underway.stands))
         | inr closed ↦ inl (shut-no_log byte c closed (ap (λ bytes. slice_get bytes 0) split))
       ]
 
-  pub all-open : (last : List ℕ) (lasts : List ℕ → Type 0) → last ≡ put 0 (OPEN ∷ []) file → IsOnlyImage last lasts → (c : List ℕ) → lasts c
+  pub put_open-batches_stand : (last : List ℕ) (lasts : List ℕ → Type 0) → last ≡ put 0 (OPEN ∷ []) file → IsOnlyImage last lasts → (c : List ℕ) → lasts c
       → BatchesStandAt tail log batches c
-  all-open last lasts written settled c left = subst (BatchesStandAt tail log batches) (sym (settled c left ∙ written)) underway.stands
+  put_open-batches_stand last lasts written settled c left = subst (BatchesStandAt tail log batches) (sym (settled c left ∙ written)) underway.stands
 
   -- and the next gate stays closed
-  pub open-shut : (last : List ℕ) (lasts : List ℕ → Type 0) → last ≡ put 0 (OPEN ∷ []) file → IsOnlyImage last lasts → IsShut tail.at lasts
-  open-shut last lasts written settled = record {
+  pub put_open-tail_gate_shut : (last : List ℕ) (lasts : List ℕ → Type 0) → last ≡ put 0 (OPEN ∷ []) file → IsOnlyImage last lasts → IsShut tail.at lasts
+  put_open-tail_gate_shut last lasts written settled = record {
     gate = CLOSED;
     shut = omega arith;
-    stable = λ c left. ap (λ bytes. slice_get bytes tail.at) (settled c left ∙ written) ∙ opened-get tail.at file behind-first long ∙ underway.next;
+    stable = λ c left. ap (λ bytes. slice_get bytes tail.at) (settled c left ∙ written) ∙ opened-get tail.at file underway-tail_positive long ∙ underway.next;
   }

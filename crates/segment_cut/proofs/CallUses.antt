@@ -3,7 +3,7 @@ use Rattle.std.proofs.Common.{◌≡◌, ◌≤◌, ℕ, Result, Ok, Err, arith}
 use Rattle.log_disk.specs.Calls.{Uses}
 use Rattle.log_disk.specs.Faults.{Rose}
 use Rattle.log_disk.specs.declared.disk.LogDisk.{Ghosts}
-use Rattle.log_disk.proofs.Counting.{Costs-more}
+use Rattle.log_disk.proofs.Counting.{Costs-weaken}
 use Rattle.segment_file.specs.Changes.{ClosesGate}
 
 -- an inner call failed, and nothing was done after it
@@ -11,7 +11,7 @@ pub uses-failed : {D T E U F : Type 0} (g : Ghosts D) (most more most_calls more
     → most ≤ more → most_calls ≤ more_calls → Uses g most most_calls old new first → Rose (g.faults old) (g.faults new)
     → (answer : Result U F) (fault : F) → answer ≡ Err fault → Uses g more more_calls old new answer
 uses-failed g most more most_calls more_calls old new first few few_calls uses rose answer fault is = rw is (record {
-  count = λ honest. Costs-more g most more most_calls more_calls old new few few_calls (uses.count honest);
+  count = λ honest. Costs-weaken g most more most_calls more_calls old new few few_calls (uses.count honest);
   later = uses.later;
   honest = uses.honest;
   attached = uses.attached;

@@ -10,13 +10,13 @@ use Rattle.segment_file.specs.declared.scan_result.Tail.{Tail}
 use Rattle.segment_file.specs.Gates.{Midway, StaysClosed}
 use Rattle.segment_file.specs.Log.{cut_log}
 use Rattle.segment_file.specs.StandingLog.{tail_at, LogStandsAt, LogStands, IsShut, HoldsNoneOrLog}
-use Rattle.segment_file.proofs.Creates.{none-or, all-opened}
+use Rattle.segment_file.proofs.Creates.{midway-no_log_or_P, put_open-all}
 use Rattle.segment_file.proofs.GateBytes.{closed-byte}
 use Rattle.segment_file.proofs.StableGates.{stays-no_log}
 use Rattle.segment_file.proofs.StandingLemmas.{stands-headed}
 
-pub length-sealed : (opening : Opening) → length (sealed_head opening) ≡ 20 + 12 * length opening.accounts
-length-sealed opening = omega (arith, length-append (head opening) (NEXT_GATE ∷ []), length-snapshot opening)
+pub length-sealed_head : (opening : Opening) → length (sealed_head opening) ≡ 20 + 12 * length opening.accounts
+length-sealed_head opening = omega (arith, length-append (head opening) (NEXT_GATE ∷ []), length-snapshot opening)
 
 -- a closed first gate begins no log
 pub stays-none_or : (opening : Opening) (images : List ℕ → Type 0) (c : List ℕ) → StaysClosed 0 images c → HoldsNoneOrLog (cut_log opening) c
@@ -27,18 +27,18 @@ module _ (opening : Opening) (held : IsSnapshot opening) where
   unfoldable pub opens-headed : (tail : Tail) → tail.at ≡ 20 + 12 * length opening.accounts → tail.next ≡ opening.lsn → (rest : List ℕ)
       → LogStandsAt tail (cut_log opening) (OPEN ∷ sealed_head opening ++ rest)
   opens-headed tail at next rest =
-      stands-headed opening held tail _ (NEXT_GATE ∷ rest) (omega (arith, at, length-sealed opening, length-append (sealed_head opening) rest)) next
+      stands-headed opening held tail _ (NEXT_GATE ∷ rest) (omega (arith, at, length-sealed_head opening, length-append (sealed_head opening) rest)) next
       (ap (λ list. OPEN ∷ list) (append_assoc (head opening) (NEXT_GATE ∷ []) rest)) (closed-byte NEXT_GATE rest (omega arith))
 
   module _ (file : List ℕ) (images : List ℕ → Type 0) (image : images file) (shut : IsShut 0 images) where
     -- at each moment an image is no log, or holds the head
-    pub holds-headed : (c : List ℕ) → Midway 0 (sealed_head opening) file images c → HoldsNoneOrLog (cut_log opening) c
-    holds-headed c left =
+    pub midway-holds_none_or_head : (c : List ℕ) → Midway 0 (sealed_head opening) file images c → HoldsNoneOrLog (cut_log opening) c
+    midway-holds_none_or_head c left =
         let tail = tail_at (20 + 12 * length opening.accounts) opening.lsn in
         ⊎_elim (λ none. inl none) (λ stands. inr stands.held)
-        (none-or (sealed_head opening) file images image shut (LogStandsAt tail (cut_log opening)) (opens-headed tail (omega arith) (omega arith)) c left)
+        (midway-no_log_or_P (sealed_head opening) file images image shut (LogStandsAt tail (cut_log opening)) (opens-headed tail (omega arith) (omega arith)) c left)
 
     -- after both writes each image holds it
-    pub all_stand-headed : (tail : Tail) → tail.at ≡ 20 + 12 * length opening.accounts → tail.next ≡ opening.lsn → (last : List ℕ) (lasts : List ℕ → Type 0)
+    pub put_open-head_stands : (tail : Tail) → tail.at ≡ 20 + 12 * length opening.accounts → tail.next ≡ opening.lsn → (last : List ℕ) (lasts : List ℕ → Type 0)
         → last ≡ put 0 (OPEN ∷ []) (put 1 (sealed_head opening) file) → IsOnlyImage last lasts → LogStands tail (cut_log opening) lasts
-    all_stand-headed tail at next = all-opened (sealed_head opening) file images image shut (LogStandsAt tail (cut_log opening)) (opens-headed tail at next)
+    put_open-head_stands tail at next = put_open-all (sealed_head opening) file images image shut (LogStandsAt tail (cut_log opening)) (opens-headed tail at next)

@@ -22,8 +22,8 @@ file-reads bytes units (b ∷ bs) rest file is = record {
   whole = file.whole;
 }
 
-pub units-log : (bytes units : List ℕ) → HoldsUnits bytes units → HoldsLog bytes (whole_log units)
-units-log bytes units held = record { rest = held.1; reads = file-reads bytes units held.0 held.1 held.2 held.3; closed = held.2.closed }
+pub HoldsUnits-HoldsLog : (bytes units : List ℕ) → HoldsUnits bytes units → HoldsLog bytes (whole_log units)
+HoldsUnits-HoldsLog bytes units held = record { rest = held.1; reads = file-reads bytes units held.0 held.1 held.2 held.3; closed = held.2.closed }
 
 -- and back
 record FileOf (bytes units rest : List ℕ) : Type 0 where
@@ -49,19 +49,19 @@ reads-file bytes units rest reads (first_format nothing counted is) closed = rec
 log-file : (bytes units : List ℕ) (held : HoldsLog bytes (whole_log units)) → FileOf bytes units held.rest
 log-file bytes units held = reads-file bytes units held.rest held.reads held.reads.begins held.closed
 
-pub log-units : (bytes units : List ℕ) → HoldsLog bytes (whole_log units) → HoldsUnits bytes units
-log-units bytes units held = let of = log-file bytes units held in (of.batches, held.rest, of.file, of.units_are)
+pub HoldsLog-HoldsUnits : (bytes units : List ℕ) → HoldsLog bytes (whole_log units) → HoldsUnits bytes units
+HoldsLog-HoldsUnits bytes units held = let of = log-file bytes units held in (of.batches, held.rest, of.file, of.units_are)
 
 -- at a tail
-pub stands-log : (tail : Tail) (units bytes : List ℕ) → StandsAt tail units bytes → LogStandsAt tail (whole_log units) bytes
-stands-log tail units bytes stands = record {
+pub StandsAt-LogStandsAt : (tail : Tail) (units bytes : List ℕ) → StandsAt tail units bytes → LogStandsAt tail (whole_log units) bytes
+StandsAt-LogStandsAt tail units bytes stands = record {
   held = record { rest = stands.rest; reads = file-reads bytes units stands.batches stands.rest stands.file stands.units_are; closed = stands.file.closed };
   place = omega (arith, stands.place, ap length stands.file.whole, length-append (written stands.batches) stands.rest);
   next = omega (arith, stands.next);
 }
 
-pub log-stands : (tail : Tail) (units bytes : List ℕ) → LogStandsAt tail (whole_log units) bytes → StandsAt tail units bytes
-log-stands tail units bytes stands =
+pub LogStandsAt-StandsAt : (tail : Tail) (units bytes : List ℕ) → LogStandsAt tail (whole_log units) bytes → StandsAt tail units bytes
+LogStandsAt-StandsAt tail units bytes stands =
     let of = log-file bytes units stands.held in
     record {
       batches = of.batches;
@@ -72,11 +72,11 @@ log-stands tail units bytes stands =
       next = omega (arith, stands.next);
     }
 
-pub all-log : (tail : Tail) (units : List ℕ) (images : List ℕ → Type 0) → AllStand tail units images → LogStands tail (whole_log units) images
-all-log tail units images stand c left = stands-log tail units c (stand c left)
+pub AllStand-LogStands : (tail : Tail) (units : List ℕ) (images : List ℕ → Type 0) → AllStand tail units images → LogStands tail (whole_log units) images
+AllStand-LogStands tail units images stand c left = StandsAt-LogStandsAt tail units c (stand c left)
 
-pub log-all : (tail : Tail) (units : List ℕ) (images : List ℕ → Type 0) → LogStands tail (whole_log units) images → AllStand tail units images
-log-all tail units images stand c left = log-stands tail units c (stand c left)
+pub LogStands-AllStand : (tail : Tail) (units : List ℕ) (images : List ℕ → Type 0) → LogStands tail (whole_log units) images → AllStand tail units images
+LogStands-AllStand tail units images stand c left = LogStandsAt-StandsAt tail units c (stand c left)
 
-pub log-either : (units more c : List ℕ) → HoldsLogOrMore (whole_log units) more c → HoldsEither units more c
-log-either units more c held = ⊎_elim (λ before. inl (log-units c units before)) (λ whole. inr (log-units c (units ++ more) whole)) held
+pub HoldsLogOrMore-HoldsEither : (units more c : List ℕ) → HoldsLogOrMore (whole_log units) more c → HoldsEither units more c
+HoldsLogOrMore-HoldsEither units more c held = ⊎_elim (λ before. inl (HoldsLog-HoldsUnits c units before)) (λ whole. inr (HoldsLog-HoldsUnits c (units ++ more) whole)) held

@@ -8,7 +8,7 @@ use Rattle.segment_file.specs.declared.layout.TheConstants.{OPEN, CLOSED}
 use Rattle.segment_file.specs.File.{BeginsOpen}
 use Rattle.segment_file.specs.Gates.{Midway}
 use Rattle.segment_file.specs.StandingLog.{IsShut}
-use Rattle.segment_file.proofs.Seams.{slice_get-seam, slice_get-split, torn-behind, torn-byte, put-behind}
+use Rattle.segment_file.proofs.Seams.{slice_get-seam, slice_get-split, torn-front_kept, torn_byte-front_and_rest_kept, put-behind}
 
 -- a byte other than 0x4F opens no gate
 pub closed-byte : (byte : ℕ) (rest : List ℕ) → byte ≢ OPEN → BeginsOpen (byte ∷ rest) → ⊥
@@ -28,7 +28,7 @@ module _ (at : ℕ) (images : List ℕ → Type 0) (shut : IsShut at images) whe
       let front = take at image ++ shut.gate ∷ [] in
       let split : image ≡ front ++ drop (at + 1) image = slice_get-split image at shut.gate (shut.stable image left) ∙ sym (append_assoc (take at image) (shut.gate ∷ []) (drop (at + 1) image)) in
       let place : at + 1 ≡ length front = omega (arith, length-front image left, length-append (take at image) (shut.gate ∷ [])) in
-      torn-behind (at + 1) front place n (drop (at + 1) image) c (subst (λ old. IsTorn (at + 1) n old c) split torn)
+      torn-front_kept (at + 1) front place n (drop (at + 1) image) c (subst (λ old. IsTorn (at + 1) n old c) split torn)
       ∙ append_assoc (take at image) (shut.gate ∷ []) (drop (at + 1) c)
 
   module _ (body file : List ℕ) (image : images file) where
@@ -44,19 +44,19 @@ module _ (at : ℕ) (images : List ℕ → Type 0) (shut : IsShut at images) whe
         ap (put (at + 1) body) split ∙ put-behind (at + 1) front place body (drop (at + 1) file) ∙ append_assoc (take at file) (shut.gate ∷ []) (body ++ behind)
 
     -- the gate is as it was, or the whole body stands behind it
-    pub midway-gate : (c : List ℕ) → Midway at body file images c
+    pub midway-gate_kept_or_body_whole : (c : List ℕ) → Midway at body file images c
         → ((old : List ℕ) × images old × (c ≡ take at old ++ shut.gate ∷ drop (at + 1) c)) ⊎ ((byte : ℕ) × (c ≡ take at file ++ byte ∷ (body ++ behind)))
-    midway-gate c (inl torn) = inl (torn.0, torn.1, kept torn.0 c (length body) torn.1 torn.2)
-    midway-gate c (inr torn) = inr (get_or c at 0, torn-byte at (take at file) (length-front file image) shut.gate (body ++ behind) c (subst (λ old. IsTorn at 1 old c) put-body torn))
+    midway-gate_kept_or_body_whole c (inl torn) = inl (torn.0, torn.1, kept torn.0 c (length body) torn.1 torn.2)
+    midway-gate_kept_or_body_whole c (inr torn) = inr (get_or c at 0, torn_byte-front_and_rest_kept at (take at file) (length-front file image) shut.gate (body ++ behind) c (subst (λ old. IsTorn at 1 old c) put-body torn))
 
     -- the whole body behind the open gate
     pub put-gate : put at (OPEN ∷ []) (put (at + 1) body file) ≡ take at file ++ OPEN ∷ (body ++ behind)
     put-gate = ap (put at (OPEN ∷ [])) put-body ∙ put-behind at (take at file) (length-front file image) (OPEN ∷ []) (shut.gate ∷ (body ++ behind))
 
     -- the last byte of the body is the next gate
-    pub next-shut : (front new : List ℕ) (news : List ℕ → Type 0) (next : ℕ) → body ≡ front ++ CLOSED ∷ [] → new ≡ put at (OPEN ∷ []) (put (at + 1) body file)
+    pub put_open-next_gate_shut : (front new : List ℕ) (news : List ℕ → Type 0) (next : ℕ) → body ≡ front ++ CLOSED ∷ [] → new ≡ put at (OPEN ∷ []) (put (at + 1) body file)
         → IsOnlyImage new news → next ≡ at + length body → IsShut next news
-    next-shut front new news next body_is written settled place = record {
+    put_open-next_gate_shut front new news next body_is written settled place = record {
       gate = CLOSED;
       shut = omega arith;
       stable = λ c left. ap (λ bytes. slice_get bytes next) (settled c left ∙ whole) ∙ ap (slice_get (before ++ CLOSED ∷ behind)) there ∙ slice_get-seam before CLOSED behind;

@@ -32,12 +32,12 @@ module _ {D T E : Type 0} (g : Ghosts D) (tail : Tail) (given left : BatchState)
   })
 
   -- it succeeded
-  pub appends-then : (g.honest old → (log : Log) → LogStands tail log (g.images old)
+  pub appends-succeeded : (g.honest old → (log : Log) → LogStands tail log (g.images old)
       → LogStands (tail_after tail given.units) (with_units log given.units) (g.images new))
       → (g.honest old → IsShut (tail_after tail given.units).at (g.images new)) → (g.honest old → IsOnlyImage (g.reads new) (g.images new))
       → g.faults new ≡ g.faults old → {F : Type 0} (answer : Result Tail F) → answer ≡ Ok (tail_after tail given.units)
       → Appends g (λ t. t) tail given left old new answer
-  appends-then appended shut settled same answer is = rw is (record {
+  appends-succeeded appended shut settled same answer is = rw is (record {
     moments = appends.moments;
     appended = appended;
     shut = shut;

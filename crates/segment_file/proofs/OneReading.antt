@@ -9,15 +9,15 @@ use Rattle.lsn_space.specs.declared.lsn.TheConstants.{LAST}
 use Rattle.lsn_space.specs.Opening.{Opening, no_opening, IsSnapshot}
 use Rattle.lsn_space.specs.Unit.{unit_bytes, unit_value}
 use Rattle.segment_head.specs.Head.{head_magic}
-use Rattle.segment_head.proofs.HeadLemmas.{one_head}
+use Rattle.segment_head.proofs.HeadLemmas.{snapshot_bytes-append_injective}
 use Rattle.segment_file.specs.declared.layout.TheConstants.{OPEN}
 use Rattle.segment_file.specs.File.{magic, batch, gated, joined, IsCountedBatch, AreUnits, BeginsOpen, BeginsAsLog, HasNoBatch, HoldsUnits}
 use Rattle.segment_file.specs.Log.{Log, whole_log, log_end, IsFront, first_format, second_format, ReadsTo, HoldsLog, IsBadSnapshot, IsBadBatchBehind, IsBadBatch, first_batch, later_batch}
 use Rattle.segment_file.specs.StandingLog.{LogStandsAt}
 use Rattle.segment_file.specs.declared.scan_result.Tail.{Tail}
 use Rattle.segment_file.proofs.BatchLemmas.{count_at-batch}
-use Rattle.segment_file.proofs.FirstFormat.{units-log}
-use Rattle.segment_file.proofs.FileLemmas.{append-cancel_left, begins_open}
+use Rattle.segment_file.proofs.FirstFormat.{HoldsUnits-HoldsLog}
+use Rattle.segment_file.proofs.FileLemmas.{append-cancel_left, open_byte-begins_open}
 
 -- units that stand at the same place are the same
 same_units : (us vs x y : List ℕ) → AreUnits us → AreUnits vs → length us ≡ length vs
@@ -84,7 +84,7 @@ same_front f g a b us vs x y (first_format nothing counted is) (second_format he
 same_front f g a b us vs x y (second_format held none is) (first_format nothing counted are) whole =
     absurd (magics-apart _ _ (ap (λ list. list ++ y) (sym are) ∙ sym whole ∙ ap (λ list. list ++ x) is))
 same_front f g a b us vs x y (second_format held none is) (second_format also nothing are) whole =
-    let both = one_head a b x y held also (ap (drop 8) (ap (λ list. list ++ x) (sym is) ∙ whole ∙ ap (λ list. list ++ y) are)) in
+    let both = snapshot_bytes-append_injective a b x y held also (ap (drop 8) (ap (λ list. list ++ x) (sym is) ∙ whole ∙ ap (λ list. list ++ y) are)) in
     record { opening = both.0; units = none ∙ sym nothing; rest = both.1 }
 
 -- ---- two readings of the same bytes
@@ -170,7 +170,7 @@ one_reading-log bytes a b held also = by_sides (sides bytes a b held.rest also.r
 -- of the first format
 pub one_reading-units : (bytes us vs : List ℕ) → HoldsUnits bytes us → HoldsUnits bytes vs → us ≡ vs
 one_reading-units bytes us vs held also =
-    ap (λ (log : Log). log.units) (one_reading-log bytes (whole_log us) (whole_log vs) (units-log bytes us held) (units-log bytes vs also))
+    ap (λ (log : Log). log.units) (one_reading-log bytes (whole_log us) (whole_log vs) (HoldsUnits-HoldsLog bytes us held) (HoldsUnits-HoldsLog bytes vs also))
 
 -- what is read begins as a log
 reads-begins : (bytes : List ℕ) (log : Log) (rest : List ℕ) (reads : ReadsTo bytes log rest) → IsFront reads.front log.opening reads.first → BeginsAsLog bytes
@@ -179,13 +179,13 @@ reads-begins bytes log rest reads (first_format nothing counted is) =
 reads-begins bytes log rest reads (second_format held none is) =
     inr (_, behind-front bytes log rest reads ∙ ap (λ list. list ++ (flat_map gated reads.batches ++ rest)) is)
 
-pub one_reading-begins : (bytes : List ℕ) (log : Log) → HoldsLog bytes log → BeginsAsLog bytes
-one_reading-begins bytes log held = reads-begins bytes log held.rest held.reads held.reads.begins
+pub HoldsLog-begins_as_log : (bytes : List ℕ) (log : Log) → HoldsLog bytes log → BeginsAsLog bytes
+HoldsLog-begins_as_log bytes log held = reads-begins bytes log held.rest held.reads held.reads.begins
 
 -- a bad batch stands in a log
-pub bad-begins : (bytes : List ℕ) (offset : ℕ) → IsBadBatch bytes offset → BeginsAsLog bytes
-bad-begins bytes offset (first_batch body begins none place) = inl (body, begins)
-bad-begins bytes offset (later_batch log bad) = reads-begins bytes log (OPEN ∷ bad.body) bad.reads bad.reads.begins
+pub bad_batch-begins_as_log : (bytes : List ℕ) (offset : ℕ) → IsBadBatch bytes offset → BeginsAsLog bytes
+bad_batch-begins_as_log bytes offset (first_batch body begins none place) = inl (body, begins)
+bad_batch-begins_as_log bytes offset (later_batch log bad) = reads-begins bytes log (OPEN ∷ bad.body) bad.reads bad.reads.begins
 
 -- what is read has no bad snapshot
 reads-snapshot : (bytes : List ℕ) (log : Log) (rest : List ℕ) (reads : ReadsTo bytes log rest) → IsFront reads.front log.opening reads.first → IsBadSnapshot bytes → ⊥
@@ -194,8 +194,8 @@ reads-snapshot bytes log rest reads (first_format nothing counted is) bad =
 reads-snapshot bytes log rest reads (second_format held none is) bad =
     bad.none log.opening (flat_map gated reads.batches ++ rest) held (behind-front bytes log rest reads ∙ ap (λ list. list ++ (flat_map gated reads.batches ++ rest)) is)
 
-pub one_reading-snapshot : (bytes : List ℕ) (log : Log) → HoldsLog bytes log → IsBadSnapshot bytes → ⊥
-one_reading-snapshot bytes log held bad = reads-snapshot bytes log held.rest held.reads held.reads.begins bad
+pub HoldsLog-no_bad_snapshot : (bytes : List ℕ) (log : Log) → HoldsLog bytes log → IsBadSnapshot bytes → ⊥
+HoldsLog-no_bad_snapshot bytes log held bad = reads-snapshot bytes log held.rest held.reads held.reads.begins bad
 
 -- what is read has a first batch, or a head
 reads-first : (bytes : List ℕ) (log : Log) (rest : List ℕ) (reads : ReadsTo bytes log rest) → IsFront reads.front log.opening reads.first
@@ -211,17 +211,17 @@ held-not_bad : (bytes : List ℕ) (log other : Log) (offset : ℕ) → HoldsLog 
 held-not_bad bytes log other offset held bad = by_sides (sides bytes log other held.rest (OPEN ∷ bad.body) held.reads bad.reads)
   where
     by_sides : Aligned held.reads.batches bad.reads.batches held.rest (OPEN ∷ bad.body) → ⊥
-    by_sides (same batches rest) = held.closed (begins_open held.rest bad.body rest bad.some)
+    by_sides (same batches rest) = held.closed (open_byte-begins_open held.rest bad.body rest bad.some)
     by_sides (longer c later is) = held.closed (next-open log held.rest (longer-next bytes log other held.rest (OPEN ∷ bad.body) held.reads bad.reads c later is))
     by_sides (shorter c later is) = next-none other bad.body (longer-next bytes other log (OPEN ∷ bad.body) held.rest bad.reads held.reads c later is) bad.none
 
-pub one_reading-bad : (bytes : List ℕ) (log : Log) (offset : ℕ) → HoldsLog bytes log → IsBadBatch bytes offset → ⊥
-one_reading-bad bytes log offset held (first_batch body begins none place) = reads-first bytes log held.rest held.reads held.reads.begins body begins none
-one_reading-bad bytes log offset held (later_batch other bad) = held-not_bad bytes log other offset held bad
+pub HoldsLog-no_bad_batch : (bytes : List ℕ) (log : Log) (offset : ℕ) → HoldsLog bytes log → IsBadBatch bytes offset → ⊥
+HoldsLog-no_bad_batch bytes log offset held (first_batch body begins none place) = reads-first bytes log held.rest held.reads held.reads.begins body begins none
+HoldsLog-no_bad_batch bytes log offset held (later_batch other bad) = held-not_bad bytes log other offset held bad
 
-pub one_reading-one : (bytes : List ℕ) (offset : ℕ) → IsBadSnapshot bytes → IsBadBatch bytes offset → ⊥
-one_reading-one bytes offset snapshot (first_batch body begins none place) = magics-apart _ _ (sym begins ∙ snapshot.second.1)
-one_reading-one bytes offset snapshot (later_batch log bad) = reads-snapshot bytes log (OPEN ∷ bad.body) bad.reads bad.reads.begins snapshot
+pub bad_snapshot-no_bad_batch : (bytes : List ℕ) (offset : ℕ) → IsBadSnapshot bytes → IsBadBatch bytes offset → ⊥
+bad_snapshot-no_bad_batch bytes offset snapshot (first_batch body begins none place) = magics-apart _ _ (sym begins ∙ snapshot.second.1)
+bad_snapshot-no_bad_batch bytes offset snapshot (later_batch log bad) = reads-snapshot bytes log (OPEN ∷ bad.body) bad.reads bad.reads.begins snapshot
 
 -- a bad batch is the first one
 later-place : (bytes : List ℕ) (p q : Log) (a b : ℕ) → IsBadBatchBehind bytes p a → IsBadBatchBehind bytes q b → a ≡ b
@@ -234,13 +234,13 @@ later-place bytes p q a b bad also = by_sides (sides bytes p q (OPEN ∷ bad.bod
     by_sides (shorter c later is) =
         absurd (next-none q also.body (longer-next bytes q p (OPEN ∷ also.body) (OPEN ∷ bad.body) also.reads bad.reads c later is) also.none)
 
-pub one_reading-place : (bytes : List ℕ) (a b : ℕ) → IsBadBatch bytes a → IsBadBatch bytes b → a ≡ b
-one_reading-place bytes a b (first_batch body begins none place) (first_batch other also nothing there) = place ∙ sym there
-one_reading-place bytes a b (first_batch body begins none place) (later_batch q also) =
+pub bad_batch-unique : (bytes : List ℕ) (a b : ℕ) → IsBadBatch bytes a → IsBadBatch bytes b → a ≡ b
+bad_batch-unique bytes a b (first_batch body begins none place) (first_batch other also nothing there) = place ∙ sym there
+bad_batch-unique bytes a b (first_batch body begins none place) (later_batch q also) =
     absurd (reads-first bytes q (OPEN ∷ also.body) also.reads also.reads.begins body begins none)
-one_reading-place bytes a b (later_batch p bad) (first_batch body begins none place) =
+bad_batch-unique bytes a b (later_batch p bad) (first_batch body begins none place) =
     absurd (reads-first bytes p (OPEN ∷ bad.body) bad.reads bad.reads.begins body begins none)
-one_reading-place bytes a b (later_batch p bad) (later_batch q also) = later-place bytes p q a b bad also
+bad_batch-unique bytes a b (later_batch p bad) (later_batch q also) = later-place bytes p q a b bad also
 
 -- ---- that bytes hold a log is one fact
 

@@ -15,8 +15,8 @@ HasSpent-more len read count before now next rest counted called spent =
     record { whole = λ more. omega (arith, spent.whole rest); few = omega (arith, spent.whole rest) }
 
 -- a piece more of the file
-pub bytes-more : (file old new piece : List ℕ) (count : ℕ) → new ≡ old ++ piece → length piece ≡ count → old ≡ take (length old) file
+pub file_front-append : (file old new piece : List ℕ) (count : ℕ) → new ≡ old ++ piece → length piece ≡ count → old ≡ take (length old) file
     → piece ≡ take count (drop (length old) file) → new ≡ take (length new) file
-bytes-more file old new piece count added counted was is =
+file_front-append file old new piece count added counted was is =
     let long = ap length added ∙ length-append old piece ∙ ap (λ n. length old + n) counted in
     added ∙ (λ i. was i ++ is i) ∙ sym (take-add (length old) count file) ∙ ap (λ n. take n file) (sym long)

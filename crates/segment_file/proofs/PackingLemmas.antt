@@ -40,24 +40,24 @@ abbrev pub state : List ℕ → ℕ → BatchState
 state units room = record { units = units; room = room }
 
 -- the invariant, said of the view
-pub packed-view : (bytes units : List ℕ) (room capacity : ℕ) (now : BatchState) → IsPacked bytes units room capacity → state units room ≡ now
+pub packed-state : (bytes units : List ℕ) (room capacity : ℕ) (now : BatchState) → IsPacked bytes units room capacity → state units room ≡ now
     → IsPacked bytes now.units now.room capacity
-packed-view bytes units room capacity now packed view = subst (λ s. IsPacked bytes s.units s.room capacity) view packed
+packed-state bytes units room capacity now packed view = subst (λ s. IsPacked bytes s.units s.room capacity) view packed
 
 -- so many bytes has a batch of the units that are seen
-pub length-seen : (bytes units : List ℕ) (room capacity : ℕ) (now : BatchState) → IsPacked bytes units room capacity → state units room ≡ now
+pub length-packed_state : (bytes units : List ℕ) (room capacity : ℕ) (now : BatchState) → IsPacked bytes units room capacity → state units room ≡ now
     → length bytes ≡ 11 + 8 * length now.units
-length-seen bytes units room capacity now packed view =
+length-packed_state bytes units room capacity now packed view =
     omega (arith, ap length packed.whole, length-unit_bytes units, ap (λ (s : BatchState). length s.units) view)
 
 -- where the view has room for another unit, so have its parts
-pub room-seen : (units : List ℕ) (room : ℕ) (now : BatchState) → state units room ≡ now → length now.units < now.room → length units < room
-room-seen units room now view has = subst (λ (s : BatchState). length s.units < s.room) (sym view) has
+pub state-units_below_room : (units : List ℕ) (room : ℕ) (now : BatchState) → state units room ≡ now → length now.units < now.room → length units < room
+state-units_below_room units room now view has = subst (λ (s : BatchState). length s.units < s.room) (sym view) has
 
 -- the view of a batch whose units were had by this change
-pub view-after : (change : List ℕ → List ℕ) (units more : List ℕ) (room : ℕ) (now : BatchState) → state units room ≡ now → more ≡ change units
+pub state-changed_units : (change : List ℕ → List ℕ) (units more : List ℕ) (room : ℕ) (now : BatchState) → state units room ≡ now → more ≡ change units
     → state more room ≡ state (change now.units) now.room
-view-after change units more room now view same = ap (λ us. state us room) same ∙ ap (λ (s : BatchState). state (change s.units) s.room) view
+state-changed_units change units more room now view same = ap (λ us. state us room) same ∙ ap (λ (s : BatchState). state (change s.units) s.room) view
 
 module _ (bytes units : List ℕ) (room capacity : ℕ) (packed : IsPacked bytes units room capacity) where
   pub length-packed : length bytes ≡ 11 + 8 * length units
@@ -70,12 +70,12 @@ module _ (bytes units : List ℕ) (room capacity : ℕ) (packed : IsPacked bytes
   pub packed-units_in : IsPacked bytes (units_in (drop 11 bytes)) room capacity
   packed-units_in = subst (λ us. IsPacked bytes us room capacity) (sym units_in-packed) packed
 
-  pub counted : 0 < length units → length units ≤ MOST_UNITS → IsCountedBatch units
-  counted some most = record { some = some; most = most; each = packed.each }
+  pub packed-counted_batch : 0 < length units → length units ≤ MOST_UNITS → IsCountedBatch units
+  packed-counted_batch some most = record { some = some; most = most; each = packed.each }
 
-  pub unit-at : (index unit : ℕ) (rest : List ℕ) → index < length units → unit < 2 ^ 64 → drop (11 + 8 * index) bytes ≡ unit_bytes unit ++ rest
+  pub packed_unit-at : (index unit : ℕ) (rest : List ℕ) → index < length units → unit < 2 ^ 64 → drop (11 + 8 * index) bytes ≡ unit_bytes unit ++ rest
       → unit ≡ slice_index units index
-  unit-at index unit rest within small is =
+  packed_unit-at index unit rest within small is =
       let longer : 11 + 8 * index ≡ suc (suc (suc (suc (suc (suc (suc (suc (suc (suc (suc (8 * index))))))))))) = omega arith in
       unit-at_index units index unit rest packed.each within small
       (sym (ap (λ n. drop n (magic ++ to_be_bytes w32 packed.number ++ flat_map unit_bytes units)) longer) ∙ sym (ap (drop (11 + 8 * index)) packed.whole) ∙ is)
@@ -110,8 +110,8 @@ module _ (bytes units : List ℕ) (room capacity : ℕ) (packed : IsPacked bytes
     length-numbered = omega (arith, ap length numbered, length-unit_bytes units)
 
     -- there is room for the next gate and one byte more
-    pub room-numbered : length new + 2 ≤ capacity
-    room-numbered = omega (arith, length-numbered, packed.few, packed.fits)
+    pub numbered-within_capacity : length new + 2 ≤ capacity
+    numbered-within_capacity = omega (arith, length-numbered, packed.few, packed.fits)
 
     packed-numbered : (now : ℕ) → capacity ≤ now → IsPacked new units room now
     packed-numbered now grown = record {
@@ -140,11 +140,11 @@ module _ (bytes units : List ℕ) (room capacity : ℕ) (packed : IsPacked bytes
             restored_is ∙ ap (λ bs. take 6 bs ++ (49 ∷ []) ++ drop 7 bs) (same ∙ opened-bytes) ∙ sym numbered
 
         -- so it is a batch as before
-        pub packed-again : (now : ℕ) → capacity ≤ now → IsPacked restored units room now
-        packed-again now grown = subst (λ bs. IsPacked bs units room now) (sym restored-numbered) (packed-numbered now grown)
+        pub packed-restored : (now : ℕ) → capacity ≤ now → IsPacked restored units room now
+        packed-restored now grown = subst (λ bs. IsPacked bs units room now) (sym restored-numbered) (packed-numbered now grown)
 
-        pub units-again : units_in (drop 11 restored) ≡ units
-        units-again = ap (λ bs. units_in (drop 11 bs)) (restored-numbered ∙ numbered) ∙ units_in-unit_bytes units packed.each
+        pub units_in-restored : units_in (drop 11 restored) ≡ units
+        units_in-restored = ap (λ bs. units_in (drop 11 bs)) (restored-numbered ∙ numbered) ∙ units_in-unit_bytes units packed.each
 
     -- with the number of units in front of them it is a batch
     module _ (count_is : count ≡ length units) where
@@ -153,16 +153,16 @@ module _ (bytes units : List ℕ) (room capacity : ℕ) (packed : IsPacked bytes
       counted-batch = rw (numbered, count_is) refl
 
       -- and with the next gate behind
-      pub counted-sealed : new ++ CLOSED ∷ [] ≡ magic ++ sealed units
-      counted-sealed = ap (λ bs. bs ++ CLOSED ∷ []) counted-batch ∙ append_assoc magic (batch units) (CLOSED ∷ [])
+      pub counted_closed-magic_sealed : new ++ CLOSED ∷ [] ≡ magic ++ sealed units
+      counted_closed-magic_sealed = ap (λ bs. bs ++ CLOSED ∷ []) counted-batch ∙ append_assoc magic (batch units) (CLOSED ∷ [])
 
-      pub counted-body : (full body : List ℕ) → full ≡ new ++ CLOSED ∷ [] → body ≡ drop 7 full → body ≡ sealed units
-      counted-body full body full_is back = back ∙ ap (drop 7) (full_is ∙ counted-sealed)
+      pub counted_body-sealed : (full body : List ℕ) → full ≡ new ++ CLOSED ∷ [] → body ≡ drop 7 full → body ≡ sealed units
+      counted_body-sealed full body full_is back = back ∙ ap (drop 7) (full_is ∙ counted_closed-magic_sealed)
 
       -- and with an open gate in place of the last magic byte
-      pub opened-body : (opened full body : List ℕ) → opened ≡ take 6 new ++ (OPEN ∷ []) ++ drop 7 new → full ≡ opened ++ CLOSED ∷ []
+      pub opened_body-open_sealed : (opened full body : List ℕ) → opened ≡ take 6 new ++ (OPEN ∷ []) ++ drop 7 new → full ≡ opened ++ CLOSED ∷ []
           → body ≡ drop 6 full → body ≡ OPEN ∷ sealed units
-      opened-body opened full body opened_is full_is back =
+      opened_body-open_sealed opened full body opened_is full_is back =
           let opened_batch : opened ≡ take 6 magic ++ (OPEN ∷ batch units) = opened_is ∙ ap (λ bs. take 6 bs ++ (OPEN ∷ []) ++ drop 7 bs) counted-batch in
           back ∙ ap (drop 6) (full_is ∙ ap (λ bs. bs ++ CLOSED ∷ []) opened_batch)
 

@@ -8,14 +8,14 @@ use Rattle.segment_file.specs.declared.layout.TheConstants.{OPEN}
 use Rattle.segment_file.specs.File.{magic, batch, gated, joined, IsCountedBatch, BeginsAsFirst, BeginsAsLog, HasNoBatch}
 use Rattle.segment_file.specs.Log.{IsFront, first_format, second_format, ReadsTo, IsBadSnapshot}
 use Rattle.segment_file.specs.Taking.{TakesFront, TakesBatch}
-use Rattle.segment_file.proofs.FileLemmas.{gated-next, joined-more}
+use Rattle.segment_file.proofs.FileLemmas.{gated-push_between, joined-push}
 
 -- ---- what a file begins with
 
 -- a first batch behind the magic bytes
-pub front-first : (bytes body old units rest : List ℕ) (opening : Opening) (begin : ℕ) → bytes ≡ OPEN ∷ magic ++ body → opening ≡ no_opening → begin ≡ 0
+pub TakesFront-first_format : (bytes body old units rest : List ℕ) (opening : Opening) (begin : ℕ) → bytes ≡ OPEN ∷ magic ++ body → opening ≡ no_opening → begin ≡ 0
     → old ≡ [] → TakesBatch begin old body units rest → TakesFront bytes opening units rest
-front-first bytes body old units rest opening begin is nothing zero none taken =
+TakesFront-first_format bytes body old units rest opening begin is nothing zero none taken =
     let units_are : units ≡ taken.units = taken.added ∙ ap (λ before. before ++ taken.units) none in
     record {
       front = OPEN ∷ magic ++ batch units;
@@ -25,13 +25,13 @@ front-first bytes body old units rest opening begin is nothing zero none taken =
     }
 
 -- no first batch
-pub none-first : (body old : List ℕ) (begin : ℕ) → begin ≡ 0 → old ≡ [] → HasNoBatch (begin + length old) body → HasNoBatch 0 body
-none-first body old begin zero nothing none units rest counted whole fits = none units rest counted whole (omega (arith, fits, zero, ap length nothing))
+pub HasNoBatch-zero : (body old : List ℕ) (begin : ℕ) → begin ≡ 0 → old ≡ [] → HasNoBatch (begin + length old) body → HasNoBatch 0 body
+HasNoBatch-zero body old begin zero nothing none units rest counted whole fits = none units rest counted whole (omega (arith, fits, zero, ap length nothing))
 
 -- a head
-pub front-second : (bytes body units rest : List ℕ) (opening : Opening) → bytes ≡ OPEN ∷ head_magic ++ body → IsSnapshot opening
+pub TakesFront-second_format : (bytes body units rest : List ℕ) (opening : Opening) → bytes ≡ OPEN ∷ head_magic ++ body → IsSnapshot opening
     → body ≡ snapshot_bytes opening ++ rest → units ≡ [] → TakesFront bytes opening units rest
-front-second bytes body units rest opening is held whole none = record {
+TakesFront-second_format bytes body units rest opening is held whole none = record {
   front = OPEN ∷ head opening;
   begins = second_format held none refl;
   whole = is ∙ ap (λ list. OPEN ∷ head_magic ++ list) whole;
@@ -39,9 +39,9 @@ front-second bytes body units rest opening is held whole none = record {
 }
 
 -- no head
-pub none-second : (bytes body : List ℕ) → bytes ≡ OPEN ∷ head_magic ++ body
+pub no_head-bad_snapshot : (bytes body : List ℕ) → bytes ≡ OPEN ∷ head_magic ++ body
     → ((opening : Opening) (rest : List ℕ) → IsSnapshot opening → body ≡ snapshot_bytes opening ++ rest → ⊥) → IsBadSnapshot bytes
-none-second bytes body is none =
+no_head-bad_snapshot bytes body is none =
     record { second = (body, is); none = λ opening rest held whole. none opening rest held (ap (drop 8) (sym is ∙ whole)) }
 
 -- neither format
@@ -50,10 +50,10 @@ no_log-neither bytes first second log = ⊎_elim first (λ begins. second begins
 
 -- ---- batch by batch
 
-pub reads-to : (bytes front first : List ℕ) (opening : Opening) (read : List (List ℕ)) (units rest : List ℕ) → IsFront front opening first
+pub front_and_batches-ReadsTo : (bytes front first : List ℕ) (opening : Opening) (read : List (List ℕ)) (units rest : List ℕ) → IsFront front opening first
     → AllByRecursion IsCountedBatch read → bytes ≡ front ++ flat_map gated read ++ rest → units ≡ first ++ joined read → opening.lsn + length units ≤ LAST
     → ReadsTo bytes (record { opening = opening; units = units }) rest
-reads-to bytes front first opening read units rest begins each whole units_are total = record {
+front_and_batches-ReadsTo bytes front first opening read units rest begins each whole units_are total = record {
   front = front;
   first = first;
   begins = begins;
@@ -65,16 +65,16 @@ reads-to bytes front first opening read units rest begins each whole units_are t
 }
 
 -- one batch more
-pub whole-next : (bytes front : List ℕ) (read : List (List ℕ)) (reached body units rest : List ℕ) → bytes ≡ front ++ flat_map gated read ++ reached
+pub read_bytes-push : (bytes front : List ℕ) (read : List (List ℕ)) (reached body units rest : List ℕ) → bytes ≡ front ++ flat_map gated read ++ reached
     → reached ≡ OPEN ∷ body → body ≡ batch units ++ rest → bytes ≡ front ++ flat_map gated (read ++ units ∷ []) ++ rest
-whole-next bytes front read reached body units rest whole gate next =
-    whole ∙ ap (λ list. front ++ flat_map gated read ++ list) (gate ∙ ap (λ list. OPEN ∷ list) next) ∙ gated-next front read units rest
+read_bytes-push bytes front read reached body units rest whole gate next =
+    whole ∙ ap (λ list. front ++ flat_map gated read ++ list) (gate ∙ ap (λ list. OPEN ∷ list) next) ∙ gated-push_between front read units rest
 
 -- what is left of the bytes is no more than all of them
 pub rest-shorter : (bytes recorded rest : List ℕ) → bytes ≡ recorded ++ rest → length rest ≤ length bytes
 rest-shorter bytes recorded rest whole = omega (arith, ap length whole, length-append recorded rest)
 
-pub units-next : (first : List ℕ) (read : List (List ℕ)) (old units new : List ℕ) → old ≡ first ++ joined read → new ≡ old ++ units
+pub read_units-push : (first : List ℕ) (read : List (List ℕ)) (old units new : List ℕ) → old ≡ first ++ joined read → new ≡ old ++ units
     → new ≡ first ++ joined (read ++ units ∷ [])
-units-next first read old units new before added =
-    added ∙ ap (λ list. list ++ units) before ∙ append_assoc first (joined read) units ∙ ap (λ list. first ++ list) (sym (joined-more read units))
+read_units-push first read old units new before added =
+    added ∙ ap (λ list. list ++ units) before ∙ append_assoc first (joined read) units ∙ ap (λ list. first ++ list) (sym (joined-push read units))

@@ -25,15 +25,15 @@ slice_get-split (first ∷ bytes) (suc at) byte is =
 
 module _ (at : ℕ) (front : List ℕ) (place : at ≡ length front) where
   -- a torn write behind the front leaves it
-  pub torn-behind : (n : ℕ) (rest new : List ℕ) → IsTorn at n (front ++ rest) new → new ≡ front ++ drop at new
-  torn-behind n rest new torn = sym (take-append-drop at new) ∙ ap (λ bytes. bytes ++ drop at new) (torn.before ∙ take_at front rest at (sym place))
+  pub torn-front_kept : (n : ℕ) (rest new : List ℕ) → IsTorn at n (front ++ rest) new → new ≡ front ++ drop at new
+  torn-front_kept n rest new torn = sym (take-append-drop at new) ∙ ap (λ bytes. bytes ++ drop at new) (torn.before ∙ take_at front rest at (sym place))
 
   -- a torn write of one byte leaves the front, and what is behind the byte
-  pub torn-byte : (byte : ℕ) (rest new : List ℕ) → IsTorn at 1 (front ++ byte ∷ rest) new → new ≡ front ++ get_or new at 0 ∷ rest
-  torn-byte byte rest new torn =
+  pub torn_byte-front_and_rest_kept : (byte : ℕ) (rest new : List ℕ) → IsTorn at 1 (front ++ byte ∷ rest) new → new ≡ front ++ get_or new at 0 ∷ rest
+  torn_byte-front_and_rest_kept byte rest new torn =
       let long : at < length new = omega (arith, torn.no_shorter, length-append front (byte ∷ rest)) in
       let back : drop (at + 1) (front ++ byte ∷ rest) ≡ rest = ap (λ n. drop n (front ++ byte ∷ rest)) (ap (λ n. n + 1) place) ∙ drop-append-add front (byte ∷ rest) 1 in
-      torn-behind 1 (byte ∷ rest) new torn ∙ ap (λ bytes. front ++ bytes) (drop_more new at 0 long ∙ ap (λ bytes. get_or new at 0 ∷ bytes) (torn.after ∙ back))
+      torn-front_kept 1 (byte ∷ rest) new torn ∙ ap (λ bytes. front ++ bytes) (drop_more new at 0 long ∙ ap (λ bytes. get_or new at 0 ∷ bytes) (torn.after ∙ back))
 
   -- a whole write behind the front
   pub put-behind : (bytes rest : List ℕ) → put at bytes (front ++ rest) ≡ front ++ (bytes ++ drop (length bytes) rest)

@@ -10,7 +10,7 @@ use Rattle.segment_file.specs.Gates.{StaysClosed}
 use Rattle.segment_file.specs.Log.{Log}
 use Rattle.segment_file.specs.StandingLog.{LogStandsAt, LogStands, IsShut, IsStableGate, LacksGate, HoldsNoneOr}
 use Rattle.segment_file.proofs.Seams.{slice_get-seam, slice_get-drop}
-use Rattle.segment_file.proofs.StandingLemmas.{stands-again}
+use Rattle.segment_file.proofs.StandingLemmas.{stands-rest_replaced}
 
 closed-short : (bytes : List ℕ) → length bytes ≤ 1 → BeginsOpen bytes → ⊥
 closed-short [] short opened = opened
@@ -34,20 +34,20 @@ ends-byte (byte ∷ []) there closed = (byte, refl, λ opened. there (inr (ap (�
 ends-byte (byte ∷ next ∷ file) there closed = (byte, refl, λ opened. closed opened)
 
 module _ (at : ℕ) (file : List ℕ) (images : List ℕ → Type 0) (image : images file) (gate : IsStableGate at images) where
-  pub stays-closed : (c : List ℕ) → images c → StaysClosed at images c
-  stays-closed c left = (c, left, refl, gate.closed c left)
+  pub image-stays_closed : (c : List ℕ) → images c → StaysClosed at images c
+  image-stays_closed c left = (c, left, refl, gate.closed c left)
 
   -- a byte that is written where a gate lacks leaves it closed, in part or whole
-  pub stays-closed-torn : LacksGate at file → (c : List ℕ) → MayBeTorn at 1 images c → StaysClosed at images c
-  stays-closed-torn lacks c torn =
+  pub lacks_gate-torn_stays_closed : LacksGate at file → (c : List ℕ) → MayBeTorn at 1 images c → StaysClosed at images c
+  lacks_gate-torn_stays_closed lacks c torn =
       let same : slice_get (drop at torn.0) 0 ≡ slice_get (drop at file) 0 =
       slice_get-drop torn.0 at ∙ gate.stable torn.0 torn.1 ∙ sym (gate.stable file image) ∙ sym (slice_get-drop file at) in
       let ends = ends-short (drop at file) (drop at torn.0) lacks same (gate.closed torn.0 torn.1) in
       (torn.0, torn.1, torn.2.before, closed-short (drop at c) (omega (arith, ends, torn.2.no_longer, length-drop at torn.0, length-drop at c)))
 
   -- a gate that doesn't lack is shut
-  pub stable-shut : (LacksGate at file → ⊥) → (news : List ℕ → Type 0) → ((c : List ℕ) → news c → images c) → IsShut at news
-  stable-shut there news were =
+  pub stable_gate-shut : (LacksGate at file → ⊥) → (news : List ℕ → Type 0) → ((c : List ℕ) → news c → images c) → IsShut at news
+  stable_gate-shut there news were =
       let found = ends-byte (drop at file) there (gate.closed file image) in
       record {
         gate = found.0;
@@ -70,7 +70,7 @@ put-shut at old new news within written settled =
 -- what stays closed stands as before
 pub stays-stands : (tail : Tail) (log : Log) (images : List ℕ → Type 0) → LogStands tail log images → (c : List ℕ) → StaysClosed tail.at images c → LogStandsAt tail log c
 stays-stands tail log images stand c stays =
-    stands-again tail log stays.0 (stand stays.0 stays.1) c (drop tail.at c)
+    stands-rest_replaced tail log stays.0 (stand stays.0 stays.1) c (drop tail.at c)
     (sym (take-append-drop tail.at c) ∙ ap (λ front. front ++ drop tail.at c) stays.2) stays.3
 
 -- a closed first gate begins no log
@@ -78,5 +78,5 @@ pub stays-no_log : (images : List ℕ → Type 0) (c : List ℕ) → StaysClosed
 stays-no_log images c stays (inl log) = stays.3 (subst BeginsOpen (sym log.1) refl)
 stays-no_log images c stays (inr log) = stays.3 (subst BeginsOpen (sym log.1) refl)
 
-pub stays-none : (units : List ℕ) (images : List ℕ → Type 0) (c : List ℕ) → StaysClosed 0 images c → HoldsNoneOr units c
-stays-none units images c stays = inl (stays-no_log images c stays)
+pub stays-none_or : (units : List ℕ) (images : List ℕ → Type 0) (c : List ℕ) → StaysClosed 0 images c → HoldsNoneOr units c
+stays-none_or units images c stays = inl (stays-no_log images c stays)

@@ -11,13 +11,13 @@ use Rattle.segment_file.specs.File.{magic, batch, gated, joined, IsCountedBatch,
 use Rattle.segment_file.specs.Log.{Log, cut_log, with_units, second_format, ReadsTo}
 use Rattle.segment_file.specs.StandingLog.{StandsAt, LogStandsAt}
 use Rattle.segment_file.proofs.BatchLemmas.{length-batch}
-use Rattle.segment_file.proofs.FileLemmas.{gated-next, joined-more, counted-more}
+use Rattle.segment_file.proofs.FileLemmas.{gated-push_between, joined-push, counted-more}
 
 pub length-gated : (units : List ℕ) → length (gated units) ≡ 5 + 8 * length units
 length-gated units = omega (arith, length-batch (batch units ++ []) units [] refl, length-append (batch units) [])
 
-pub holds : (tail : Tail) (units bytes : List ℕ) → StandsAt tail units bytes → HoldsUnits bytes units
-holds tail units bytes stands = (stands.batches, stands.rest, stands.file, stands.units_are)
+pub StandsAt-HoldsUnits : (tail : Tail) (units bytes : List ℕ) → StandsAt tail units bytes → HoldsUnits bytes units
+StandsAt-HoldsUnits tail units bytes stands = (stands.batches, stands.rest, stands.file, stands.units_are)
 
 module _ (tail : Tail) (log : Log) (old : List ℕ) (stands : LogStandsAt tail log old) where
   abbrev reads : ReadsTo old log stands.held.rest
@@ -27,19 +27,19 @@ module _ (tail : Tail) (log : Log) (old : List ℕ) (stands : LogStandsAt tail l
   abbrev pub recorded : List ℕ
   recorded = reads.front ++ flat_map gated reads.batches
 
-  pub whole-recorded : old ≡ recorded ++ stands.held.rest
-  whole-recorded = reads.whole
+  pub recorded-append_rest : old ≡ recorded ++ stands.held.rest
+  recorded-append_rest = reads.whole
 
   pub length-recorded : tail.at ≡ length recorded
-  length-recorded = omega (arith, stands.place, ap length whole-recorded, length-append recorded stands.held.rest)
+  length-recorded = omega (arith, stands.place, ap length recorded-append_rest, length-append recorded stands.held.rest)
 
-  pub recorded-is : take tail.at old ≡ recorded
-  recorded-is = ap (take tail.at) whole-recorded ∙ take_at recorded stands.held.rest tail.at (sym length-recorded)
+  pub take_tail-recorded : take tail.at old ≡ recorded
+  take_tail-recorded = ap (take tail.at) recorded-append_rest ∙ take_at recorded stands.held.rest tail.at (sym length-recorded)
 
   -- the same batches, and then another gate that isn't open
-  pub stands-again : (bytes rest : List ℕ) → bytes ≡ take tail.at old ++ rest → (BeginsOpen rest → ⊥) → LogStandsAt tail log bytes
-  stands-again bytes rest whole closed =
-      let again : bytes ≡ recorded ++ rest = whole ∙ ap (λ front. front ++ rest) recorded-is in
+  pub stands-rest_replaced : (bytes rest : List ℕ) → bytes ≡ take tail.at old ++ rest → (BeginsOpen rest → ⊥) → LogStandsAt tail log bytes
+  stands-rest_replaced bytes rest whole closed =
+      let again : bytes ≡ recorded ++ rest = whole ∙ ap (λ front. front ++ rest) take_tail-recorded in
       record {
         held = record {
           rest = rest;
@@ -64,10 +64,10 @@ module _ (tail : Tail) (log : Log) (old : List ℕ) (stands : LogStandsAt tail l
       → new.next ≡ tail.next + length more → (bytes rest : List ℕ) → bytes ≡ take tail.at old ++ (gated more ++ rest) → (BeginsOpen rest → ⊥)
       → LogStandsAt new (with_units log more) bytes
   stands-more more counted fits new at next bytes rest whole closed =
-      let again : bytes ≡ recorded ++ (gated more ++ rest) = whole ∙ ap (λ front. front ++ (gated more ++ rest)) recorded-is in
+      let again : bytes ≡ recorded ++ (gated more ++ rest) = whole ∙ ap (λ front. front ++ (gated more ++ rest)) take_tail-recorded in
       let units : log.units ++ more ≡ reads.first ++ joined (reads.batches ++ more ∷ []) =
       ap (λ before. before ++ more) reads.units ∙ append_assoc reads.first (joined reads.batches) more
-      ∙ ap (λ list. reads.first ++ list) (sym (joined-more reads.batches more)) in
+      ∙ ap (λ list. reads.first ++ list) (sym (joined-push reads.batches more)) in
       let count = length-append log.units more in
       record {
         held = record {
@@ -80,7 +80,7 @@ module _ (tail : Tail) (log : Log) (old : List ℕ) (stands : LogStandsAt tail l
             each = counted-more reads.batches more reads.each counted;
             units = units;
             total = omega (arith, fits, stands.next, count);
-            whole = again ∙ gated-next reads.front reads.batches more rest;
+            whole = again ∙ gated-push_between reads.front reads.batches more rest;
           };
           closed = closed;
         };

@@ -7,7 +7,7 @@ use Rattle.log_disk.specs.OneCall.{MakesCall, Syncs, TellsLength, WritesAt}
 use Rattle.log_disk.specs.declared.disk.LogDisk.{Ghosts}
 use Rattle.log_disk.specs.declared.fault.Failed.{Failed}
 use Rattle.log_disk.proofs.Moments.{Leaves-call, Leaves-trans}
-use Rattle.log_disk.proofs.Uses.{HasCause-then}
+use Rattle.log_disk.proofs.Uses.{HasCause-same_before}
 use Rattle.segment_file.specs.Calls.{WritesSynced}
 use Rattle.segment_file.proofs.Results.{IfOk-each}
 
@@ -60,8 +60,8 @@ module _ {D : Type 0} (g : Ghosts D) (old mid new : D) where
 
   module _ (result : Result ℕ Failed) (told : Told g mid new result) (synced : Synced g old mid) where
     -- a sync, and then a look at the length
-    pub told-settles : Settles g old new result
-    told-settles = record {
+    pub synced_told-settles : Settles g old new result
+    synced_told-settles = record {
       settled = λ honest. IfOk-each _ result (λ len c left. synced.does.settled honest c ((told.does.keeps.image c).0 left)
           ∙ sym (told.does.keeps.file (synced.honest.0 honest) ∙ synced.does.reads honest));
       reads = λ honest. told.does.keeps.file (synced.honest.0 honest) ∙ synced.does.reads honest;
@@ -70,8 +70,8 @@ module _ {D : Type 0} (g : Ghosts D) (old mid new : D) where
     }
 
     -- and what both cost
-    pub told-uses : Uses g 1 2 old new result
-    told-uses = record {
+    pub synced_told-uses : Uses g 1 2 old new result
+    synced_told-uses = record {
       count = λ honest. record {
         successes = omega (arith, synced.does.count honest, told.does.keeps.count (synced.honest.0 honest));
         calls = omega (arith, synced.calls honest, told.calls (synced.honest.0 honest));
@@ -79,5 +79,5 @@ module _ {D : Type 0} (g : Ghosts D) (old mid new : D) where
       later = omega (arith, synced.time.later, told.time.later);
       honest = (λ honest. told.honest.0 (synced.honest.0 honest), λ honest. synced.honest.1 (told.honest.1 honest));
       attached = told.attached ∙ synced.attached;
-      cause = HasCause-then _ _ _ result synced.cause.fine told.cause;
+      cause = HasCause-same_before _ _ _ result synced.cause.fine told.cause;
     }

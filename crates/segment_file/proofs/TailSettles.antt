@@ -4,14 +4,14 @@ use Rattle.std.proofs.lemmas.Result.{err_from_is_err_and}
 use Rattle.log_disk.specs.Disk.{put, IsOnlyImage, Leaves}
 use Rattle.log_disk.specs.Faults.{Rose}
 use Rattle.log_disk.specs.declared.disk.LogDisk.{Ghosts}
-use Rattle.log_disk.proofs.Moments.{Leaves-now, Leaves-weaken}
+use Rattle.log_disk.proofs.Moments.{Leaves-images_now, Leaves-weaken}
 use Rattle.segment_file.specs.Calls.{HasStableGate}
 use Rattle.segment_file.specs.Changes.{ClosesGate, SettlesTail}
 use Rattle.segment_file.specs.Log.{Log, HoldsLog}
 use Rattle.segment_file.specs.StandingLog.{tail_at, IsShut, LacksGate, LogStands}
 use Rattle.segment_file.specs.declared.layout.TheConstants.{CLOSED}
 use Rattle.segment_file.specs.declared.scan_result.Tail.{Tail}
-use Rattle.segment_file.proofs.StableGates.{stays-closed, stays-stands}
+use Rattle.segment_file.proofs.StableGates.{image-stays_closed, stays-stands}
 
 module _ {D T E : Type 0} (g : Ghosts D) (at next : ℕ) (old new : D) (image : g.honest old → g.images old (g.reads old))
     (counts_now : (disk : D) (t : ℕ) (c : List ℕ) → t ≤ g.moment disk → g.images disk c → g.images_since disk t c)
@@ -26,7 +26,7 @@ module _ {D T E : Type 0} (g : Ghosts D) (at next : ℕ) (old new : D) (image : 
   stands-now : g.honest old → (log : Log) → LogStands (tail_at at next) log (g.images old) → LogStands (tail_at at next) log (g.images new)
   stands-now honest log stand c left =
       stays-stands (tail_at at next) log _ stand c
-      (Leaves-now g.moment g.images_since g.images counts_now _ old new only_now (stays-closed at _ _ (image honest) (stable honest))
+      (Leaves-images_now g.moment g.images_since g.images counts_now _ old new only_now (image-stays_closed at _ _ (image honest) (stable honest))
       (closes.moments honest) c left)
 
   -- the gate wasn't closed
@@ -49,12 +49,12 @@ module _ {D T E : Type 0} (g : Ghosts D) (at next : ℕ) (old new : D) (image : 
   })
 
   -- the gate was closed, or was for good
-  pub settles-then : (g.honest old → IsShut at (g.images new))
+  pub settles-succeeded : (g.honest old → IsShut at (g.images new))
       → (g.honest old → LacksGate at (g.reads old) → g.reads new ≡ put at (CLOSED ∷ []) (g.reads old))
       → (g.honest old → IsOnlyImage (g.reads old) (g.images old) ⊎ LacksGate at (g.reads old) → IsOnlyImage (g.reads new) (g.images new))
       → g.faults new ≡ g.faults old → {F : Type 0} (answer : Result Tail F) → answer ≡ Ok (tail_at at next)
       → SettlesTail g at next old new answer
-  settles-then shut closed settled same answer is = rw is (record {
+  settles-succeeded shut closed settled same answer is = rw is (record {
     moments = held-since;
     stand = stands-now;
     shut = shut;

@@ -24,13 +24,13 @@ length-rows [] = refl
 length-rows (row ∷ rows) = omega (arith, length-rows rows)
 
 -- one row more is written
-pub rows-more : (rows : List (ℕ × ℕ)) (n : ℕ) (row : ℕ × ℕ) → slice_get rows n ≡ Some row
+pub row_bytes-front_push : (rows : List (ℕ × ℕ)) (n : ℕ) (row : ℕ × ℕ) → slice_get rows n ≡ Some row
     → flat_map row_bytes (take (n + 1) rows) ≡ flat_map row_bytes (take n rows) ++ row_bytes row
-rows-more [] n row is = grind arith
-rows-more (first ∷ rows) zero row is = let same : first ≡ row = cc in ap row_bytes same
-rows-more (first ∷ rows) (suc n) row is =
+row_bytes-front_push [] n row is = grind arith
+row_bytes-front_push (first ∷ rows) zero row is = let same : first ≡ row = cc in ap row_bytes same
+row_bytes-front_push (first ∷ rows) (suc n) row is =
     let past : suc (n + 1) ≡ suc n + 1 = omega arith in
-    sym (ap (λ k. flat_map row_bytes (take k (first ∷ rows))) past) ∙ ap (λ bytes. row_bytes first ++ bytes) (rows-more rows n row is)
+    sym (ap (λ k. flat_map row_bytes (take k (first ∷ rows))) past) ∙ ap (λ bytes. row_bytes first ++ bytes) (row_bytes-front_push rows n row is)
     ∙ sym (append_assoc (row_bytes first) (flat_map row_bytes (take n rows)) (row_bytes row))
 
 -- rows are read back
@@ -62,8 +62,8 @@ unfolding snapshot_bytes
 length-snapshot opening = omega (arith, length-rows opening.accounts)
 
 -- openings that stand at the same place are the same
-pub one_head : (a b : Opening) (x y : List ℕ) → IsSnapshot a → IsSnapshot b → snapshot_bytes a ++ x ≡ snapshot_bytes b ++ y → (a ≡ b) × (x ≡ y)
-one_head a b x y is_a is_b same =
+pub snapshot_bytes-append_injective : (a b : Opening) (x y : List ℕ) → IsSnapshot a → IsSnapshot b → snapshot_bytes a ++ x ≡ snapshot_bytes b ++ y → (a ≡ b) × (x ≡ y)
+snapshot_bytes-append_injective a b x y is_a is_b same =
     let opening : a ≡ b = sym (opening_in-snapshot a x is_a) ∙ ap opening_in same ∙ opening_in-snapshot b y is_b in
     let level : snapshot_bytes b ++ x ≡ snapshot_bytes b ++ y = subst (λ o. snapshot_bytes o ++ x ≡ snapshot_bytes b ++ y) opening same in
     (opening, sym (drop-append_seam (snapshot_bytes b) x) ∙ ap (drop (length (snapshot_bytes b))) level ∙ drop-append_seam (snapshot_bytes b) y)
@@ -73,9 +73,9 @@ one_head a b x y is_a is_b same =
 pub opening_in-sealed : (opening : Opening) (bytes : List ℕ) → IsSnapshot opening → bytes ≡ sealed_head opening → opening_in (drop 7 bytes) ≡ opening
 opening_in-sealed opening bytes held is = ap (λ list. opening_in (drop 7 list)) is ∙ opening_in-snapshot opening (NEXT_GATE ∷ []) held
 
-pub head-made : (opening : Opening) (bytes : List ℕ) (lsn : ℕ) → IsSnapshot opening → bytes ≡ sealed_head opening → lsn ≡ opening.lsn
+pub sealed_head-IsHead : (opening : Opening) (bytes : List ℕ) (lsn : ℕ) → IsSnapshot opening → bytes ≡ sealed_head opening → lsn ≡ opening.lsn
     → IsHead bytes (opening_in (drop 7 bytes)) lsn
-head-made opening bytes lsn held is begins =
+sealed_head-IsHead opening bytes lsn held is begins =
     subst (λ o. IsHead bytes o lsn) (sym (opening_in-sealed opening bytes held is)) (record { held = held; whole = is; begins = begins })
 
 -- piece by piece
@@ -116,15 +116,15 @@ unfolding snapshot_bytes
 snapshot-read opening lsn txn count bytes behind rest lsn_is txn_is count_is read rows = rw (read, lsn_is, txn_is, count_is, rows) refl
 
 -- one row more was read
-pub rows-read : (rows : List (ℕ × ℕ)) (balance mark : ℕ) (bytes before after : List ℕ) → bytes ≡ flat_map row_bytes rows ++ before
+pub read_rows-push : (rows : List (ℕ × ℕ)) (balance mark : ℕ) (bytes before after : List ℕ) → bytes ≡ flat_map row_bytes rows ++ before
     → before ≡ to_be_bytes w64 balance ++ to_be_bytes w32 mark ++ after → bytes ≡ flat_map row_bytes (rows ++ (balance, mark) ∷ []) ++ after
-rows-read rows balance mark bytes before after whole first =
+read_rows-push rows balance mark bytes before after whole first =
     whole ∙ ap (λ list. flat_map row_bytes rows ++ list) first ∙ sym (append_assoc (flat_map row_bytes rows) (row_bytes (balance, mark)) after)
     ∙ ap (λ list. list ++ after) (sym (flat_map-append row_bytes rows ((balance, mark) ∷ [])))
 
-pub rows-each : (lsn : ℕ) (rows : List (ℕ × ℕ)) (row : ℕ × ℕ) → AllByRecursion (IsRow lsn) rows → IsRow lsn row → AllByRecursion (IsRow lsn) (rows ++ row ∷ [])
-rows-each lsn [] row each is = (is, tt)
-rows-each lsn (first ∷ rows) row each is = (each.0, rows-each lsn rows row each.1 is)
+pub all_rows-push : (lsn : ℕ) (rows : List (ℕ × ℕ)) (row : ℕ × ℕ) → AllByRecursion (IsRow lsn) rows → IsRow lsn row → AllByRecursion (IsRow lsn) (rows ++ row ∷ [])
+all_rows-push lsn [] row each is = (is, tt)
+all_rows-push lsn (first ∷ rows) row each is = (each.0, all_rows-push lsn rows row each.1 is)
 
 -- rows that are left of so many, once some were read
 pub record RowsLeft (lsn read count : ℕ) (bytes rest : List ℕ) : Type 0 where
@@ -133,15 +133,15 @@ pub record RowsLeft (lsn read count : ℕ) (bytes rest : List ℕ) : Type 0 wher
   pub each : AllByRecursion (IsRow lsn) rows
   pub whole : bytes ≡ flat_map row_bytes rows ++ rest
 
-pub rows-long : (lsn read count : ℕ) (bytes rest : List ℕ) → read < count → RowsLeft lsn read count bytes rest → 12 ≤ length bytes
-rows-long lsn read count bytes rest before left =
+pub rows_left-twelve_bytes : (lsn read count : ℕ) (bytes rest : List ℕ) → read < count → RowsLeft lsn read count bytes rest → 12 ≤ length bytes
+rows_left-twelve_bytes lsn read count bytes rest before left =
     omega (arith, before, left.counted, ap length left.whole, length-append (flat_map row_bytes left.rows) rest, length-rows left.rows)
 
 module _ (lsn read count balance mark : ℕ) (bytes after rest : List ℕ) (small : lsn ≤ LAST) (is_balance : balance < 2 ^ 64) (is_mark : mark < 2 ^ 32)
     (before : read < count) (first : bytes ≡ to_be_bytes w64 balance ++ to_be_bytes w32 mark ++ after) where
   -- the next row is the one that was read
-  pub rows-next : RowsLeft lsn read count bytes rest → IsRow lsn (balance, mark) × RowsLeft lsn (read + 1) count after rest
-  rows-next left = by_rows left.rows left.counted left.each left.whole
+  pub rows_left-step : RowsLeft lsn read count bytes rest → IsRow lsn (balance, mark) × RowsLeft lsn (read + 1) count after rest
+  rows_left-step left = by_rows left.rows left.counted left.each left.whole
     where
       by_rows : (rows : List (ℕ × ℕ)) → read + length rows ≡ count → AllByRecursion (IsRow lsn) rows → bytes ≡ flat_map row_bytes rows ++ rest
           → IsRow lsn (balance, mark) × RowsLeft lsn (read + 1) count after rest

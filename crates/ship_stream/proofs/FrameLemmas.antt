@@ -11,7 +11,7 @@ use Rattle.log_record.specs.declared.rec.Rec.{Rec}
 use Rattle.log_record.specs.declared.rec.Rec.TheVariants.{Genesis, Update, Commit, Short, Over, Note}
 use Rattle.log_record.specs.LogList.{units_of, end_of}
 use Rattle.log_record.specs.Spelling.{spelling, IsSpellable}
-use Rattle.log_record.proofs.BoundLemmas.{spelling-fits}
+use Rattle.log_record.proofs.BoundLemmas.{spelling-all_units}
 use Rattle.log_record.proofs.SpellingLemmas.{units_of-injective}
 use Rattle.ship_stream.specs.Stream.{head_bytes, counted_bytes, frame_bytes, end_bytes, IsFrame}
 
@@ -26,13 +26,13 @@ pub end_of-append : (xs ys : List Rec) → end_of (xs ++ ys) ≡ end_of xs + end
 end_of-append xs ys = ap length (units_of-append xs ys) ∙ length-append (units_of xs) (units_of ys)
 
 -- a spelling has a unit
-pub some_units : (rec : Rec) → 0 < length (spelling rec)
-some_units (Genesis account balance) = omega arith
-some_units (Update txn account delta prev) = omega arith
-some_units (Commit txn legs) = omega arith
-some_units (Short txn leg) = omega arith
-some_units (Over txn leg) = omega arith
-some_units (Note txn text) = omega arith
+pub length_spelling-positive : (rec : Rec) → 0 < length (spelling rec)
+length_spelling-positive (Genesis account balance) = omega arith
+length_spelling-positive (Update txn account delta prev) = omega arith
+length_spelling-positive (Commit txn legs) = omega arith
+length_spelling-positive (Short txn leg) = omega arith
+length_spelling-positive (Over txn leg) = omega arith
+length_spelling-positive (Note txn text) = omega arith
 
 -- ---- numbers
 
@@ -74,10 +74,10 @@ same_units (u ∷ us) (v ∷ vs) x y is_us is_vs long same =
     (omega arith) back in
     rw (head, tail) refl
 
-pub spellings-fit : (records : List Rec) → AllByRecursion IsSpellable records → All (λ u. u < 2 ^ 64) (units_of records)
-spellings-fit [] each = All-nil (λ u. u < 2 ^ 64)
-spellings-fit (rec ∷ records) each =
-    All-append (λ u. u < 2 ^ 64) (spelling rec) (units_of records) (spelling-fits rec each.0) (spellings-fit records each.1)
+pub units_of-below_64_bits : (records : List Rec) → AllByRecursion IsSpellable records → All (λ u. u < 2 ^ 64) (units_of records)
+units_of-below_64_bits [] each = All-nil (λ u. u < 2 ^ 64)
+units_of-below_64_bits (rec ∷ records) each =
+    All-append (λ u. u < 2 ^ 64) (spelling rec) (units_of records) (spelling-all_units rec each.0) (units_of-below_64_bits records each.1)
 
 -- frames that stand at the same place are the same
 pub same_frame : (rs ss : List Rec) (x y : List ℕ) → IsFrame rs → IsFrame ss → frame_bytes rs ++ x ≡ frame_bytes ss ++ y
@@ -87,7 +87,7 @@ same_frame rs ss x y is_rs is_ss same =
     let number = same_number (end_of rs) (end_of ss) (flat_map unit_bytes (units_of rs) ++ x) (flat_map unit_bytes (units_of ss) ++ y)
     (omega (arith, is_rs.most)) (omega (arith, is_ss.most)) same in
     let units =
-    same_units (units_of rs) (units_of ss) x y (spellings-fit rs is_rs.spellable) (spellings-fit ss is_ss.spellable) number.0 number.1 in (
+    same_units (units_of rs) (units_of ss) x y (units_of-below_64_bits rs is_rs.spellable) (units_of-below_64_bits ss is_ss.spellable) number.0 number.1 in (
       units_of-injective rs ss (All-from_recursion IsSpellable rs is_rs.spellable) (All-from_recursion IsSpellable ss is_ss.spellable)
           units,
       append-cancel_left (flat_map unit_bytes (units_of ss)) x y

@@ -7,18 +7,18 @@ use Rattle.lsn_space.specs.Unit.{unit_bytes}
 use Rattle.log_disk.specs.Faults.{HasCause}
 use Rattle.log_disk.specs.Streams.{AppendsPart, AppendsBut}
 use Rattle.log_disk.specs.declared.sink.Sink.{Ghosts}
-use Rattle.log_disk.proofs.Blocks.{AppendsBut-more, AppendsBut-part, AppendsPart-first}
+use Rattle.log_disk.proofs.Blocks.{AppendsBut-trans, AppendsBut-trans_part_of_piece, AppendsPart-append}
 use Rattle.log_disk.specs.Blocks.{PutsPiece}
 use Rattle.ship_stream.specs.Stream.{counted_bytes}
 
 -- where no fault was counted until then
-pub cause-since : {T E : Type 0} (first before now : ℕ) (result : Result T E) → before ≡ first → HasCause before now result
+pub has_cause-same_start : {T E : Type 0} (first before now : ℕ) (result : Result T E) → before ≡ first → HasCause before now result
     → HasCause first now result
-cause-since first before now result same cause = subst (λ count. HasCause count now result) same cause
+has_cause-same_start first before now result same cause = subst (λ count. HasCause count now result) same cause
 
 -- where none was counted at all
-pub cause-none : {T E : Type 0} (first now : ℕ) (value : T) → now ≡ first → HasCause {T = T} {E = E} first now (Ok value)
-cause-none first now value same = record { later = subst (λ count. first ≤ count) (sym same) (le_refl first); fine = same; failed = tt }
+pub has_cause-ok : {T E : Type 0} (first now : ℕ) (value : T) → now ≡ first → HasCause {T = T} {E = E} first now (Ok value)
+has_cause-ok first now value same = record { later = subst (λ count. first ≤ count) (sym same) (le_refl first); fine = same; failed = tt }
 
 counted-is : (block : List ℕ) (count : ℕ) (units : List ℕ)
     → (block ++ to_be_bytes w32 count) ++ flat_map unit_bytes units ≡ block ++ counted_bytes count units
@@ -34,10 +34,10 @@ module _ {K : Type 0} (g : Ghosts K) (count : ℕ) (units : List ℕ) (old mid :
       let from = g.held_bytes old in let to = g.held_bytes new in let body : List ℕ = flat_map unit_bytes units in
       record {
         all = on_ok_weaker result (λ more. subst (λ bytes. AppendsBut from to bytes after) (counted-is waits count units)
-            (AppendsBut-more from (g.held_bytes mid) to (waits ++ to_be_bytes w32 count) between put body after more)) rest.all;
+            (AppendsBut-trans from (g.held_bytes mid) to (waits ++ to_be_bytes w32 count) between put body after more)) rest.all;
         prefix = on_err_weaker result (λ cut. subst (AppendsPart from to) (counted-is waits count units)
-            (AppendsBut-part from (g.held_bytes mid) to (waits ++ to_be_bytes w32 count) between put body cut)) rest.prefix;
-        cause = cause-since (g.faults old) (g.faults mid) (g.faults new) result same rest.cause;
+            (AppendsBut-trans_part_of_piece from (g.held_bytes mid) to (waits ++ to_be_bytes w32 count) between put body cut)) rest.prefix;
+        cause = has_cause-same_start (g.faults old) (g.faults mid) (g.faults new) result same rest.cause;
       }
 
   pub counted-cut : {T U E : Type 0} (after : List ℕ) (error : E)
@@ -46,7 +46,7 @@ module _ {K : Type 0} (g : Ghosts K) (count : ℕ) (units : List ℕ) (old mid :
       → PutsPiece {T = T} {E = E} g (counted_bytes count units) old mid waits after (Err error)
   counted-cut after error cut cause = record {
     all = tt;
-    prefix = AppendsPart-first (g.held_bytes old) (g.held_bytes mid) _ (waits ++ to_be_bytes w32 count) (flat_map unit_bytes units) cut
+    prefix = AppendsPart-append (g.held_bytes old) (g.held_bytes mid) _ (waits ++ to_be_bytes w32 count) (flat_map unit_bytes units) cut
         (sym (counted-is waits count units));
     cause = record { later = cause.later; fine = tt; failed = cause.failed };
   }

@@ -8,7 +8,7 @@ use Rattle.std.proofs.lemmas.List.Elements.{All-from_recursion}
 use Rattle.std.proofs.Math.Seq.{take-append_seam, drop-append_seam}
 use Rattle.lsn_space.proofs.TilingLemmas.{all-push}
 use Rattle.log_disk.specs.Streams.{AppendsPart, AppendsBut}
-use Rattle.log_disk.proofs.Blocks.{AppendsBut-more, AppendsBut-part, AppendsPart-first}
+use Rattle.log_disk.proofs.Blocks.{AppendsBut-trans, AppendsBut-trans_part_of_piece, AppendsPart-append}
 use Rattle.log_record.specs.declared.rec.Rec.{Rec}
 use Rattle.log_record.specs.LogList.{units_of, end_of, size_of, AreUnitsOf}
 use Rattle.log_record.specs.Spelling.{spelling, IsSpellable}
@@ -18,8 +18,8 @@ use Rattle.ship_stream.specs.Frames.{packed_behind, frames_of, stream_of}
 use Rattle.ship_stream.specs.Shipping.{BeginsFrame}
 use Rattle.ship_stream.specs.Stream.{head_bytes, counted_bytes, frame_bytes, end_bytes}
 use Rattle.ship_stream.specs.declared.layout.TheConstants.{SHIPPED_UNITS}
-use Rattle.ship_stream.proofs.FrameLemmas.{units_of-append, end_of-append, some_units}
-use Rattle.ship_stream.proofs.PackingLemmas.{fits-behind, flushed-behind}
+use Rattle.ship_stream.proofs.FrameLemmas.{units_of-append, end_of-append, length_spelling-positive}
+use Rattle.ship_stream.proofs.PackingLemmas.{packed_behind-fits, packed_behind-full_from_none}
 
 all-append : (xs ys : List Rec) → AllByRecursion IsSpellable xs → AllByRecursion IsSpellable ys → AllByRecursion IsSpellable (xs ++ ys)
 all-append [] ys first second = second
@@ -70,60 +70,60 @@ module _ (units : List ℕ) (len : ℕ) (rest : List ℕ) (gathering : IsGatheri
 
   module _ (first : ℕ) (behind : List ℕ) (some : rest ≡ first ∷ behind) (size : ℕ)
       (sized : (rec : Rec) (own more : List ℕ) → IsSpellable rec → first ∷ own ≡ spelling rec ++ more → size ≡ size_of rec) where
-    pub parts : (rec : Rec) × (later : List Rec) × (gathering.left ≡ rec ∷ later)
-    parts = begins gathering.left refl first behind some
+    pub gathering_left-first_record : (rec : Rec) × (later : List Rec) × (gathering.left ≡ rec ∷ later)
+    gathering_left-first_record = begins gathering.left refl first behind some
 
-    spellable : IsSpellable parts.0 × AllByRecursion IsSpellable parts.1
-    spellable = subst (AllByRecursion IsSpellable) parts.2 gathering.each
+    spellable : IsSpellable gathering_left-first_record.0 × AllByRecursion IsSpellable gathering_left-first_record.1
+    spellable = subst (AllByRecursion IsSpellable) gathering_left-first_record.2 gathering.each
 
-    rest-split : rest ≡ spelling parts.0 ++ units_of parts.1
-    rest-split = gathering.rest_is ∙ ap units_of parts.2
+    rest-split : rest ≡ spelling gathering_left-first_record.0 ++ units_of gathering_left-first_record.1
+    rest-split = gathering.rest_is ∙ ap units_of gathering_left-first_record.2
 
-    pub size-is : size ≡ size_of parts.0
-    size-is = sized parts.0 behind (units_of parts.1) spellable.0 (sym some ∙ rest-split)
+    pub size-size_of_first_record : size ≡ size_of gathering_left-first_record.0
+    size-size_of_first_record = sized gathering_left-first_record.0 behind (units_of gathering_left-first_record.1) spellable.0 (sym some ∙ rest-split)
 
     pub size-bounds : (0 < size) × (size ≤ 26) × (size ≤ length rest)
     size-bounds = (
-      omega (arith, size-is, some_units parts.0),
-      omega (arith, size-is, length-spelling parts.0 spellable.0),
-      omega (arith, size-is, ap length rest-split, length-append (spelling parts.0) (units_of parts.1)),
+      omega (arith, size-size_of_first_record, length_spelling-positive gathering_left-first_record.0),
+      omega (arith, size-size_of_first_record, length-spelling gathering_left-first_record.0 spellable.0),
+      omega (arith, size-size_of_first_record, ap length rest-split, length-append (spelling gathering_left-first_record.0) (units_of gathering_left-first_record.1)),
     )
 
     -- one record more
     pub gathering-more : (after : List ℕ) → after ≡ drop size rest → len + size ≤ SHIPPED_UNITS → IsGathering units (len + size) after
     gathering-more after dropped fits =
-        let regrouped : gathering.waits ++ gathering.left ≡ (gathering.waits ++ parts.0 ∷ []) ++ parts.1 =
-        ap (λ left. gathering.waits ++ left) parts.2 ∙ sym (append_assoc gathering.waits (parts.0 ∷ []) parts.1) in
+        let regrouped : gathering.waits ++ gathering.left ≡ (gathering.waits ++ gathering_left-first_record.0 ∷ []) ++ gathering_left-first_record.1 =
+        ap (λ left. gathering.waits ++ left) gathering_left-first_record.2 ∙ sym (append_assoc gathering.waits (gathering_left-first_record.0 ∷ []) gathering_left-first_record.1) in
         record {
-          waits = gathering.waits ++ parts.0 ∷ [];
-          left = parts.1;
-          waiting = all-push IsSpellable gathering.waits parts.0 gathering.waiting spellable.0;
+          waits = gathering.waits ++ gathering_left-first_record.0 ∷ [];
+          left = gathering_left-first_record.1;
+          waiting = all-push IsSpellable gathering.waits gathering_left-first_record.0 gathering.waiting spellable.0;
           each = spellable.1;
           whole = gathering.whole ∙ ap units_of regrouped;
-          rest_is = dropped ∙ ap (λ n. drop n rest) size-is ∙ ap (drop (size_of parts.0)) rest-split
-              ∙ drop-append_seam (spelling parts.0) (units_of parts.1);
+          rest_is = dropped ∙ ap (λ n. drop n rest) size-size_of_first_record ∙ ap (drop (size_of gathering_left-first_record.0)) rest-split
+              ∙ drop-append_seam (spelling gathering_left-first_record.0) (units_of gathering_left-first_record.1);
           count = omega (
             arith,
-            size-is,
+            size-size_of_first_record,
             gathering.count,
-            end_of-append gathering.waits (parts.0 ∷ []),
-            ap length (append-nil (spelling parts.0)),
+            end_of-append gathering.waits (gathering_left-first_record.0 ∷ []),
+            ap length (append-nil (spelling gathering_left-first_record.0)),
           );
           most = fits;
-          packed = ap frames_of (sym regrouped) ∙ gathering.packed ∙ ap (packed_behind SHIPPED_UNITS gathering.waits) parts.2
-              ∙ fits-behind SHIPPED_UNITS gathering.waits parts.0 parts.1 (omega (arith, fits, size-is, gathering.count));
+          packed = ap frames_of (sym regrouped) ∙ gathering.packed ∙ ap (packed_behind SHIPPED_UNITS gathering.waits) gathering_left-first_record.2
+              ∙ packed_behind-fits SHIPPED_UNITS gathering.waits gathering_left-first_record.0 gathering_left-first_record.1 (omega (arith, fits, size-size_of_first_record, gathering.count));
         }
 
     -- the next record doesn't fit
-    pub gathering-full : SHIPPED_UNITS < len + size → BeginsFrame units len
-    gathering-full full = record {
+    pub gathering_full-begins_frame : SHIPPED_UNITS < len + size → BeginsFrame units len
+    gathering_full-begins_frame full = record {
       frame = gathering.waits;
       left = gathering.left;
       list = record { spellable = all-append gathering.waits gathering.left gathering.waiting gathering.each; units_are = gathering.whole };
-      first = gathering.packed ∙ ap (packed_behind SHIPPED_UNITS gathering.waits) parts.2
-          ∙ flushed-behind SHIPPED_UNITS gathering.waits parts.0 parts.1 (omega (arith, length-spelling parts.0 spellable.0))
-          (omega (arith, full, size-is, gathering.count))
-          ∙ ap (λ left. gathering.waits ∷ frames_of left) (sym parts.2);
+      first = gathering.packed ∙ ap (packed_behind SHIPPED_UNITS gathering.waits) gathering_left-first_record.2
+          ∙ packed_behind-full_from_none SHIPPED_UNITS gathering.waits gathering_left-first_record.0 gathering_left-first_record.1 (omega (arith, length-spelling gathering_left-first_record.0 spellable.0))
+          (omega (arith, full, size-size_of_first_record, gathering.count))
+          ∙ ap (λ left. gathering.waits ∷ frames_of left) (sym gathering_left-first_record.2);
       count = gathering.count;
       some = omega (arith, full, size-bounds.1);
       short = gathering.most;
@@ -139,7 +139,7 @@ module _ (units : List ℕ) (len : ℕ) (rest : List ℕ) (gathering : IsGatheri
         empty,
         ap length gathering.rest_is,
         ap end_of is,
-        some_units rec,
+        length_spelling-positive rec,
         length-append (spelling rec) (units_of later),
       ))
 
@@ -148,8 +148,8 @@ module _ (units : List ℕ) (len : ℕ) (rest : List ℕ) (gathering : IsGatheri
   last-one [] is some empty = absurd (omega (arith, some, empty, gathering-length, gathering.count, ap end_of is))
   last-one (rec ∷ waits) is some empty = refl
 
-  pub gathering-last : 0 < length units → length rest ≡ 0 → BeginsFrame units len
-  gathering-last some empty =
+  pub gathering_last-begins_frame : 0 < length units → length rest ≡ 0 → BeginsFrame units len
+  gathering_last-begins_frame some empty =
       let none = none-left gathering.left refl empty in
       record {
         frame = gathering.waits;
@@ -179,8 +179,8 @@ pub record IsShipping (from : ℕ) (units rest waiting : List ℕ) (old new : Op
   pub frames : frames_of records ≡ done ++ frames_of left
   pub written : AppendsBut old new (head_bytes from ++ flat_map frame_bytes done) waiting
 
-pub one-list : (units : List ℕ) (xs ys : List Rec) → AreUnitsOf units xs → AreUnitsOf units ys → xs ≡ ys
-one-list units xs ys first second =
+pub are_units_of-injective : (units : List ℕ) (xs ys : List Rec) → AreUnitsOf units xs → AreUnitsOf units ys → xs ≡ ys
+are_units_of-injective units xs ys first second =
     units_of-injective xs ys (All-from_recursion IsSpellable xs first.spellable) (All-from_recursion IsSpellable ys second.spellable)
     (sym first.units_are ∙ second.units_are)
 
@@ -198,14 +198,14 @@ shipping-none from units waiting records old new are written = record {
 
 module _ (from : ℕ) (units rest waiting : List ℕ) (old mid : Option (List ℕ)) (before : IsShipping from units rest waiting old mid) where
   same-frames : (records : List Rec) → AreUnitsOf units records → frames_of records ≡ before.done ++ frames_of before.left
-  same-frames records are = ap frames_of (one-list units records before.records are before.list) ∙ before.frames
+  same-frames records are = ap frames_of (are_units_of-injective units records before.records are before.list) ∙ before.frames
 
   abbrev written-to : List ℕ
   written-to = head_bytes from ++ flat_map frame_bytes before.done
 
   module _ (len : ℕ) (first : BeginsFrame rest len) (own : List ℕ) (own_is : own ≡ take len rest) where
     left-is : before.left ≡ first.frame ++ first.left
-    left-is = one-list rest before.left (first.frame ++ first.left) before.rest_is first.list
+    left-is = are_units_of-injective rest before.left (first.frame ++ first.left) before.rest_is first.list
 
     rest-frames : rest ≡ units_of first.frame ++ units_of first.left
     rest-frames = first.list.units_are ∙ units_of-append first.frame first.left
@@ -240,7 +240,7 @@ module _ (from : ℕ) (units rest waiting : List ℕ) (old mid : Option (List �
           };
           frames = before.frames ∙ frames-is ∙ sym (append_assoc before.done (first.frame ∷ []) (frames_of first.left));
           written = subst (λ list. AppendsBut old new list waiting') bytes
-              (AppendsBut-more old mid new written-to waiting before.written (counted_bytes (length own) own) waiting' put);
+              (AppendsBut-trans old mid new written-to waiting before.written (counted_bytes (length own) own) waiting' put);
         }
 
     whole-stream : (records : List Rec) → AreUnitsOf units records
@@ -262,7 +262,7 @@ module _ (from : ℕ) (units rest waiting : List ℕ) (old mid : Option (List �
         → AppendsPart mid new (waiting ++ counted_bytes (length own) own)
         → AppendsPart old new (stream_of from records)
     shipping-cut new records are cut =
-        AppendsPart-first old new _ _ _ (AppendsBut-part old mid new written-to waiting before.written (counted_bytes (length own) own)
+        AppendsPart-append old new _ _ _ (AppendsBut-trans_part_of_piece old mid new written-to waiting before.written (counted_bytes (length own) own)
         cut) (whole-stream records are)
 
   -- all frames are written
@@ -275,7 +275,7 @@ module _ (from : ℕ) (units rest waiting : List ℕ) (old mid : Option (List �
           empty,
           ap length before.rest_is.units_are,
           ap end_of is,
-          some_units rec,
+          length_spelling-positive rec,
           length-append (spelling rec) (units_of later),
         ))
 
@@ -286,12 +286,12 @@ module _ (from : ℕ) (units rest waiting : List ℕ) (old mid : Option (List �
     pub shipping-end : (new : Option (List ℕ)) (waiting' : List ℕ) → AppendsBut mid new (waiting ++ end_bytes) waiting'
         → AppendsBut old new (stream_of from records) waiting'
     shipping-end new waiting' put = subst (λ list. AppendsBut old new list waiting') (sym ended-stream)
-        (AppendsBut-more old mid new written-to waiting before.written end_bytes waiting' put)
+        (AppendsBut-trans old mid new written-to waiting before.written end_bytes waiting' put)
 
     pub shipping-end_cut : (new : Option (List ℕ)) → AppendsPart mid new (waiting ++ end_bytes)
         → AppendsPart old new (stream_of from records)
     shipping-end_cut new cut =
-        subst (AppendsPart old new) (sym ended-stream) (AppendsBut-part old mid new written-to waiting before.written end_bytes cut)
+        subst (AppendsPart old new) (sym ended-stream) (AppendsBut-trans_part_of_piece old mid new written-to waiting before.written end_bytes cut)
 
 -- ---- the units of a frame
 
@@ -301,19 +301,19 @@ module _ (block units waiting : List ℕ) (i unit : ℕ) (old mid : Option (List
   one-more = flat_map_more unit_bytes block (take i units) unit
       ∙ ap (λ list. block ++ flat_map unit_bytes list) (ap (λ u. take i units ++ u ∷ []) is ∙ sym (take_more units i 0 within))
 
-  pub units-more : (new : Option (List ℕ)) (waiting' : List ℕ) → AppendsBut mid new (waiting ++ unit_bytes unit) waiting'
+  pub appends_unit_bytes-push : (new : Option (List ℕ)) (waiting' : List ℕ) → AppendsBut mid new (waiting ++ unit_bytes unit) waiting'
       → AppendsBut old new (block ++ flat_map unit_bytes (take (i + 1) units)) waiting'
-  units-more new waiting' put =
+  appends_unit_bytes-push new waiting' put =
       subst (λ list. AppendsBut old new list waiting') one-more
-      (AppendsBut-more old mid new _ waiting before (unit_bytes unit) waiting' put)
+      (AppendsBut-trans old mid new _ waiting before (unit_bytes unit) waiting' put)
 
-  pub units-cut : (new : Option (List ℕ)) → AppendsPart mid new (waiting ++ unit_bytes unit)
+  pub appends_unit_bytes-cut : (new : Option (List ℕ)) → AppendsPart mid new (waiting ++ unit_bytes unit)
       → AppendsPart old new (block ++ flat_map unit_bytes units)
-  units-cut new cut =
+  appends_unit_bytes-cut new cut =
       let rest : List ℕ = flat_map unit_bytes (drop (i + 1) units) in
       let whole : flat_map unit_bytes units ≡ flat_map unit_bytes (take (i + 1) units) ++ rest =
       ap (flat_map unit_bytes) (sym (take-append-drop (i + 1) units))
       ∙ flat_map-append unit_bytes (take (i + 1) units) (drop (i + 1) units) in
-      AppendsPart-first old new _ _ rest (AppendsBut-part old mid new _ waiting before (unit_bytes unit) cut)
+      AppendsPart-append old new _ _ rest (AppendsBut-trans_part_of_piece old mid new _ waiting before (unit_bytes unit) cut)
       (ap (λ list. block ++ list) whole ∙ sym (append_assoc block (flat_map unit_bytes (take (i + 1) units)) rest)
       ∙ ap (λ list. list ++ rest) (sym one-more))

@@ -167,9 +167,9 @@ bad-none bytes first frames (Whole b gs) offset stream bad =
     (end-has_no_frame _ bad.0) in
     omega (arith, bad.2, ap length one.rest)
 
-pub one_stream-fine : (bytes : List ℕ) (first : ℕ) (frames : List (List Rec)) (offset : ℕ) → IsStream bytes first frames
+pub is_stream-not_bad_stream : (bytes : List ℕ) (first : ℕ) (frames : List (List Rec)) (offset : ℕ) → IsStream bytes first frames
     → IsBadStream bytes offset → ⊥
-one_stream-fine bytes first frames offset stream bad = bad-none bytes first frames bad.0 offset stream bad.1
+is_stream-not_bad_stream bytes first frames offset stream bad = bad-none bytes first frames bad.0 offset stream bad.1
 
 one-bad : (bytes : List ℕ) (c d : Came) (a b : ℕ) → IsBadBehind c bytes a → IsBadBehind d bytes b → a ≡ b
 one-bad bytes NoHead NoHead a b bad also = bad.1 ∙ sym also.1
@@ -194,5 +194,5 @@ one-bad bytes (Whole l ls) (Whole m ms) a b bad also =
     (end-has_no_frame _ also.0) in
     omega (arith, ap length one.rest, bad.3, also.3)
 
-pub one_stream-place : (bytes : List ℕ) (a b : ℕ) → IsBadStream bytes a → IsBadStream bytes b → a ≡ b
-one_stream-place bytes a b bad also = one-bad bytes bad.0 also.0 a b bad.1 also.1
+pub bad_stream_offset-unique : (bytes : List ℕ) (a b : ℕ) → IsBadStream bytes a → IsBadStream bytes b → a ≡ b
+bad_stream_offset-unique bytes a b bad also = one-bad bytes bad.0 also.0 a b bad.1 also.1

@@ -6,12 +6,12 @@ use Rattle.lsn_space.proofs.TilingLemmas.{find-map}
 use Rattle.ring_core.specs.RingLog.{Reservation, RingLog, is_at, fresh, filled_at, IsFull, released_at}
 use Rattle.ring_core.specs.LogLaws.{IsSoundLog}
 use Rattle.ring_core.proofs.RangeLemmas.{found-base, filled_at-other, released_at-other}
-use Rattle.ring_core.proofs.LogKeeping.{bases-below}
+use Rattle.ring_core.proofs.LogKeeping.{bases-below_tail}
 use Rattle.slot_core.specs.Owners.{is_open}
 
 -- nothing is found at the tail
 pub tail-absent : (l : RingLog) → IsSoundLog l → find (is_at l.tail) l.reservations ≡ None
-tail-absent l sound = none-found l.reservations (bases-below l sound)
+tail-absent l sound = none-found l.reservations (bases-below_tail l sound)
   where
     none-found : (rs : List Reservation) → AllByRecursion (λ (r : Reservation). r.base < l.tail) rs → find (is_at l.tail) rs ≡ None
     none-found [] all = refl

@@ -6,8 +6,8 @@ use Rattle.slot_core.specs.State.{GroupPhase, MemberStage, Closes, Waits, Places
 use Rattle.slot_core.specs.Members.{seat_in, is_of, extent_of, seats_of, IsGranted, IsTold, HasHeard, HasHeardAt}
 use Rattle.slot_core.specs.Groups.{units_at, units_in, units_of, sum_of, LieApart}
 use Rattle.slot_core.specs.Laws.{FitsPiece, IsTrueTask}
-use Rattle.slot_core.proofs.Lists.{Split, picked-one, picked-append, picked-gone, picked-none, each-left, each-right}
-use Rattle.slot_core.proofs.Hands.{with-same, units-absent, units-append}
+use Rattle.slot_core.proofs.Lists.{Split, picked_single-split, picked-append, picked-without_unpicked, picked-append_none, all-left_of_append, all-right_of_append}
+use Rattle.slot_core.proofs.Hands.{task_of-with_task_self, units-with_task_absent, units-append}
 
 -- the first member that is the actor's goes
 without-split : (me : ℕ) (ls rs : List Member) (x : Member) → seats_of me ls ≡ [] → is_of me x ≡ true → without me (ls ++ x ∷ rs) ≡ ls ++ rs
@@ -33,9 +33,9 @@ apart-gone : (a b : ℕ) (x : Member) (ls rs : List Member) → LieApart a (ls +
 apart-gone a b x [] rs h = apart-from (x.offset + x.size) a b rs (let first = h.0 in omega (arith, first)) h.2
 apart-gone a b x (l ∷ ls) rs h = (h.0, h.1, apart-gone (l.offset + l.size) b x ls rs h.2)
 
-pub no-members : (a b : ℕ) (ms : List Member) → LieApart a ms b → sum_of ms ≡ 0 → ms ≡ []
-no-members a b [] h e = refl
-no-members a b (m ∷ ms) h e = let some' = h.1 in absurd (omega (arith, e, some'))
+pub sum_zero-no_members : (a b : ℕ) (ms : List Member) → LieApart a ms b → sum_of ms ≡ 0 → ms ≡ []
+sum_zero-no_members a b [] h e = refl
+sum_zero-no_members a b (m ∷ ms) h e = let some' = h.1 in absurd (omega (arith, e, some'))
 
 -- where the actor is a member, what is known of the members but it
 pub record Left (me n : ℕ) (ms : List Member) : Type 0 where
@@ -48,23 +48,23 @@ pub record Left (me n : ℕ) (ms : List Member) : Type 0 where
 units-mid : (k : ℕ) (hands : List Hand) (ls rs : List Member) (x : Member) → units_of k hands (ls ++ x ∷ rs) ≡ units_of k hands ls + units_in k (task_of x.actor hands) + units_of k hands rs
 units-mid k hands ls rs x = let h = units-append k hands ls (x ∷ rs) in omega (arith, h)
 
-pub lefts : (me a n : ℕ) (ms : List Member) → seats_of me ms ≡ (a, n) ∷ [] → Left me n ms
-lefts me a n ms h = let s = picked-one (is_of me) extent_of ms (a, n) h in let is = without-one me ms (a, n) s in let actor : s.x.actor ≡ me = eqb-true s.x.actor me s.has in
+pub single_seat-left : (me a n : ℕ) (ms : List Member) → seats_of me ms ≡ (a, n) ∷ [] → Left me n ms
+single_seat-left me a n ms h = let s = picked_single-split (is_of me) extent_of ms (a, n) h in let is = without-one me ms (a, n) s in let actor : s.x.actor ≡ me = eqb-true s.x.actor me s.has in
     let size : s.x.size ≡ n = ap (λ (p : ℕ × ℕ). p.1) s.is in record {
-      mine = ap (seats_of me) is ∙ picked-none (is_of me) extent_of s.ls s.rs s.before s.after;
-      others = λ j ne. ap (seats_of j) is ∙ (picked-gone (is_of j) extent_of s.ls s.rs s.x (ne_eqb s.x.actor j (λ e. ne (sym e ∙ actor))) ∙ ap (seats_of j) (sym s.split));
+      mine = ap (seats_of me) is ∙ picked-append_none (is_of me) extent_of s.ls s.rs s.before s.after;
+      others = λ j ne. ap (seats_of j) is ∙ (picked-without_unpicked (is_of j) extent_of s.ls s.rs s.x (ne_eqb s.x.actor j (λ e. ne (sym e ∙ actor))) ∙ ap (seats_of j) (sym s.split));
       sum = ap (λ l. sum_of l + n) is ∙ (ap (λ z. sum_of (s.ls ++ s.rs) + z) (sym size) ∙ (sum-gone s.x s.ls s.rs ∙ ap sum_of (sym s.split)));
       apart = λ b o. subst (λ l. LieApart 0 l b) (sym is) (apart-gone 0 b s.x s.ls s.rs (subst (λ l. LieApart 0 l b) s.split o));
-      units = λ k new hands. let e = ap (units_of k (with_task me new hands)) is ∙ units-append k (with_task me new hands) s.ls s.rs in let l = units-absent k me new hands s.ls s.before in let r = units-absent k me new hands s.rs s.after in
+      units = λ k new hands. let e = ap (units_of k (with_task me new hands)) is ∙ units-append k (with_task me new hands) s.ls s.rs in let l = units-with_task_absent k me new hands s.ls s.before in let r = units-with_task_absent k me new hands s.rs s.after in
           let f = ap (units_of k hands) s.split ∙ units-mid k hands s.ls s.rs s.x in let mid = ap (λ i. units_in k (task_of i hands)) actor in omega (arith, e, l, r, f, mid);
     }
 
 -- where the actor fills
-pub units-here : (k me a n : ℕ) (new : Task) (hands : List Hand) (ms : List Member) → seats_of me ms ≡ (a, n) ∷ [] → units_of k (with_task me new hands) ms + units_in k (task_of me hands) ≡ units_of k hands ms + units_in k new
-units-here k me a n new hands ms h = let s = picked-one (is_of me) extent_of ms (a, n) h in let actor : s.x.actor ≡ me = eqb-true s.x.actor me s.has in
-    let e = ap (units_of k (with_task me new hands)) s.split ∙ units-mid k (with_task me new hands) s.ls s.rs s.x in let l = units-absent k me new hands s.ls s.before in let r = units-absent k me new hands s.rs s.after in
+pub units-with_task_member : (k me a n : ℕ) (new : Task) (hands : List Hand) (ms : List Member) → seats_of me ms ≡ (a, n) ∷ [] → units_of k (with_task me new hands) ms + units_in k (task_of me hands) ≡ units_of k hands ms + units_in k new
+units-with_task_member k me a n new hands ms h = let s = picked_single-split (is_of me) extent_of ms (a, n) h in let actor : s.x.actor ≡ me = eqb-true s.x.actor me s.has in
+    let e = ap (units_of k (with_task me new hands)) s.split ∙ units-mid k (with_task me new hands) s.ls s.rs s.x in let l = units-with_task_absent k me new hands s.ls s.before in let r = units-with_task_absent k me new hands s.rs s.after in
     let f = ap (units_of k hands) s.split ∙ units-mid k hands s.ls s.rs s.x in let mid = ap (λ i. units_in k (task_of i hands)) actor in
-    let now = ap (λ i. units_in k (task_of i (with_task me new hands))) actor ∙ ap (units_in k) (with-same me new hands) in omega (arith, e, l, r, f, mid, now)
+    let now = ap (λ i. units_in k (task_of i (with_task me new hands))) actor ∙ ap (units_in k) (task_of-with_task_self me new hands) in omega (arith, e, l, r, f, mid, now)
 
 -- what holds of each that stands in the list
 each-split : {A : Type 0} → (P : A → Type 0) (xs : List A) → ((ls rs : List A) (x : A) → xs ≡ ls ++ x ∷ rs → P x) → AllByRecursion P xs
@@ -110,12 +110,12 @@ abbrev HasBound : ℕ → List Hand → Member → Type 0
 HasBound k hands m = units_in k (task_of m.actor hands) ≤ m.size
 
 -- where one has units to fill, the group has
-pub units-left : (k me a n : ℕ) (hands : List Hand) (l : RingLog) (ms : List Member) → ((j : ℕ) → seats_of j ms ≡ seat_in k (task_of j hands)) → ((j : ℕ) → IsTrueTask l (task_of j hands))
+pub unfilled_member-unfilled_group : (k me a n : ℕ) (hands : List Hand) (l : RingLog) (ms : List Member) → ((j : ℕ) → seats_of j ms ≡ seat_in k (task_of j hands)) → ((j : ℕ) → IsTrueTask l (task_of j hands))
     → seats_of me ms ≡ (a, n) ∷ [] → units_in k (task_of me hands) + 1 ≤ n → units_of k hands ms + 1 ≤ sum_of ms
-units-left k me a n hands l ms joins held h less =
-    let s = picked-one (is_of me) extent_of ms (a, n) h in let actor : s.x.actor ≡ me = eqb-true s.x.actor me s.has in let size : s.x.size ≡ n = ap (λ (p : ℕ × ℕ). p.1) s.is in
+unfilled_member-unfilled_group k me a n hands l ms joins held h less =
+    let s = picked_single-split (is_of me) extent_of ms (a, n) h in let actor : s.x.actor ≡ me = eqb-true s.x.actor me s.has in let size : s.x.size ≡ n = ap (λ (p : ℕ × ℕ). p.1) s.is in
     let all = subst (AllByRecursion (HasBound k hands)) s.split (each-split (HasBound k hands) ms bounded) in
-    let left = units-le k hands s.ls (each-left (HasBound k hands) s.ls (s.x ∷ s.rs) all) in let right = units-le k hands s.rs ((each-right (HasBound k hands) s.ls (s.x ∷ s.rs) all).1) in
+    let left = units-le k hands s.ls (all-left_of_append (HasBound k hands) s.ls (s.x ∷ s.rs) all) in let right = units-le k hands s.rs ((all-right_of_append (HasBound k hands) s.ls (s.x ∷ s.rs) all).1) in
     let f = ap (units_of k hands) s.split ∙ units-mid k hands s.ls s.rs s.x in let g = ap sum_of s.split ∙ sum-mid s.ls s.rs s.x in let mid = ap (λ i. units_in k (task_of i hands)) actor in
     omega (arith, left, right, f, g, mid, size, less)
   where
@@ -125,9 +125,9 @@ units-left k me a n hands l ms joins held h less =
         (held x.actor)
 
 -- where no granted group is told, nobody has filled any
-pub no-units : (k : ℕ) (z : Task) (p : GroupPhase) → (IsTold IsGranted p → ⊥) → HasHeardAt k z p → units_in k z ≡ 0
-no-units k (InRing q z) p n h = refl
-no-units k (Joined m) p n h = by_test (m.slot == k) refl m.stage h
+pub not_granted-no_units : (k : ℕ) (z : Task) (p : GroupPhase) → (IsTold IsGranted p → ⊥) → HasHeardAt k z p → units_in k z ≡ 0
+not_granted-no_units k (InRing q z) p n h = refl
+not_granted-no_units k (Joined m) p n h = by_test (m.slot == k) refl m.stage h
   where
     by_test : (b : Bool) → (m.slot == k) ≡ b → (st : MemberStage) → (m.slot ≡ k → HasHeard st p) → cond b (units_at st) 0 ≡ 0
     by_test false is st h = refl
@@ -140,6 +140,6 @@ no-units k (Joined m) p n h = by_test (m.slot == k) refl m.stage h
     by_test true is Leaves h = refl
 
 -- one that is no member has heard nothing there
-pub heard-nothing : (k : ℕ) (z : Task) (p : GroupPhase) → seat_in k z ≡ [] → HasHeardAt k z p
-heard-nothing k (InRing q z) p e = tt
-heard-nothing k (Joined m) p e = λ same. let h : cond {A = List (ℕ × ℕ)} true ((m.offset, m.size) ∷ []) [] ≡ [] = ap (λ b. cond {A = List (ℕ × ℕ)} b ((m.offset, m.size) ∷ []) []) (sym (eq-eqb m.slot k same)) ∙ e in absurd (cc)
+pub no_seat-has_heard_at : (k : ℕ) (z : Task) (p : GroupPhase) → seat_in k z ≡ [] → HasHeardAt k z p
+no_seat-has_heard_at k (InRing q z) p e = tt
+no_seat-has_heard_at k (Joined m) p e = λ same. let h : cond {A = List (ℕ × ℕ)} true ((m.offset, m.size) ∷ []) [] ≡ [] = ap (λ b. cond {A = List (ℕ × ℕ)} b ((m.offset, m.size) ∷ []) []) (sym (eq-eqb m.slot k same)) ∙ e in absurd (cc)

@@ -9,12 +9,12 @@ use Rattle.slot_core.specs.Groups.{units_of, LieApart, IsTrueOutcome, IsGroup}
 use Rattle.slot_core.specs.Laws.{IsSound}
 use Rattle.slot_core.specs.Machine.{HasPlace, gathered, stage_joined}
 use Rattle.slot_core.specs.Plain.{HasOwners, WorksAlone, IsOfOneSlot, IsOfOneKind, LeadsFromZero, HasPiecesApart, HasPiecesInRange, SumsRemaining}
-use Rattle.slot_core.proofs.Owning.{is-actor, is-slot}
+use Rattle.slot_core.proofs.Owning.{is_actor_true-actor, is_slot_true-shared}
 use Rattle.slot_core.proofs.Pieces.{tiles-apart}
 
 -- a range that isn't marked has an owner: an actor, or a slot's placed group
-pub range-owned : (s : SlotState) → IsSound s → HasOwners s
-range-owned s sound b r found flag = by_owner (sound.owner b) refl (sym (sound.owned b) ∙ (ap is_open found ∙ ap not flag))
+pub sound-has_owners : (s : SlotState) → IsSound s → HasOwners s
+sound-has_owners s sound b r found flag = by_owner (sound.owner b) refl (sym (sound.owned b) ∙ (ap is_open found ∙ ap not flag))
   where
     by_owner : (o : Owner) → sound.owner b ≡ o → is_owned o ≡ true → ((j : ℕ) × (works_on b (task_of j s.hands) ≡ true)) ⊎ ((k : ℕ) × (placed_at b (group_at k s.groups).phase ≡ true))
     by_owner Nobody is own = absurd (true≢false (sym own))
@@ -22,14 +22,14 @@ range-owned s sound b r found flag = by_owner (sound.owner b) refl (sym (sound.o
     by_owner (Shared k) is own = inr (k, sound.shares k b ∙ (ap (is_slot k) is ∙ eq-eqb k k refl))
 
 -- and no other
-pub one-actor : (s : SlotState) → IsSound s → WorksAlone s
-one-actor s sound b i j x y = let a = is-actor i (sound.owner b) (sym x ∙ sound.works i b) in let c = is-actor j (sound.owner b) (sym y ∙ sound.works j b) in let e : Actor i ≡ Actor j = sym a ∙ c in cc
+pub sound-works_alone : (s : SlotState) → IsSound s → WorksAlone s
+sound-works_alone s sound b i j x y = let a = is_actor_true-actor i (sound.owner b) (sym x ∙ sound.works i b) in let c = is_actor_true-actor j (sound.owner b) (sym y ∙ sound.works j b) in let e : Actor i ≡ Actor j = sym a ∙ c in cc
 
-pub one-slot : (s : SlotState) → IsSound s → IsOfOneSlot s
-one-slot s sound b i j x y = let a = is-slot i (sound.owner b) (sym x ∙ sound.shares i b) in let c = is-slot j (sound.owner b) (sym y ∙ sound.shares j b) in let e : Shared i ≡ Shared j = sym a ∙ c in cc
+pub sound-of_one_slot : (s : SlotState) → IsSound s → IsOfOneSlot s
+sound-of_one_slot s sound b i j x y = let a = is_slot_true-shared i (sound.owner b) (sym x ∙ sound.shares i b) in let c = is_slot_true-shared j (sound.owner b) (sym y ∙ sound.shares j b) in let e : Shared i ≡ Shared j = sym a ∙ c in cc
 
-pub not-both : (s : SlotState) → IsSound s → IsOfOneKind s
-not-both s sound b i k x y = let a = is-actor i (sound.owner b) (sym x ∙ sound.works i b) in let c = is-slot k (sound.owner b) (sym y ∙ sound.shares k b) in let e : Actor i ≡ Shared k = sym a ∙ c in cc
+pub sound-of_one_kind : (s : SlotState) → IsSound s → IsOfOneKind s
+sound-of_one_kind s sound b i k x y = let a = is_actor_true-actor i (sound.owner b) (sym x ∙ sound.works i b) in let c = is_slot_true-shared k (sound.owner b) (sym y ∙ sound.shares k b) in let e : Actor i ≡ Shared k = sym a ∙ c in cc
 
 -- a member's piece lies within its group
 pub seat-within : (lo hi j a n : ℕ) (ms : List Member) → LieApart lo ms hi → seats_of j ms ≡ (a, n) ∷ [] → (lo ≤ a) × (1 ≤ n) × (a + n ≤ hi)
@@ -70,8 +70,8 @@ group-apart most u rs ms (Ready l t o) h = (t, tiles-apart 0 t ms h.gathered.til
 group-apart most u rs ms (Told t o r) h = (t, h.apart)
 group-apart most u rs ms (Emptied l) h = (0, nobody-apart ms h)
 
-pub members-apart : (s : SlotState) → IsSound s → HasPiecesApart s
-members-apart s sound k i j a n b m ne x y = let g = group_at k s.groups in let h = group-apart (s.log.ring / 4) (units_of k s.hands g.members) s.log.reservations g.members g.phase (sound.groups k) in
+pub sound-pieces_apart : (s : SlotState) → IsSound s → HasPiecesApart s
+sound-pieces_apart s sound k i j a n b m ne x y = let g = group_at k s.groups in let h = group-apart (s.log.ring / 4) (units_of k s.hands g.members) s.log.reservations g.members g.phase (sound.groups k) in
     pieces-apart 0 h.0 i j a n b m g.members ne h.1 x y
 
 -- a range that a group was granted is as long as its total
@@ -90,17 +90,17 @@ group-range most u b rs ms (Told t o r) h at = (t, h.apart, covered b t r u rs o
 group-range most u b rs ms (Emptied l) h at = absurd (true≢false (sym at))
 
 -- a member's piece lies within the group's range
-pub piece-in-range : (s : SlotState) → IsSound s → HasPiecesInRange s
-piece-in-range s sound k j a n b at seat = let g = group_at k s.groups in let h = group-range (s.log.ring / 4) (units_of k s.hands g.members) b s.log.reservations g.members g.phase (sound.groups k) at in
+pub sound-pieces_in_range : (s : SlotState) → IsSound s → HasPiecesInRange s
+sound-pieces_in_range s sound k j a n b at seat = let g = group_at k s.groups in let h = group-range (s.log.ring / 4) (units_of k s.hands g.members) b s.log.reservations g.members g.phase (sound.groups k) at in
     let w = seat-within 0 h.0 j a n g.members h.1 seat in let last = w.2 in let size = h.2.2 in (h.2.0, h.2.1, omega (arith, last, size))
 
 -- what remains of a told group is what its members have who haven't released
-pub members-remain : (s : SlotState) → IsSound s → SumsRemaining s
-members-remain s sound k t r o at = let ms = (group_at k s.groups).members in (subst (IsGroup (s.log.ring / 4) s.log.reservations (units_of k s.hands ms) ms) at (sound.groups k)).sum
+pub sound-sums_remaining : (s : SlotState) → IsSound s → SumsRemaining s
+sound-sums_remaining s sound k t r o at = let ms = (group_at k s.groups).members in (subst (IsGroup (s.log.ring / 4) s.log.reservations (units_of k s.hands ms) ms) at (sound.groups k)).sum
 
 -- who joins where no unit is gathered leads, and no other
-pub leads-first : (s : SlotState) → IsSound s → LeadsFromZero s
-leads-first s sound me k n may = by_phase (units_of k s.hands (group_at k s.groups).members) (group_at k s.groups).members (group_at k s.groups).phase may.place (sound.groups k)
+pub sound-leads_from_zero : (s : SlotState) → IsSound s → LeadsFromZero s
+sound-leads_from_zero s sound me k n may = by_phase (units_of k s.hands (group_at k s.groups).members) (group_at k s.groups).members (group_at k s.groups).phase may.place (sound.groups k)
   where
     by_phase : (u : ℕ) (ms : List Member) (p : GroupPhase) → HasPlace (s.log.ring / 4) n p → IsGroup (s.log.ring / 4) s.log.reservations u ms p → (stage_joined p ≡ Closes) ↔ (gathered p ≡ 0)
     by_phase u ms Vacant place h = (λ e. refl, λ e. refl)

@@ -5,25 +5,25 @@ use Rattle.slot_core.specs.Members.{is_of, extent_of, seats_of, NextStep, step_o
 use Rattle.slot_core.specs.Groups.{sum_of, Tiles, LieApart}
 use Rattle.slot_core.proofs.Lists.{picked-append}
 
-pub one : {A : Type 0} → (x : A) (k : ℕ) → cond {A = List A} (k == k) (x ∷ []) [] ≡ x ∷ []
-one x k = ap (λ b. cond b (x ∷ []) []) (eq-eqb k k refl)
+pub cond_equal-single : {A : Type 0} → (x : A) (k : ℕ) → cond {A = List A} (k == k) (x ∷ []) [] ≡ x ∷ []
+cond_equal-single x k = ap (λ b. cond b (x ∷ []) []) (eq-eqb k k refl)
 
-pub none : {A : Type 0} → (x : A) (l j : ℕ) → j ≢ l → cond {A = List A} (l == j) (x ∷ []) [] ≡ []
-none x l j ne = ap (λ b. cond b (x ∷ []) []) (ne_eqb l j (λ e. ne (sym e)))
+pub cond_unequal-none : {A : Type 0} → (x : A) (l j : ℕ) → j ≢ l → cond {A = List A} (l == j) (x ∷ []) [] ≡ []
+cond_unequal-none x l j ne = ap (λ b. cond b (x ∷ []) []) (ne_eqb l j (λ e. ne (sym e)))
 
-pub either-empty : {A : Type 0} → (b : Bool) → cond {A = List A} b [] [] ≡ []
-either-empty true = refl
-either-empty false = refl
+pub cond-both_none : {A : Type 0} → (b : Bool) → cond {A = List A} b [] [] ≡ []
+cond-both_none true = refl
+cond-both_none false = refl
 
--- the one that makes the slot's next step is its leader
-pub leader-is : (l me k : ℕ) (x : NextStep) → cond (l == me) (x ∷ []) [] ≡ cond (k == k) (x ∷ []) [] → l ≡ me
-leader-is l me k x e = by_test (l == me) refl (e ∙ one x k)
+-- the cond_equal-single that makes the slot's next step is its leader
+pub step_agrees-leader : (l me k : ℕ) (x : NextStep) → cond (l == me) (x ∷ []) [] ≡ cond (k == k) (x ∷ []) [] → l ≡ me
+step_agrees-leader l me k x e = by_test (l == me) refl (e ∙ cond_equal-single x k)
   where
     by_test : (b : Bool) → (l == me) ≡ b → cond b (x ∷ []) [] ≡ x ∷ [] → l ≡ me
     by_test true is h = eqb-true l me is
     by_test false is h = absurd (cc)
 
--- what was heard of one phase holds of the next, where all that is told stays told
+-- what was heard of cond_equal-single phase holds of the next, where all that is told stays told
 heard-shift : (st : MemberStage) (p p' : GroupPhase) → ((P : Outcome → Type 0) → IsTold P p → IsTold P p') → HasHeard st p → HasHeard st p'
 heard-shift Closes p p' f h = tt
 heard-shift Waits p p' f h = tt
@@ -33,13 +33,13 @@ heard-shift Tells p p' f h = tt
 heard-shift (Fills x) p p' f h = f IsGranted h
 heard-shift Leaves p p' f h = f IsRefused h
 
-pub heard_at-shift : (k : ℕ) (z : Task) (p p' : GroupPhase) → ((P : Outcome → Type 0) → IsTold P p → IsTold P p') → HasHeardAt k z p → HasHeardAt k z p'
-heard_at-shift k (Joined m) p p' f h = λ e. heard-shift m.stage p p' f (h e)
-heard_at-shift k (InRing q z) p p' f h = tt
+pub heard_at-new_phase : (k : ℕ) (z : Task) (p p' : GroupPhase) → ((P : Outcome → Type 0) → IsTold P p → IsTold P p') → HasHeardAt k z p → HasHeardAt k z p'
+heard_at-new_phase k (Joined m) p p' f h = λ e. heard-shift m.stage p p' f (h e)
+heard_at-new_phase k (InRing q z) p p' f h = tt
 
 -- another actor sees the leader's step only in the phase
-pub other-leads : (j k : ℕ) (z : Task) (ms : List Member) (p p' : GroupPhase) → step_of j p ≡ [] → step_of j p' ≡ [] → ((P : Outcome → Type 0) → IsTold P p → IsTold P p') → Link j k z (group ms p) → Link j k z (group ms p')
-other-leads j k z ms p p' empty empty' f l = record { joins = l.joins; leads = empty' ∙ (sym empty ∙ l.leads); told = heard_at-shift k z p p' f l.told }
+pub other_link-new_phase : (j k : ℕ) (z : Task) (ms : List Member) (p p' : GroupPhase) → step_of j p ≡ [] → step_of j p' ≡ [] → ((P : Outcome → Type 0) → IsTold P p → IsTold P p') → Link j k z (group ms p) → Link j k z (group ms p')
+other_link-new_phase j k z ms p p' empty empty' f l = record { joins = l.joins; leads = empty' ∙ (sym empty ∙ l.leads); told = heard_at-new_phase k z p p' f l.told }
 
 pub tiles-push : (a b n j : ℕ) (ms : List Member) → 1 ≤ n → Tiles a ms b → Tiles a (ms ++ member j b n ∷ []) (b + n)
 tiles-push a b n j [] some' h = (sym h, some', ap (λ x. x + n) h)

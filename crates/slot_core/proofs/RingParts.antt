@@ -66,23 +66,23 @@ module _ (gs : List Group) (r : RingState) where
   raise-same j z None = refl
   raise-same j z (Some at) = turn-alone (raised wide.log at) j (Holds (raised wide.log at).exposed)
 
-  pub enabled-to : (event : RingEvent) → IsRingEnabled wide event → IsEnabledAlone r event
-  enabled-to (Reserve j n) h = record { idle = ap ring_stage (sym (task-alone j r.hands) ∙ h.0); room = h.1 }
-  enabled-to (Fill j) h = subst (MayFill wide) (task-alone j r.hands) h
-  enabled-to (Mark j) h = subst (λ z. IsSomeAnd (worked_on (ring_stage z) r.reservations) IsFull) (task-alone j r.hands) h
-  enabled-to (LookExposed j) h = subst (λ z. ring_stage z ≡ Marked) (task-alone j r.hands) h
-  enabled-to (LookMark j) h = subst (λ z. IsSome (looks_at (ring_stage z))) (task-alone j r.hands) h
-  enabled-to (Raise j) h = subst (λ z. IsSome (raises_from (ring_stage z))) (task-alone j r.hands) h
-  enabled-to (Flushed to) h = h
+  pub enabled-enabled_alone : (event : RingEvent) → IsRingEnabled wide event → IsEnabledAlone r event
+  enabled-enabled_alone (Reserve j n) h = record { idle = ap ring_stage (sym (task-alone j r.hands) ∙ h.0); room = h.1 }
+  enabled-enabled_alone (Fill j) h = subst (MayFill wide) (task-alone j r.hands) h
+  enabled-enabled_alone (Mark j) h = subst (λ z. IsSomeAnd (worked_on (ring_stage z) r.reservations) IsFull) (task-alone j r.hands) h
+  enabled-enabled_alone (LookExposed j) h = subst (λ z. ring_stage z ≡ Marked) (task-alone j r.hands) h
+  enabled-enabled_alone (LookMark j) h = subst (λ z. IsSome (looks_at (ring_stage z))) (task-alone j r.hands) h
+  enabled-enabled_alone (Raise j) h = subst (λ z. IsSome (raises_from (ring_stage z))) (task-alone j r.hands) h
+  enabled-enabled_alone (Flushed to) h = h
 
-  pub enabled-back : (event : RingEvent) → IsEnabledAlone r event → IsRingEnabled wide event
-  enabled-back (Reserve j n) h = (task-alone j r.hands ∙ ap (InRing None) h.idle, h.room)
-  enabled-back (Fill j) h = subst (MayFill wide) (sym (task-alone j r.hands)) h
-  enabled-back (Mark j) h = subst (λ z. IsSomeAnd (worked_on (ring_stage z) r.reservations) IsFull) (sym (task-alone j r.hands)) h
-  enabled-back (LookExposed j) h = subst (λ z. ring_stage z ≡ Marked) (sym (task-alone j r.hands)) h
-  enabled-back (LookMark j) h = subst (λ z. IsSome (looks_at (ring_stage z))) (sym (task-alone j r.hands)) h
-  enabled-back (Raise j) h = subst (λ z. IsSome (raises_from (ring_stage z))) (sym (task-alone j r.hands)) h
-  enabled-back (Flushed to) h = h
+  pub enabled_alone-enabled : (event : RingEvent) → IsEnabledAlone r event → IsRingEnabled wide event
+  enabled_alone-enabled (Reserve j n) h = (task-alone j r.hands ∙ ap (InRing None) h.idle, h.room)
+  enabled_alone-enabled (Fill j) h = subst (MayFill wide) (sym (task-alone j r.hands)) h
+  enabled_alone-enabled (Mark j) h = subst (λ z. IsSomeAnd (worked_on (ring_stage z) r.reservations) IsFull) (sym (task-alone j r.hands)) h
+  enabled_alone-enabled (LookExposed j) h = subst (λ z. ring_stage z ≡ Marked) (sym (task-alone j r.hands)) h
+  enabled_alone-enabled (LookMark j) h = subst (λ z. IsSome (looks_at (ring_stage z))) (sym (task-alone j r.hands)) h
+  enabled_alone-enabled (Raise j) h = subst (λ z. IsSome (raises_from (ring_stage z))) (sym (task-alone j r.hands)) h
+  enabled_alone-enabled (Flushed to) h = h
 
   after-same : (event : RingEvent) → IsEnabledAlone r event → ring_after wide event ≡ with_groups gs (after_alone r event)
   after-same (Reserve j n) h = turn-alone (reserved wide.log n) j (Works r.tail)
@@ -101,22 +101,22 @@ module _ (gs : List Group) (r : RingState) where
   no-reopening j h = true≢false (sym (subst (λ z. IsSome (reopening z)) (task-alone j r.hands) h.1))
 
 ring-step : (gs : List Group) (old mid : RingState) (event : RingEvent) (b : Bool) → RingStep old event b mid → GroupStep (with_groups gs old) (Ring event) b (with_groups gs mid)
-ring-step gs old mid event true s = (enabled-back gs old event s.0, ap (with_groups gs) s.1 ∙ sym (after-same gs old event s.0))
-ring-step gs old mid event false s = ((λ h. s.0 (enabled-to gs old event h)), ap (with_groups gs) s.1)
+ring-step gs old mid event true s = (enabled_alone-enabled gs old event s.0, ap (with_groups gs) s.1 ∙ sym (after-same gs old event s.0))
+ring-step gs old mid event false s = ((λ h. s.0 (enabled-enabled_alone gs old event h)), ap (with_groups gs) s.1)
 
 -- where nobody joins, this machine goes as the ring machine, whatever slot events are tried
-pub run-alone : (gs : List Group) (old new : RingState) (events : List GroupEvent) → AllByRecursion IsNoJoin events → RunsRing old (ring_events events) new → RunsGroups (with_groups gs old) events (with_groups gs new)
-run-alone gs old new [] no_join run = ap (with_groups gs) run
-run-alone gs old new (Join j k n ∷ es) no_join run = absurd no_join.0
-run-alone gs old new (Close j ∷ es) no_join run = (false, with_groups gs old, ((λ h. no-member gs old (λ m. m.stage ≡ Closes) j h), refl), run-alone gs old new es no_join.1 run)
-run-alone gs old new (Place j x d ∷ es) no_join run = (false, with_groups gs old, ((λ h. no-member gs old (MayPlace (with_groups gs old) x d) j h), refl), run-alone gs old new es no_join.1 run)
-run-alone gs old new (PutBase j ∷ es) no_join run = (false, with_groups gs old, ((λ h. no-member gs old (λ m. m.stage ≡ Stores) j h), refl), run-alone gs old new es no_join.1 run)
-run-alone gs old new (Tell j ∷ es) no_join run = (false, with_groups gs old, ((λ h. no-member gs old (λ m. m.stage ≡ Tells) j h), refl), run-alone gs old new es no_join.1 run)
-run-alone gs old new (Hear j ∷ es) no_join run = (false, with_groups gs old, ((λ h. no-member gs old (MayHear (with_groups gs old)) j h), refl), run-alone gs old new es no_join.1 run)
-run-alone gs old new (Release j ∷ es) no_join run = (false, with_groups gs old, ((λ h. no-member gs old (λ m. HasDone m.size m.stage) j h), refl), run-alone gs old new es no_join.1 run)
-run-alone gs old new (Reopen j ∷ es) no_join run = (false, with_groups gs old, ((λ h. no-reopening gs old j h), refl), run-alone gs old new es no_join.1 run)
-run-alone gs old new (Ring event ∷ es) no_join run = (run.0, with_groups gs run.1, ring-step gs old run.1 event run.0 run.2, run-alone gs run.1 new es no_join.1 run.3)
+pub runs_ring-runs_groups : (gs : List Group) (old new : RingState) (events : List GroupEvent) → AllByRecursion IsNoJoin events → RunsRing old (ring_events events) new → RunsGroups (with_groups gs old) events (with_groups gs new)
+runs_ring-runs_groups gs old new [] no_join run = ap (with_groups gs) run
+runs_ring-runs_groups gs old new (Join j k n ∷ es) no_join run = absurd no_join.0
+runs_ring-runs_groups gs old new (Close j ∷ es) no_join run = (false, with_groups gs old, ((λ h. no-member gs old (λ m. m.stage ≡ Closes) j h), refl), runs_ring-runs_groups gs old new es no_join.1 run)
+runs_ring-runs_groups gs old new (Place j x d ∷ es) no_join run = (false, with_groups gs old, ((λ h. no-member gs old (MayPlace (with_groups gs old) x d) j h), refl), runs_ring-runs_groups gs old new es no_join.1 run)
+runs_ring-runs_groups gs old new (PutBase j ∷ es) no_join run = (false, with_groups gs old, ((λ h. no-member gs old (λ m. m.stage ≡ Stores) j h), refl), runs_ring-runs_groups gs old new es no_join.1 run)
+runs_ring-runs_groups gs old new (Tell j ∷ es) no_join run = (false, with_groups gs old, ((λ h. no-member gs old (λ m. m.stage ≡ Tells) j h), refl), runs_ring-runs_groups gs old new es no_join.1 run)
+runs_ring-runs_groups gs old new (Hear j ∷ es) no_join run = (false, with_groups gs old, ((λ h. no-member gs old (MayHear (with_groups gs old)) j h), refl), runs_ring-runs_groups gs old new es no_join.1 run)
+runs_ring-runs_groups gs old new (Release j ∷ es) no_join run = (false, with_groups gs old, ((λ h. no-member gs old (λ m. HasDone m.size m.stage) j h), refl), runs_ring-runs_groups gs old new es no_join.1 run)
+runs_ring-runs_groups gs old new (Reopen j ∷ es) no_join run = (false, with_groups gs old, ((λ h. no-reopening gs old j h), refl), runs_ring-runs_groups gs old new es no_join.1 run)
+runs_ring-runs_groups gs old new (Ring event ∷ es) no_join run = (run.0, with_groups gs run.1, ring-step gs old run.1 event run.0 run.2, runs_ring-runs_groups gs run.1 new es no_join.1 run.3)
 
 -- so both have the same log
-pub same-log : (gs : List Group) (old new : RingState) (t : SlotState) (events : List GroupEvent) → AllByRecursion IsNoJoin events → RunsRing old (ring_events events) new → RunsGroups (with_groups gs old) events t → t.log ≡ log_of new
-same-log gs old new t events no_join run slots = ap (λ (s : SlotState). s.log) (run-unique (with_groups gs old) events t (with_groups gs new) slots (run-alone gs old new events no_join run))
+pub no_join-same_log : (gs : List Group) (old new : RingState) (t : SlotState) (events : List GroupEvent) → AllByRecursion IsNoJoin events → RunsRing old (ring_events events) new → RunsGroups (with_groups gs old) events t → t.log ≡ log_of new
+no_join-same_log gs old new t events no_join run slots = ap (λ (s : SlotState). s.log) (run-unique (with_groups gs old) events t (with_groups gs new) slots (runs_ring-runs_groups gs old new events no_join run))

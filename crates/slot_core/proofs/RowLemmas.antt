@@ -24,9 +24,9 @@ with_task-at actor task hands i is = let at = position-Some (is_row_of actor) ha
     with_task-index actor task hands i (row_of actor task) at.0 at.1 at.2
 
 -- the actor's row is written over
-pub row-written : (actor : ℕ) (task : Task) (hands : List Hand) (i : ℕ) (row : Hand) → row ≡ row_of actor task
+pub set_row-with_task : (actor : ℕ) (task : Task) (hands : List Hand) (i : ℕ) (row : Hand) → row ≡ row_of actor task
     → position (is_row_of actor) hands ≡ Some i → set hands i row ≡ with_task actor task hands
-row-written actor task hands i row new at = ap (set hands i) new ∙ sym (with_task-at actor task hands i at)
+set_row-with_task actor task hands i row new at = ap (set hands i) new ∙ sym (with_task-at actor task hands i at)
 
 -- an actor with no row
 pub task_of-absent : (actor : ℕ) (hands : List Hand) → AllByRecursion (λ h. is_row_of actor h ≡ false) hands → task_of actor hands ≡ nothing

@@ -12,7 +12,7 @@ use Rattle.slot_core.specs.Machine.{Join, Ring, MayJoin, closed_total, told_outc
 use Rattle.slot_core.proofs.Keeping.{event-sound}
 use Rattle.slot_core.proofs.Ring.{fill-sound}
 use Rattle.slot_core.proofs.RowLemmas.{group-read}
-use Rattle.slot_core.proofs.RunLemmas.{worked-at, place-keeps, fill-keeps, piece-base, grants, opener-there, opener-empty, reopen-keeps}
+use Rattle.slot_core.proofs.RunLemmas.{worked_on-find, after_place-sound, after_fill-sound, unfilled_piece-granted_base, placing_granted-after_place, opener_slot-within, opener_slot-no_members, after_reopen-sound}
 
 -- it writes over s, which stands for the state now
 module _ (now s : SlotState) (is : s ≡ now) (sound : IsSound s) (j : ℕ) where
@@ -24,8 +24,8 @@ module _ (now s : SlotState) (is : s ≡ now) (sound : IsSound s) (j : ℕ) wher
   written l l' hs hs' gs gs' a b d h = subst IsSound (λ i. record { log = (sym a) i; hands = (sym b) i; groups = (sym d) i }) h
 
   -- the group that the program finds at a slot of the machine's
-  pub found-at : (k : ℕ) (g : Group) → k < length now.groups → g ≡ get_or s.groups k g → g ≡ group_at k s.groups
-  found-at k g there value = value ∙ group-read s.groups k g (back (λ z. k < length z.groups) there)
+  pub found_group-group_at : (k : ℕ) (g : Group) → k < length now.groups → g ≡ get_or s.groups k g → g ≡ group_at k s.groups
+  found_group-group_at k g there value = value ∙ group-read s.groups k g (back (λ z. k < length z.groups) there)
 
   -- a join: the phase that is read, the task of who joins, the hands before and with it, and the group before and after
   module _ (k n : ℕ) (p : GroupPhase) (t : Task) (hs hs' : List Hand) (g g' : Group) (may : MayJoin now j k n)
@@ -34,42 +34,42 @@ module _ (now s : SlotState) (is : s ≡ now) (sound : IsSound s) (j : ℕ) wher
     task-is : t ≡ task_joined k n (group_at k s.groups).phase
     task-is = piece ∙ ap (task_joined k n) (phase ∙ ap (λ (z : SlotState). (group_at k z.groups).phase) (sym is))
 
-    pub join-is : record s { hands = hs'; groups = set s.groups k g' } ≡ after_join s j k n (group_at k s.groups)
-    join-is = let whole = hands ∙ (λ i. with_task j (task-is i) (kept i)) in
-        let here = group' ∙ ap (group_joined j n) (found-at k g may.there value) in
+    pub written_join-after_join : record s { hands = hs'; groups = set s.groups k g' } ≡ after_join s j k n (group_at k s.groups)
+    written_join-after_join = let whole = hands ∙ (λ i. with_task j (task-is i) (kept i)) in
+        let here = group' ∙ ap (group_joined j n) (found_group-group_at k g may.there value) in
         λ i. record s { hands = whole i; groups = set s.groups k (here i) }
 
-    pub join-written : IsSound (record s { hands = hs'; groups = set s.groups k g' })
-    join-written = subst IsSound (sym join-is) (event-sound s (Join j k n) sound (back (λ z. MayJoin z j k n) may))
+    pub written_join-sound : IsSound (record s { hands = hs'; groups = set s.groups k g' })
+    written_join-sound = subst IsSound (sym written_join-after_join) (event-sound s (Join j k n) sound (back (λ z. MayJoin z j k n) may))
 
-  pub reserve-written : (n base : ℕ) (l : RingLog) (hs : List Hand) → IsRingEnabled now (Reserve j n) → base ≡ s.log.tail → l ≡ reserved s.log n → hs ≡ with_task j (InRing None (Works base)) s.hands → IsSound (record s { log = l; hands = hs })
-  reserve-written n base l hs may tail log hands = written l _ hs _ s.groups s.groups log (hands ∙ ap (λ b. with_task j (InRing None (Works b)) s.hands) tail) refl
+  pub written_reserve-sound : (n base : ℕ) (l : RingLog) (hs : List Hand) → IsRingEnabled now (Reserve j n) → base ≡ s.log.tail → l ≡ reserved s.log n → hs ≡ with_task j (InRing None (Works base)) s.hands → IsSound (record s { log = l; hands = hs })
+  written_reserve-sound n base l hs may tail log hands = written l _ hs _ s.groups s.groups log (hands ∙ ap (λ b. with_task j (InRing None (Works b)) s.hands) tail) refl
       (event-sound s (Ring (Reserve j n)) sound (back (λ z. IsRingEnabled z (Reserve j n)) may))
 
-  pub mark-written : (b : ℕ) (l : RingLog) (hs : List Hand) → base_in (ring_stage (task_of j now.hands)) ≡ Some b → IsSomeAnd (find (is_at b) s.log.reservations) IsFull → l ≡ marked s.log b
+  pub written_mark-sound : (b : ℕ) (l : RingLog) (hs : List Hand) → base_in (ring_stage (task_of j now.hands)) ≡ Some b → IsSomeAnd (find (is_at b) s.log.reservations) IsFull → l ≡ marked s.log b
       → hs ≡ with_task j (in_ring Marked (task_of j now.hands)) s.hands → IsSound (record s { log = l; hands = hs })
-  mark-written b l hs base full log hands = let here = back (λ z. base_in (ring_stage (task_of j z.hands)) ≡ Some b) base in
+  written_mark-sound b l hs base full log hands = let here = back (λ z. base_in (ring_stage (task_of j z.hands)) ≡ Some b) base in
       written l _ hs _ s.groups s.groups log (hands ∙ ap (λ (z : SlotState). with_task j (in_ring Marked (task_of j z.hands)) s.hands) (sym is)) refl
-      (subst (λ o. IsSound (after_mark s j (task_of j s.hands) o)) here (event-sound s (Ring (Mark j)) sound (subst (λ o. IsSomeAnd o IsFull) (sym (worked-at (ring_stage (task_of j s.hands)) b s.log.reservations here)) full)))
+      (subst (λ o. IsSound (after_mark s j (task_of j s.hands) o)) here (event-sound s (Ring (Mark j)) sound (subst (λ o. IsSomeAnd o IsFull) (sym (worked_on-find (ring_stage (task_of j s.hands)) b s.log.reservations here)) full)))
 
-  pub raise-is : (e to : ℕ) (l : RingLog) (hs : List Hand) → raises_from (ring_stage (task_of j now.hands)) ≡ Some e → l ≡ raised s.log e → to ≡ l.exposed
+  pub written_raise-after_raise : (e to : ℕ) (l : RingLog) (hs : List Hand) → raises_from (ring_stage (task_of j now.hands)) ≡ Some e → l ≡ raised s.log e → to ≡ l.exposed
       → hs ≡ with_task j (in_ring (Holds to) (task_of j now.hands)) s.hands → record s { log = l; hands = hs } ≡ after_raise s j (task_of j s.hands) (raises_from (ring_stage (task_of j s.hands)))
-  raise-is e to l hs from log at hands = let here = back (λ z. raises_from (ring_stage (task_of j z.hands)) ≡ Some e) from in
+  written_raise-after_raise e to l hs from log at hands = let here = back (λ z. raises_from (ring_stage (task_of j z.hands)) ≡ Some e) from in
       let whole = hands ∙ (λ i. with_task j (in_ring (Holds ((at ∙ ap (λ (z : RingLog). z.exposed) log) i)) (task_of j (sym is i).hands)) s.hands) in
       (λ i. record s { log = log i; hands = whole i }) ∙ ap (after_raise s j (task_of j s.hands)) (sym here)
 
-  pub raise-written : (e to : ℕ) (l : RingLog) (hs : List Hand) → raises_from (ring_stage (task_of j now.hands)) ≡ Some e → l ≡ raised s.log e → to ≡ l.exposed
+  pub written_raise-sound : (e to : ℕ) (l : RingLog) (hs : List Hand) → raises_from (ring_stage (task_of j now.hands)) ≡ Some e → l ≡ raised s.log e → to ≡ l.exposed
       → hs ≡ with_task j (in_ring (Holds to) (task_of j now.hands)) s.hands → IsSound (record s { log = l; hands = hs })
-  raise-written e to l hs from log at hands = let here = back (λ z. raises_from (ring_stage (task_of j z.hands)) ≡ Some e) from in
-      subst IsSound (sym (raise-is e to l hs from log at hands)) (event-sound s (Ring (Raise j)) sound (ap is_some here))
+  written_raise-sound e to l hs from log at hands = let here = back (λ z. raises_from (ring_stage (task_of j z.hands)) ≡ Some e) from in
+      subst IsSound (sym (written_raise-after_raise e to l hs from log at hands)) (event-sound s (Ring (Raise j)) sound (ap is_some here))
 
-  pub flush-written : (to : ℕ) (taken : Bool) (l : RingLog) → IsTrue taken ↔ MayFlush s.log to → OnTrue taken (l ≡ flushed s.log to) → OnFalse taken (l ≡ s.log) → IsSound (record s { log = l })
-  flush-written to true l may done none = subst (λ z. IsSound (record s { log = z })) (sym done) (event-sound s (Ring (Flushed to)) sound (may.0 refl))
-  flush-written to false l may done none = subst (λ z. IsSound (record s { log = z })) (sym none) sound
+  pub written_flush-sound : (to : ℕ) (taken : Bool) (l : RingLog) → IsTrue taken ↔ MayFlush s.log to → OnTrue taken (l ≡ flushed s.log to) → OnFalse taken (l ≡ s.log) → IsSound (record s { log = l })
+  written_flush-sound to true l may done none = subst (λ z. IsSound (record s { log = z })) (sym done) (event-sound s (Ring (Flushed to)) sound (may.0 refl))
+  written_flush-sound to false l may done none = subst (λ z. IsSound (record s { log = z })) (sym none) sound
 
-  pub fill-written : (b : ℕ) (taken : Bool) (l : RingLog) → base_in (ring_stage (task_of j now.hands)) ≡ Some b → IsTrue taken ↔ IsSomeAnd (find (is_at b) s.log.reservations) HasUnfilled
+  pub written_fill-sound : (b : ℕ) (taken : Bool) (l : RingLog) → base_in (ring_stage (task_of j now.hands)) ≡ Some b → IsTrue taken ↔ IsSomeAnd (find (is_at b) s.log.reservations) HasUnfilled
       → OnTrue taken (l ≡ filled s.log b) → OnFalse taken (l ≡ s.log) → IsSound (record s { log = l })
-  fill-written b true l base may done none = let here = back (λ z. base_in (ring_stage (task_of j z.hands)) ≡ Some b) base in
+  written_fill-sound b true l base may done none = let here = back (λ z. base_in (ring_stage (task_of j z.hands)) ≡ Some b) base in
       subst (λ z. IsSound (record s { log = z })) (sym done) (by_task (task_of j s.hands) refl here (may.0 refl))
     where
       by_task : (z : Task) → task_of j s.hands ≡ z → base_in (ring_stage z) ≡ Some b → IsSomeAnd (find (is_at b) s.log.reservations) HasUnfilled → IsSound (record s { log = filled s.log b })
@@ -79,7 +79,7 @@ module _ (now s : SlotState) (is : s ≡ now) (sound : IsSound s) (j : ℕ) wher
       by_task (InRing q (Holds e)) here base left = absurd (cc)
       by_task (InRing q (Raises e)) here base left = absurd (cc)
       by_task (Joined m) here base left = absurd (cc)
-  fill-written b false l base may done none = subst (λ z. IsSound (record s { log = z })) (sym none) sound
+  written_fill-sound b false l base may done none = subst (λ z. IsSound (record s { log = z })) (sym none) sound
 
   -- an actor that the program finds idle, with a slot to open
   module _ (k : ℕ) (t : Task) (stage : Stage) (slot : Option ℕ) (at : t ≡ task_of j now.hands) (reads : stage ≡ ring_stage t)
@@ -90,26 +90,26 @@ module _ (now s : SlotState) (is : s ≡ now) (sound : IsSound s) (j : ℕ) wher
     opens-s : reopening (task_of j s.hands) ≡ Some k
     opens-s = back (λ z. reopening (task_of j z.hands) ≡ Some k) (ap reopening (sym at) ∙ sym finds ∙ opens)
 
-    pub reopen-there : k < length s.groups
-    reopen-there = opener-there s j k sound idle-s opens-s
+    pub reopened_slot-within : k < length s.groups
+    reopened_slot-within = opener_slot-within s j k sound idle-s opens-s
 
-    pub reopen-empty : (g : Group) → g ≡ get_or s.groups k g → g.members ≡ []
-    reopen-empty g value = ap (λ (x : Group). x.members) (value ∙ group-read s.groups k g reopen-there)
-        ∙ opener-empty s j k sound idle-s opens-s
+    pub reopened_slot-no_members : (g : Group) → g ≡ get_or s.groups k g → g.members ≡ []
+    reopened_slot-no_members g value = ap (λ (x : Group). x.members) (value ∙ group-read s.groups k g reopened_slot-within)
+        ∙ opener_slot-no_members s j k sound idle-s opens-s
 
-    pub reopen-written : (hs : List Hand) (none : Task) (g : Group) → hs ≡ with_task j none s.hands → none ≡ nothing → g ≡ empty_group
+    pub written_reopen-sound : (hs : List Hand) (none : Task) (g : Group) → hs ≡ with_task j none s.hands → none ≡ nothing → g ≡ empty_group
         → IsSound (record s { hands = hs; groups = set s.groups k g })
-    reopen-written hs none g hands is_none group' =
+    written_reopen-sound hs none g hands is_none group' =
         written s.log s.log hs _ (set s.groups k g) _ refl (hands ∙ ap (λ x. with_task j x s.hands) is_none) (ap (set s.groups k) group')
-        (reopen-keeps s j k sound idle-s opens-s)
+        (after_reopen-sound s j k sound idle-s opens-s)
 
-  pub grant-written : (m : Membership) (t base : ℕ) (l : RingLog) (hs : List Hand) (g : Group) → task_of j now.hands ≡ Joined m → m.stage ≡ Places → t ≡ closed_total (group_at m.slot now.groups).phase → HasRoom now.log t
+  pub written_grant-sound : (m : Membership) (t base : ℕ) (l : RingLog) (hs : List Hand) (g : Group) → task_of j now.hands ≡ Joined m → m.stage ≡ Places → t ≡ closed_total (group_at m.slot now.groups).phase → HasRoom now.log t
       → base ≡ s.log.tail → l ≡ reserved s.log t → hs ≡ with_task j (at_stage Stores m) s.hands → g ≡ group (group_at m.slot s.groups).members (Placed j t (Granted base))
       → IsSound (record { log = l; hands = hs; groups = set s.groups m.slot g })
-  grant-written m t base l hs g at h total room tail log hands group' =
+  written_grant-sound m t base l hs g at h total room tail log hands group' =
       let member = ap membership (back (λ z. task_of j z.hands ≡ Joined m) at) in
       written l _ hs _ (set s.groups m.slot g) _ log hands (ap (set s.groups m.slot) (group' ∙ ap (λ b. group (group_at m.slot s.groups).members (Placed j t (Granted b))) tail))
-      (subst IsSound (sym (grants s j m sound member t h (back (λ z. t ≡ closed_total (group_at m.slot z.groups).phase) total) (back (λ z. HasRoom z.log t) room))) (place-keeps s j m sound member h))
+      (subst IsSound (sym (placing_granted-after_place s j m sound member t h (back (λ z. t ≡ closed_total (group_at m.slot z.groups).phase) total) (back (λ z. HasRoom z.log t) room))) (after_place-sound s j m sound member h))
 
   -- a member's piece, which has a unit left
   module _ (m : Membership) (at : task_of j now.hands ≡ Joined m) (unfilled : HasUnfilledPiece m.size m.stage) where
@@ -117,19 +117,19 @@ module _ (now s : SlotState) (is : s ≡ now) (sound : IsSound s) (j : ℕ) wher
     at-s = back (λ z. task_of j z.hands ≡ Joined m) at
 
     has-base : (b : ℕ) × (granted_base (told_outcome (group_at m.slot s.groups).phase) ≡ Some b) × IsSomeAnd (find (is_at b) s.log.reservations) HasUnfilled
-    has-base = piece-base s j m sound (ap membership at-s) unfilled
+    has-base = unfilled_piece-granted_base s j m sound (ap membership at-s) unfilled
 
-    pub never-ungranted : granted_base (told_outcome (group_at m.slot now.groups).phase) ≡ None → ⊥
-    never-ungranted none = let here = back (λ z. granted_base (told_outcome (group_at m.slot z.groups).phase) ≡ None) none in let two : Some has-base.0 ≡ None = sym has-base.1 ∙ here in cc
+    pub unfilled_piece-base_granted : granted_base (told_outcome (group_at m.slot now.groups).phase) ≡ None → ⊥
+    unfilled_piece-base_granted none = let here = back (λ z. granted_base (told_outcome (group_at m.slot z.groups).phase) ≡ None) none in let two : Some has-base.0 ≡ None = sym has-base.1 ∙ here in cc
 
-    pub piece-is : (b : ℕ) (taken : Bool) (l : RingLog) (hs : List Hand) → granted_base (told_outcome (group_at m.slot now.groups).phase) ≡ Some b → IsTrue taken ↔ IsSomeAnd (find (is_at b) s.log.reservations) HasUnfilled
+    pub written_piece-after_fill : (b : ℕ) (taken : Bool) (l : RingLog) (hs : List Hand) → granted_base (told_outcome (group_at m.slot now.groups).phase) ≡ Some b → IsTrue taken ↔ IsSomeAnd (find (is_at b) s.log.reservations) HasUnfilled
         → OnTrue taken (l ≡ filled s.log b) → hs ≡ with_task j (at_stage (stage_filled m.stage) m) s.hands → record s { log = l; hands = hs } ≡ after_fill s j (Joined m)
-    piece-is b true l hs base may done hands = let here = back (λ z. granted_base (told_outcome (group_at m.slot z.groups).phase) ≡ Some b) base in
+    written_piece-after_fill b true l hs base may done hands = let here = back (λ z. granted_base (told_outcome (group_at m.slot z.groups).phase) ≡ Some b) base in
         λ i. record s { log = (done ∙ ap (log_filled s.log) (sym here)) i; hands = hands i }
-    piece-is b false l hs base may done hands = let here = back (λ z. granted_base (told_outcome (group_at m.slot z.groups).phase) ≡ Some b) base in
+    written_piece-after_fill b false l hs base may done hands = let here = back (λ z. granted_base (told_outcome (group_at m.slot z.groups).phase) ≡ Some b) base in
         let two : Some has-base.0 ≡ Some b = sym has-base.1 ∙ here in let same : has-base.0 ≡ b = cc in
         absurd (true≢false (sym (may.1 (subst (λ n. IsSomeAnd (find (is_at n) s.log.reservations) HasUnfilled) same has-base.2))))
 
-    pub piece-written : (b : ℕ) (taken : Bool) (l : RingLog) (hs : List Hand) → granted_base (told_outcome (group_at m.slot now.groups).phase) ≡ Some b → IsTrue taken ↔ IsSomeAnd (find (is_at b) s.log.reservations) HasUnfilled
+    pub written_piece-sound : (b : ℕ) (taken : Bool) (l : RingLog) (hs : List Hand) → granted_base (told_outcome (group_at m.slot now.groups).phase) ≡ Some b → IsTrue taken ↔ IsSomeAnd (find (is_at b) s.log.reservations) HasUnfilled
         → OnTrue taken (l ≡ filled s.log b) → hs ≡ with_task j (at_stage (stage_filled m.stage) m) s.hands → IsSound (record s { log = l; hands = hs })
-    piece-written b taken l hs base may done hands = subst IsSound (sym (piece-is b taken l hs base may done hands)) (fill-keeps s j m sound (ap membership at-s) unfilled)
+    written_piece-sound b taken l hs base may done hands = subst IsSound (sym (written_piece-after_fill b taken l hs base may done hands)) (after_fill-sound s j m sound (ap membership at-s) unfilled)

@@ -16,29 +16,29 @@ use Rattle.log_table.specs.Seats.{Becomes, view_of}
 use Rattle.slot_rig.specs.Shares.{HasBoth, HasReleased, IsDone, IsWorker}
 use Rattle.slot_rig.specs.declared.share.Share.{Share}
 
-pub may-leave : (table : LogTable) (number : ℕ) (seat : Seat) → IsDone table number seat → MayLeave (view_of seat)
-may-leave table number seat done = record { rests = record { active = done.worker.active; idle = done.idle }; none_held = done.worker.none_held }
+pub done-may_leave : (table : LogTable) (number : ℕ) (seat : Seat) → IsDone table number seat → MayLeave (view_of seat)
+done-may_leave table number seat done = record { rests = record { active = done.worker.active; idle = done.idle }; none_held = done.worker.none_held }
 
 -- the worker has left
 module _ (table : LogTable) (number : ℕ) (old new : Seat) (done : IsDone table number old) (leaves : Becomes old new (retired (view_of old))) where
-  pub ended : (view_of new).standing.role ≡ Ended
-  ended = ap (λ me. me.0.standing.role) leaves.me
+  pub retired-ended : (view_of new).standing.role ≡ Ended
+  retired-ended = ap (λ me. me.0.standing.role) leaves.me
 
-  pub numbered : (view_of new).standing.worker ≡ number
-  numbered = ap (λ me. me.0.standing.worker) leaves.me ∙ done.worker.numbered
+  pub retired-worker_number : (view_of new).standing.worker ≡ number
+  retired-worker_number = ap (λ me. me.0.standing.worker) leaves.me ∙ done.worker.numbered
 
-pub may-merge : (flusher_seat seat : Seat) → (view_of flusher_seat).standing.role ≡ Flusher → (view_of seat).standing.role ≡ Ended → MayMerge (view_of flusher_seat) (view_of seat)
-may-merge flusher_seat seat flusher ended = record { flusher = flusher; ended = ap has_ended ended }
+pub ended-may_merge : (flusher_seat seat : Seat) → (view_of flusher_seat).standing.role ≡ Flusher → (view_of seat).standing.role ≡ Ended → MayMerge (view_of flusher_seat) (view_of seat)
+ended-may_merge flusher_seat seat flusher ended = record { flusher = flusher; ended = ap has_ended ended }
 
 -- one was taken in, and then the other
 module _ (flusher_seat first second one two : Seat) (a : Becomes flusher_seat first (takes_in (view_of flusher_seat) (view_of one)))
     (b : Becomes first second (takes_in (view_of first) (view_of two)))
   where
-    pub role-taken : (view_of first).standing.role ≡ (view_of flusher_seat).standing.role
-    role-taken = ap (λ me. me.0.standing.role) a.me
+    pub takes_in-same_role : (view_of first).standing.role ≡ (view_of flusher_seat).standing.role
+    takes_in-same_role = ap (λ me. me.0.standing.role) a.me
 
-    pub entries-taken : (view_of second).entries ≡ merged_entries (merged_entries (view_of flusher_seat).entries (view_of one).entries) (view_of two).entries
-    entries-taken = ap (λ me. me.0.entries) b.me ∙ ap (λ me. merged_entries me.0.entries (view_of two).entries) a.me
+    pub takes_in_both-merged_entries : (view_of second).entries ≡ merged_entries (merged_entries (view_of flusher_seat).entries (view_of one).entries) (view_of two).entries
+    takes_in_both-merged_entries = ap (λ me. me.0.entries) b.me ∙ ap (λ me. merged_entries me.0.entries (view_of two).entries) a.me
 
     made-taken : (view_of second).standing.made ≡ (view_of flusher_seat).standing.made
     made-taken = ap (λ me. me.0.standing.made) b.me ∙ ap (λ me. me.0.standing.made) a.me
@@ -53,19 +53,19 @@ module _ (flusher_seat first second one two : Seat) (a : Becomes flusher_seat fi
     merged-both ended number merged = ap (λ me. me.0.standing.merged) b.me
         ∙ (λ i. cond {A = List ℕ} (is_worker (ended i)) (number i ∷ merged i) (merged i))
 
-    pub may-close : (view_of flusher_seat).standing.role ≡ Flusher → (view_of flusher_seat).standing.made ≡ 1 ∷ 0 ∷ [] → (view_of flusher_seat).standing.merged ≡ []
+    pub takes_in_both-may_close : (view_of flusher_seat).standing.role ≡ Flusher → (view_of flusher_seat).standing.made ≡ 1 ∷ 0 ∷ [] → (view_of flusher_seat).standing.merged ≡ []
         → (view_of one).standing.role ≡ Ended → (view_of one).standing.worker ≡ 0 → (view_of two).standing.role ≡ Ended → (view_of two).standing.worker ≡ 1
         → MayClose (view_of second)
-    may-close flusher made merged ended-one is-0 ended-two is-1 =
+    takes_in_both-may_close flusher made merged ended-one is-0 ended-two is-1 =
         let all : (view_of second).standing.made ≡ (view_of second).standing.merged =
         (made-taken ∙ made) ∙ sym (merged-both ended-two is-1 (merged-first ended-one is-0 merged)) in record {
-          flusher = ap (λ me. me.0.standing.role) b.me ∙ (role-taken ∙ flusher);
+          flusher = ap (λ me. me.0.standing.role) b.me ∙ (takes_in-same_role ∙ flusher);
           all_merged = λ worker is. subst (λ l. list_any (eqb worker) l ≡ true) all is;
         }
 
-pub done-released : (table : LogTable) (share : Share) (base : ℕ) (seat : Seat) (number : ℕ) → share.worker ≡ number
+pub released-done : (table : LogTable) (share : Share) (base : ℕ) (seat : Seat) (number : ℕ) → share.worker ≡ number
     → HasReleased table share base Idle seat → IsDone table number seat
-done-released table share base seat number is released =
+released-done table share base seat number is released =
     record { worker = subst (λ n. IsWorker table n seat) is released.worker; idle = released.call_is }
 
 -- both have released their pieces of a range that begins there
@@ -84,9 +84,9 @@ module _ (table : LogTable) (ours theirs : Share) (base : ℕ) (one two : Seat) 
         ∙ ap (λ t. cond {A = List Entry} t (second ∷ first ∷ []) (first ∷ second ∷ []))
         (le-ltb (base + b.piece.offset) (base + a.piece.offset) (omega (arith, behind, a.own_piece.offset_is, b.own_piece.offset_is)))
 
-    pub has-both : (old new : Seat) → ours.offset ≤ theirs.offset → (view_of old).entries ≡ []
+    pub both_released-has_both : (old new : Seat) → ours.offset ≤ theirs.offset → (view_of old).entries ≡ []
         → (view_of new).entries ≡ merged_entries (merged_entries (view_of old).entries (view_of one).entries) (view_of two).entries → HasBoth ours theirs base new
-    has-both old new behind none merged = record {
+    both_released-has_both old new behind none merged = record {
       first = a.piece;
       own_first = a.own_piece;
       second = b.piece;

@@ -18,7 +18,7 @@ use Rattle.log_table.specs.Seats.{Becomes, view_of}
 use Rattle.log_rule.specs.SlotViews.{tells_refusal, step_seeing, call_seeing, saw_slot, heard_granted, heard_refused, heard_by, heard_base}
 use Rattle.log_rule.specs.Views.{call_with_unit, filled}
 use Rattle.log_rule.specs.May.{MayFillPiece, MayLoadBase}
-use Rattle.slot_rig.proofs.Steps.{member-stays}
+use Rattle.slot_rig.proofs.Steps.{member-step}
 use Rattle.slot_rig.specs.Shares.{IsMember}
 use Rattle.slot_rig.specs.declared.share.Share.{Share}
 
@@ -50,34 +50,34 @@ module _ (table : LogTable) (share : Share) (old new : Seat) where
   seen : (word : ℕ) (step : MemberStep) → step_seeing word Waits ≡ step → IsMember table share Waits old
       → Becomes old new (saw_slot share.slot word (view_of old)) → IsMember table share step new
   seen word step is member becomes =
-      member-stays table old new (saw_slot share.slot word (view_of old)) becomes record { constants = refl; standing = refl; held = refl } share Waits step refl member
+      member-step table old new (saw_slot share.slot word (view_of old)) becomes record { constants = refl; standing = refl; held = refl } share Waits step refl member
       (ap (call_seeing share.slot word) member.call
       ∙ (ap (λ b. Joined share.slot member.piece (cond b (step_seeing word Waits) Waits)) (eq-eqb share.slot share.slot refl)
       ∙ ap (Joined share.slot member.piece) is))
 
-  pub member-called : (word : SlotWord) → word.phase ≡ kind.Published → IsMember table share Waits old
+  pub saw_published-hears : (word : SlotWord) → word.phase ≡ kind.Published → IsMember table share Waits old
       → Becomes old new (saw_slot share.slot (word_of word) (view_of old)) → IsMember table share (Hears false word.total) new
-  member-called word phase = seen (word_of word) (Hears false word.total) (seen-published word phase)
+  saw_published-hears word phase = seen (word_of word) (Hears false word.total) (seen-published word phase)
 
-  pub member-called-off : (word : SlotWord) → word.phase ≡ kind.Refused → IsMember table share Waits old
+  pub saw_refused-hears : (word : SlotWord) → word.phase ≡ kind.Refused → IsMember table share Waits old
       → Becomes old new (saw_slot share.slot (word_of word) (view_of old)) → IsMember table share (Hears true word.total) new
-  member-called-off word phase = seen (word_of word) (Hears true word.total) (seen-refused word phase)
+  saw_refused-hears word phase = seen (word_of word) (Hears true word.total) (seen-refused word phase)
 
 module _ (table : LogTable) (share : Share) (old new : Seat) (total : ℕ) where
-  pub may-hear : (refused : Bool) → IsMember table share (Hears refused total) old → MayLoadBase share.slot (view_of old)
-  may-hear refused member = record { piece = member.piece; refused = refused; total = total; hears = member.call }
+  pub hears-may_load_base : (refused : Bool) → IsMember table share (Hears refused total) old → MayLoadBase share.slot (view_of old)
+  hears-may_load_base refused member = record { piece = member.piece; refused = refused; total = total; hears = member.call }
 
-  pub member-heard : (base : ℕ) → IsMember table share (Hears false total) old → Becomes old new (heard_base base (view_of old))
+  pub heard_granted-fills : (base : ℕ) → IsMember table share (Hears false total) old → Becomes old new (heard_base base (view_of old))
       → IsMember table share (Fills base []) new
-  member-heard base member becomes =
-      member-stays table old new (heard_granted share.slot base member.piece total (view_of old))
+  heard_granted-fills base member becomes =
+      member-step table old new (heard_granted share.slot base member.piece total (view_of old))
       (subst (Becomes old new) (ap (λ (call : Call). heard_by base call (view_of old)) member.call) becomes)
       record { constants = refl; standing = refl; held = refl } share (Hears false total) (Fills base []) refl member refl
 
-  pub member-heard-off : (word : ℕ) → IsMember table share (Hears true total) old → Becomes old new (heard_base word (view_of old))
+  pub heard_refused-leaves : (word : ℕ) → IsMember table share (Hears true total) old → Becomes old new (heard_base word (view_of old))
       → IsMember table share (Leaves (word / 2 ^ 32) (word % 2 ^ 32)) new
-  member-heard-off word member becomes =
-      member-stays table old new (heard_refused share.slot word member.piece total (view_of old))
+  heard_refused-leaves word member becomes =
+      member-step table old new (heard_refused share.slot word member.piece total (view_of old))
       (subst (Becomes old new) (ap (λ (call : Call). heard_by word call (view_of old)) member.call) becomes)
       record { constants = refl; standing = refl; held = refl } share (Hears true total) (Leaves (word / 2 ^ 32) (word % 2 ^ 32)) refl member refl
 
@@ -90,8 +90,8 @@ module _ (table : LogTable) (share : Share) (base i : ℕ) (old new : Seat) (mem
     abbrev unit : ℕ
     unit = get_or share.units i 0
 
-    pub may-fill : (at : ℕ) → at ≡ base + share.offset + i → MayFillPiece table.slots at unit (view_of old)
-    may-fill at at-is = record {
+    pub fills-may_fill_piece : (at : ℕ) → at ≡ base + share.offset + i → MayFillPiece table.slots at unit (view_of old)
+    fills-may_fill_piece at at-is = record {
       slot = share.slot;
       slot_below = member.slot;
       piece = member.piece;
@@ -103,8 +103,8 @@ module _ (table : LogTable) (share : Share) (base i : ℕ) (old new : Seat) (mem
       unit_is = ap (λ units. get_or units i 0) member.own_piece.spelled ∙ ap (λ n. get_or (spelling member.piece.rec) n 0) (sym len);
     }
 
-    pub member-fills : Becomes old new (filled unit (view_of old)) → IsMember table share (Fills base (take (i + 1) share.units)) new
-    member-fills becomes =
-        member-stays table old new (filled unit (view_of old)) becomes record { constants = refl; standing = refl; held = refl } share (Fills base (take i share.units))
+    pub filled-fills_more : Becomes old new (filled unit (view_of old)) → IsMember table share (Fills base (take (i + 1) share.units)) new
+    filled-fills_more becomes =
+        member-step table old new (filled unit (view_of old)) becomes record { constants = refl; standing = refl; held = refl } share (Fills base (take i share.units))
         (Fills base (take (i + 1) share.units)) refl member
         (ap (call_with_unit unit) member.call ∙ ap (λ units. Joined share.slot member.piece (Fills base units)) (sym (take_more share.units i 0 within)))

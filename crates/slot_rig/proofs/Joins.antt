@@ -15,7 +15,7 @@ use Rattle.log_table.specs.Seats.{Becomes, view_of}
 use Rattle.log_rule.specs.SlotViews.{own_slot_of, piece_joining, step_joining, joined_slot}
 use Rattle.test_rig.proofs.Placing.{MayPlace-noted, units-noted}
 use Rattle.test_rig.specs.NotedJobs.{AreNoteUnits, MayInsert}
-use Rattle.slot_rig.proofs.Steps.{worker-stays}
+use Rattle.slot_rig.proofs.Steps.{worker-step}
 use Rattle.slot_rig.specs.Shares.{IsJoiner, IsWorker, IsMember}
 use Rattle.slot_rig.specs.declared.share.Share.{Share}
 
@@ -35,10 +35,10 @@ module _ (table : LogTable) (share : Share) (number : ℕ) (job : Job) (seat aft
     size : length (spelling (next_of (view_of after).books)) ≡ length share.units
     size = ap length (sym spelled)
 
-    pub may-join : (from to : SlotWord) → share.slot ≡ share.worker % table.slots → from.phase ≡ Gathering → from.total ≡ share.offset
+    pub took_job-may_join_slot : (from to : SlotWord) → share.slot ≡ share.worker % table.slots → from.phase ≡ Gathering → from.total ≡ share.offset
         → to.phase ≡ from.phase → to.total ≡ from.total + length share.units → to.remaining ≡ from.remaining
         → share.offset + length share.units ≤ table.ring / 4 → MayJoinSlot share.slot from to (view_of after)
-    may-join from to own_slot gathers total phase grown remaining room = record {
+    took_job-may_join_slot from to own_slot gathers total phase grown remaining room = record {
       rests = subst IsAtRest (sym is) record { active = worker.ready.rests.active; idle = worker.ready.rests.idle };
       enters = (MayPlace-noted table number job share.units seat after word worker taken noted).enters;
       own_slot = own_slot ∙ (sym (λ i. joiner.numbered i % worker.own.slots i) ∙ sym (ap own_slot_of is));
@@ -57,7 +57,7 @@ module _ (table : LogTable) (share : Share) (number : ℕ) (job : Job) (seat aft
 
     worker-took : IsWorker table share.worker after
     worker-took =
-        worker-stays table seat after (took_job number job word (view_of seat)) taken record { constants = refl; standing = refl; held = refl } share.worker
+        worker-step table seat after (took_job number job word (view_of seat)) taken record { constants = refl; standing = refl; held = refl } share.worker
         record {
           own = worker.own;
           active = worker.ready.rests.active;
@@ -65,11 +65,11 @@ module _ (table : LogTable) (share : Share) (number : ℕ) (job : Job) (seat aft
           none_held = worker.free.none_held;
         }
 
-    pub member-joined : (joined : Seat) (total found : ℕ) → total ≡ share.offset → share.slot < table.slots
+    pub joined_slot-member : (joined : Seat) (total found : ℕ) → total ≡ share.offset → share.slot < table.slots
         → Becomes after joined (joined_slot share.slot total found (view_of after))
         → IsMember table share (step_joining share.offset) joined
-    member-joined joined total found offset slot becomes = record {
-      worker = worker-stays table after joined (joined_slot share.slot total found (view_of after)) becomes
+    joined_slot-member joined total found offset slot becomes = record {
+      worker = worker-step table after joined (joined_slot share.slot total found (view_of after)) becomes
           record { constants = refl; standing = refl; held = refl } share.worker worker-took;
       slot = slot;
       piece = piece_joining share.offset (view_of after);

@@ -16,18 +16,18 @@ use Rattle.log_rule.specs.May.{MayCloseSlot, MayStoreBase, MayStoreRefused, MayP
 use Rattle.log_table.specs.Seats.{Becomes, view_of}
 use Rattle.log_rule.specs.SlotViews.{closed_slot, call_closed, stored_base, call_stored, published, call_published, reserved_group, call_reserved}
 use Rattle.log_rule.specs.Views.{saw_tail, saw_durable}
-use Rattle.slot_rig.proofs.Steps.{member-stays}
+use Rattle.slot_rig.proofs.Steps.{member-step}
 use Rattle.slot_rig.specs.Shares.{IsMember, IsPlacing}
 use Rattle.slot_rig.specs.declared.share.Share.{Share}
 
-pub may-close : (table : LogTable) (share : Share) (seat : Seat) → IsMember table share Closes seat → MayCloseSlot share.slot (view_of seat)
-may-close table share seat member = record { piece = member.piece; closes = member.call }
+pub closes-may_close_slot : (table : LogTable) (share : Share) (seat : Seat) → IsMember table share Closes seat → MayCloseSlot share.slot (view_of seat)
+closes-may_close_slot table share seat member = record { piece = member.piece; closes = member.call }
 
-pub placing-closed : (table : LogTable) (share : Share) (old new : Seat) (word : SlotWord) → IsMember table share Closes old
+pub closed_slot-placing : (table : LogTable) (share : Share) (old new : Seat) (word : SlotWord) → IsMember table share Closes old
     → Becomes old new (closed_slot (word_of word) (view_of old)) → IsPlacing table share word.total new
-placing-closed table share old new word member becomes = record {
+closed_slot-placing table share old new word member becomes = record {
   closed = (view_of old).seen.steps + 1;
-  member = member-stays table old new (closed_slot (word_of word) (view_of old)) becomes record { constants = refl; standing = refl; held = refl } share Closes
+  member = member-step table old new (closed_slot (word_of word) (view_of old)) becomes record { constants = refl; standing = refl; held = refl } share Closes
       (Places word.total ((view_of old).seen.steps + 1)) refl member
       (ap (call_closed (total_in (word_of word)) ((view_of old).seen.steps + 1)) member.call
       ∙ ap (λ n. Joined share.slot member.piece (Places n ((view_of old).seen.steps + 1)))
@@ -51,9 +51,9 @@ module _ (table : LogTable) (share : Share) (total tail durable : ℕ) (closed t
 
     member : IsMember table share step loaded
     member =
-        let first = member-stays table closed tailed (saw_tail tail (view_of closed)) loads record { constants = refl; standing = refl; held = refl } share step step
+        let first = member-step table closed tailed (saw_tail tail (view_of closed)) loads record { constants = refl; standing = refl; held = refl } share step step
         refl placing.member placing.member.call in
-        member-stays table tailed loaded (saw_durable durable (view_of tailed)) looks record { constants = refl; standing = refl; held = refl } share step step refl
+        member-step table tailed loaded (saw_durable durable (view_of tailed)) looks record { constants = refl; standing = refl; held = refl } share step step refl
         first first.call
 
     tail_loaded : placing.closed < (view_of loaded).seen.tail_step
@@ -71,8 +71,8 @@ module _ (table : LogTable) (share : Share) (total tail durable : ℕ) (closed t
     ring-is : (view_of loaded).constants.ring ≡ table.ring
     ring-is = member.worker.own.ring
 
-    pub may-place : (end : ℕ) → end ≡ tail + total → end ≤ LAST → end ≤ durable + table.ring → MayPlaceGroup tail end (view_of loaded)
-    may-place end size within_log within_ring = record {
+    pub room-may_place_group : (end : ℕ) → end ≡ tail + total → end ≤ LAST → end ≤ durable + table.ring → MayPlaceGroup tail end (view_of loaded)
+    room-may_place_group end size within_log within_ring = record {
       slot = share.slot;
       piece = member.piece;
       total = total;
@@ -87,14 +87,14 @@ module _ (table : LogTable) (share : Share) (total tail durable : ℕ) (closed t
       within_ring = subst (λ n. end ≤ n) (sym (λ i. durable-is i + ring-is i)) within_ring;
     }
 
-    pub member-placed : (placed : Seat) (end : ℕ) → Becomes loaded placed (reserved_group tail end (view_of loaded))
+    pub reserved_group-stores : (placed : Seat) (end : ℕ) → Becomes loaded placed (reserved_group tail end (view_of loaded))
         → IsMember table share (Stores total tail) placed
-    member-placed placed end becomes =
-        member-stays table loaded placed (reserved_group tail end (view_of loaded)) becomes record { constants = refl; standing = refl; held = refl } share step
+    reserved_group-stores placed end becomes =
+        member-step table loaded placed (reserved_group tail end (view_of loaded)) becomes record { constants = refl; standing = refl; held = refl } share step
         (Stores total tail) refl member (ap (call_reserved tail) member.call)
 
-    pub may-refuse : (word : ℕ) → durable + table.ring < tail + total → word ≡ tail * 2 ^ 32 + durable → MayStoreRefused share.slot word (view_of loaded)
-    may-refuse word no_room word_is = record {
+    pub no_room-may_store_refused : (word : ℕ) → durable + table.ring < tail + total → word ≡ tail * 2 ^ 32 + durable → MayStoreRefused share.slot word (view_of loaded)
+    no_room-may_store_refused word no_room word_is = record {
       piece = member.piece;
       total = total;
       closed = placing.closed;
@@ -106,27 +106,27 @@ module _ (table : LogTable) (share : Share) (total tail durable : ℕ) (closed t
       word_is = word_is ∙ sym (λ i. tail-is i * 2 ^ 32 + durable-is i);
     }
 
-    pub member-refused : (stored : Seat) → Becomes loaded stored (stored_base (view_of loaded)) → IsMember table share (Tells total (Refused tail durable)) stored
-    member-refused stored becomes =
-        member-stays table loaded stored (stored_base (view_of loaded)) becomes record { constants = refl; standing = refl; held = refl } share step
+    pub stored_refused-tells : (stored : Seat) → Becomes loaded stored (stored_base (view_of loaded)) → IsMember table share (Tells total (Refused tail durable)) stored
+    stored_refused-tells stored becomes =
+        member-step table loaded stored (stored_base (view_of loaded)) becomes record { constants = refl; standing = refl; held = refl } share step
         (Tells total (Refused tail durable)) refl member
         (ap (call_stored (view_of loaded).seen.tail (view_of loaded).seen.durable) member.call
         ∙ (λ i. Joined share.slot member.piece (Tells total (Refused (tail-is i) (durable-is i)))))
 
 -- the leader has reserved the range, which begins there
 module _ (table : LogTable) (share : Share) (total base : ℕ) (old new : Seat) where
-  pub may-store : IsMember table share (Stores total base) old → MayStoreBase share.slot base (view_of old)
-  may-store member = inl record { piece = member.piece; total = total; stores = member.call }
+  pub stores-may_store_base : IsMember table share (Stores total base) old → MayStoreBase share.slot base (view_of old)
+  stores-may_store_base member = inl record { piece = member.piece; total = total; stores = member.call }
 
-  pub member-stored : IsMember table share (Stores total base) old → Becomes old new (stored_base (view_of old))
+  pub stored_granted-tells : IsMember table share (Stores total base) old → Becomes old new (stored_base (view_of old))
       → IsMember table share (Tells total (Granted base)) new
-  member-stored member becomes =
-      member-stays table old new (stored_base (view_of old)) becomes record { constants = refl; standing = refl; held = refl } share (Stores total base)
+  stored_granted-tells member becomes =
+      member-step table old new (stored_base (view_of old)) becomes record { constants = refl; standing = refl; held = refl } share (Stores total base)
       (Tells total (Granted base)) refl member (ap (call_stored (view_of old).seen.tail (view_of old).seen.durable) member.call)
 
-  pub may-tell : (word : SlotWord) → word.phase ≡ kind.Published → word.total ≡ total → word.remaining ≡ total
+  pub tells_granted-may_publish : (word : SlotWord) → word.phase ≡ kind.Published → word.total ≡ total → word.remaining ≡ total
       → IsMember table share (Tells total (Granted base)) old → MayPublish share.slot word (view_of old)
-  may-tell word phase total-is remaining member = record {
+  tells_granted-may_publish word phase total-is remaining member = record {
     piece = member.piece;
     total = total;
     outcome = Granted base;
@@ -134,16 +134,16 @@ module _ (table : LogTable) (share : Share) (total base : ℕ) (old new : Seat) 
     word_is = λ i. packed (phase i) (total-is i) (remaining i);
   }
 
-  pub member-told : IsMember table share (Tells total (Granted base)) old → Becomes old new (published (view_of old)) → IsMember table share Waits new
-  member-told member becomes =
-      member-stays table old new (published (view_of old)) becomes record { constants = refl; standing = refl; held = refl } share (Tells total (Granted base)) Waits
+  pub published_granted-waits : IsMember table share (Tells total (Granted base)) old → Becomes old new (published (view_of old)) → IsMember table share Waits new
+  published_granted-waits member becomes =
+      member-step table old new (published (view_of old)) becomes record { constants = refl; standing = refl; held = refl } share (Tells total (Granted base)) Waits
       refl member (ap call_published member.call)
 
 -- the leader has refused the group
 module _ (table : LogTable) (share : Share) (total tail durable : ℕ) (old new : Seat) (member : IsMember table share (Tells total (Refused tail durable)) old)
   where
-    pub may-tell-refusal : (word : SlotWord) → word.phase ≡ kind.Refused → word.total ≡ total → word.remaining ≡ total → MayPublish share.slot word (view_of old)
-    may-tell-refusal word phase total-is remaining = record {
+    pub tells_refused-may_publish : (word : SlotWord) → word.phase ≡ kind.Refused → word.total ≡ total → word.remaining ≡ total → MayPublish share.slot word (view_of old)
+    tells_refused-may_publish word phase total-is remaining = record {
       piece = member.piece;
       total = total;
       outcome = Refused tail durable;
@@ -151,7 +151,7 @@ module _ (table : LogTable) (share : Share) (total tail durable : ℕ) (old new 
       word_is = λ i. packed (phase i) (total-is i) (remaining i);
     }
 
-    pub refusal-told : Becomes old new (published (view_of old)) → IsMember table share Waits new
-    refusal-told becomes =
-        member-stays table old new (published (view_of old)) becomes record { constants = refl; standing = refl; held = refl } share
+    pub published_refused-waits : Becomes old new (published (view_of old)) → IsMember table share Waits new
+    published_refused-waits becomes =
+        member-step table old new (published (view_of old)) becomes record { constants = refl; standing = refl; held = refl } share
         (Tells total (Refused tail durable)) Waits refl member (ap call_published member.call)

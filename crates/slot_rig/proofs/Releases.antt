@@ -18,7 +18,7 @@ use Rattle.log_rule.specs.May.{MayLookMark, MayRaise, MayReleaseFilled, MayRelea
 use Rattle.log_table.specs.Seats.{Becomes, view_of}
 use Rattle.log_rule.specs.SlotViews.{reopened, call_emptying, call_released, piece_in, released_piece}
 use Rattle.log_rule.specs.Views.{run_in, after_look, saw_exposed}
-use Rattle.slot_rig.proofs.Steps.{worker-stays, released-stays, left-stays}
+use Rattle.slot_rig.proofs.Steps.{worker-step, released-step, left-step}
 use Rattle.slot_rig.specs.Shares.{IsMember, HasReleased, HasLeft}
 use Rattle.slot_rig.specs.declared.share.Share.{Share}
 
@@ -41,8 +41,8 @@ call-not_last slot size word step others = by_test (eqb_tells (remaining_in (wor
     by_test (inr other) = ap (λ b. cond b (call_emptying slot (total_in (word_of word)) step) Idle) other.0
 
 module _ (table : LogTable) (share : Share) (base : ℕ) (old : Seat) (member : IsMember table share (Fills base share.units) old) where
-  pub may-release : MayReleaseFilled share.slot (length share.units) (view_of old)
-  may-release = record {
+  pub fills_all-may_release_filled : MayReleaseFilled share.slot (length share.units) (view_of old)
+  fills_all-may_release_filled = record {
     piece = member.piece;
     base = base;
     units = share.units;
@@ -55,7 +55,7 @@ module _ (table : LogTable) (share : Share) (base : ℕ) (old : Seat) (member : 
     released : (call : Call) → call_released (word_of word) (Joined share.slot member.piece (Fills base share.units)) ≡ call
         → HasReleased table share base call new
     released call is = record {
-      worker = worker-stays table old new (released_piece (word_of word) (view_of old)) becomes record { constants = refl; standing = refl; held = refl } share.worker
+      worker = worker-step table old new (released_piece (word_of word) (view_of old)) becomes record { constants = refl; standing = refl; held = refl } share.worker
           member.worker;
       slot = member.slot;
       piece = member.piece;
@@ -64,44 +64,44 @@ module _ (table : LogTable) (share : Share) (base : ℕ) (old : Seat) (member : 
       entry = ap (λ me. me.0.entries) becomes.me ∙ (λ i. member.no_entry i ++ piece_in (member.call i));
     }
 
-    pub released-last : word.remaining ≡ length share.units → HasReleased table share base (Emptying share.slot base word.total) new
-    released-last last = released (Emptying share.slot base word.total)
+    pub released_last-call_emptying : word.remaining ≡ length share.units → HasReleased table share base (Emptying share.slot base word.total) new
+    released_last-call_emptying last = released (Emptying share.slot base word.total)
         (call-last share.slot member.piece.size word (Fills base share.units) (Emptying share.slot base word.total) (last ∙ sym member.own_piece.size_is) refl)
 
-    pub released-before : word.remaining ≢ length share.units → HasReleased table share base Idle new
-    released-before others = released Idle
+    pub released_not_last-call_idle : word.remaining ≢ length share.units → HasReleased table share base Idle new
+    released_not_last-call_idle others = released Idle
         (call-not_last share.slot member.piece.size word (Fills base share.units) (λ same. others (same ∙ member.own_piece.size_is)))
 
 module _ (table : LogTable) (share : Share) (tail durable : ℕ) (old : Seat) (member : IsMember table share (Leaves tail durable) old) where
-  pub may-leave : MayReleaseRefused share.slot (length share.units) (view_of old)
-  may-leave = record { piece = member.piece; tail = tail; durable = durable; leaves = member.call; size = sym member.own_piece.size_is }
+  pub leaves-may_release_refused : MayReleaseRefused share.slot (length share.units) (view_of old)
+  leaves-may_release_refused = record { piece = member.piece; tail = tail; durable = durable; leaves = member.call; size = sym member.own_piece.size_is }
 
   module _ (new : Seat) (word : SlotWord) (becomes : Becomes old new (released_piece (word_of word) (view_of old))) where
     left : (call : Call) → call_released (word_of word) (Joined share.slot member.piece (Leaves tail durable)) ≡ call → HasLeft table share call new
     left call is = record {
-      worker = worker-stays table old new (released_piece (word_of word) (view_of old)) becomes record { constants = refl; standing = refl; held = refl } share.worker
+      worker = worker-step table old new (released_piece (word_of word) (view_of old)) becomes record { constants = refl; standing = refl; held = refl } share.worker
           member.worker;
       slot = member.slot;
       call_is = ap (λ me. me.0.call) becomes.me ∙ (ap (call_released (word_of word)) member.call ∙ is);
       no_entry = ap (λ me. me.0.entries) becomes.me ∙ (λ i. member.no_entry i ++ piece_in (member.call i));
     }
 
-    pub left-last : word.remaining ≡ length share.units → HasLeft table share (Reopening share.slot) new
-    left-last last = left (Reopening share.slot)
+    pub left_last-call_reopening : word.remaining ≡ length share.units → HasLeft table share (Reopening share.slot) new
+    left_last-call_reopening last = left (Reopening share.slot)
         (call-last share.slot member.piece.size word (Leaves tail durable) (Reopening share.slot) (last ∙ sym member.own_piece.size_is) refl)
 
-    pub left-before : word.remaining ≢ length share.units → HasLeft table share Idle new
-    left-before others = left Idle
+    pub left_not_last-call_idle : word.remaining ≢ length share.units → HasLeft table share Idle new
+    left_not_last-call_idle others = left Idle
         (call-not_last share.slot member.piece.size word (Leaves tail durable) (λ same. others (same ∙ member.own_piece.size_is)))
 
 module _ (table : LogTable) (share : Share) (base : ℕ) (old new : Seat) where
-  pub may-mark : (total end : ℕ) → end ≡ base + total → HasReleased table share base (Emptying share.slot base total) old → MayMarkGroup base end (view_of old)
-  may-mark total end ends released = record { slot = share.slot; total = total; emptying = released.call_is; ends = ends }
+  pub emptying-may_mark_group : (total end : ℕ) → end ≡ base + total → HasReleased table share base (Emptying share.slot base total) old → MayMarkGroup base end (view_of old)
+  emptying-may_mark_group total end ends released = record { slot = share.slot; total = total; emptying = released.call_is; ends = ends }
 
-  pub range-marked : (total : ℕ) → HasReleased table share base (Emptying share.slot base total) old → Becomes old new (marked (view_of old))
+  pub marked-call_marked : (total : ℕ) → HasReleased table share base (Emptying share.slot base total) old → Becomes old new (marked (view_of old))
       → HasReleased table share base (Marked (Reopens share.slot)) new
-  range-marked total released becomes = record {
-    worker = worker-stays table old new (marked (view_of old)) becomes record { constants = refl; standing = refl; held = refl } share.worker released.worker;
+  marked-call_marked total released becomes = record {
+    worker = worker-step table old new (marked (view_of old)) becomes record { constants = refl; standing = refl; held = refl } share.worker released.worker;
     slot = released.slot;
     piece = released.piece;
     own_piece = released.own_piece;
@@ -109,44 +109,44 @@ module _ (table : LogTable) (share : Share) (base : ℕ) (old new : Seat) where
     entry = ap (λ me. me.0.entries) becomes.me ∙ (λ i. released.entry i ++ run_in (released.call_is i));
   }
 
-  pub range-looked : (at : ℕ) → HasReleased table share base (Marked (Reopens share.slot)) old → Becomes old new (saw_exposed at (view_of old))
+  pub saw_exposed-call_holding : (at : ℕ) → HasReleased table share base (Marked (Reopens share.slot)) old → Becomes old new (saw_exposed at (view_of old))
       → HasReleased table share base (Holding at (Reopens share.slot)) new
-  range-looked at released becomes =
-      released-stays table old new (saw_exposed at (view_of old)) becomes record { constants = refl; standing = refl; held = refl } share base
+  saw_exposed-call_holding at released becomes =
+      released-step table old new (saw_exposed at (view_of old)) becomes record { constants = refl; standing = refl; held = refl } share base
       (Marked (Reopens share.slot)) (Holding at (Reopens share.slot)) refl released (ap (after_look at) released.call_is)
 
-  pub may-look : (at : ℕ) → HasReleased table share base (Holding at (Reopens share.slot)) old → MayLookMark at (view_of old)
-  may-look at released = record { after = Reopens share.slot; holding = released.call_is }
+  pub holding-may_look_mark : (at : ℕ) → HasReleased table share base (Holding at (Reopens share.slot)) old → MayLookMark at (view_of old)
+  holding-may_look_mark at released = record { after = Reopens share.slot; holding = released.call_is }
 
   module _ (at mark : ℕ) (released : HasReleased table share base (Holding at (Reopens share.slot)) old) (becomes : Becomes old new (saw_mark mark (view_of old)))
     where
       saw : (call : Call) → call_with_mark mark (Holding at (Reopens share.slot)) ≡ call → HasReleased table share base call new
       saw call is =
-          released-stays table old new (saw_mark mark (view_of old)) becomes record { constants = refl; standing = refl; held = refl } share base
+          released-step table old new (saw_mark mark (view_of old)) becomes record { constants = refl; standing = refl; held = refl } share base
           (Holding at (Reopens share.slot)) call refl released (ap (call_with_mark mark) released.call_is ∙ is)
 
-      pub mark-above : at < mark → HasReleased table share base (Raising at mark (Reopens share.slot)) new
-      mark-above above = saw (Raising at mark (Reopens share.slot))
+      pub saw_mark_above-call_raising : at < mark → HasReleased table share base (Raising at mark (Reopens share.slot)) new
+      saw_mark_above-call_raising above = saw (Raising at mark (Reopens share.slot))
           (ap (λ b. cond b (Raising at mark (Reopens share.slot)) (Reopening share.slot)) (lt-ltb at mark above))
 
-      pub mark-below : mark ≤ at → HasReleased table share base (Reopening share.slot) new
-      mark-below below = saw (Reopening share.slot) (ap (λ b. cond b (Raising at mark (Reopens share.slot)) (Reopening share.slot)) (le-ltb at mark below))
+      pub saw_mark_below-call_reopening : mark ≤ at → HasReleased table share base (Reopening share.slot) new
+      saw_mark_below-call_reopening below = saw (Reopening share.slot) (ap (λ b. cond b (Raising at mark (Reopens share.slot)) (Reopening share.slot)) (le-ltb at mark below))
 
-  pub may-raise : (from to : ℕ) → HasReleased table share base (Raising from to (Reopens share.slot)) old → MayRaise from to (view_of old)
-  may-raise from to released = record { after = Reopens share.slot; raising = released.call_is }
+  pub raising-may_raise : (from to : ℕ) → HasReleased table share base (Raising from to (Reopens share.slot)) old → MayRaise from to (view_of old)
+  raising-may_raise from to released = record { after = Reopens share.slot; raising = released.call_is }
 
-  pub range-raised : (from to : ℕ) → HasReleased table share base (Raising from to (Reopens share.slot)) old → Becomes old new (after_raise to (view_of old))
+  pub after_raise-call_holding : (from to : ℕ) → HasReleased table share base (Raising from to (Reopens share.slot)) old → Becomes old new (after_raise to (view_of old))
       → HasReleased table share base (Holding to (Reopens share.slot)) new
-  range-raised from to released becomes =
-      released-stays table old new (after_raise to (view_of old)) becomes record { constants = refl; standing = refl; held = refl } share base
+  after_raise-call_holding from to released becomes =
+      released-step table old new (after_raise to (view_of old)) becomes record { constants = refl; standing = refl; held = refl } share base
       (Raising from to (Reopens share.slot)) (Holding to (Reopens share.slot)) refl released (ap (call_with_exposed to) released.call_is)
 
-  pub range-opened : HasReleased table share base (Reopening share.slot) old → Becomes old new (reopened (view_of old)) → HasReleased table share base Idle new
-  range-opened released becomes =
-      released-stays table old new (reopened (view_of old)) becomes record { constants = refl; standing = refl; held = refl } share base (Reopening share.slot) Idle
+  pub reopened_released-call_idle : HasReleased table share base (Reopening share.slot) old → Becomes old new (reopened (view_of old)) → HasReleased table share base Idle new
+  reopened_released-call_idle released becomes =
+      released-step table old new (reopened (view_of old)) becomes record { constants = refl; standing = refl; held = refl } share base (Reopening share.slot) Idle
       refl released refl
 
-  pub slot-opened : HasLeft table share (Reopening share.slot) old → Becomes old new (reopened (view_of old)) → HasLeft table share Idle new
-  slot-opened left becomes =
-      left-stays table old new (reopened (view_of old)) becomes record { constants = refl; standing = refl; held = refl } share (Reopening share.slot) Idle refl left
+  pub reopened_left-call_idle : HasLeft table share (Reopening share.slot) old → Becomes old new (reopened (view_of old)) → HasLeft table share Idle new
+  reopened_left-call_idle left becomes =
+      left-step table old new (reopened (view_of old)) becomes record { constants = refl; standing = refl; held = refl } share (Reopening share.slot) Idle refl left
       refl

@@ -22,8 +22,8 @@ module _ (table : LogTable) (old new : Seat) (view : View) (becomes : Becomes ol
   is : view_of new ≡ view
   is = ap (λ me. me.0) becomes.me
 
-  pub worker-stays : (number : ℕ) → IsWorker table number old → IsWorker table number new
-  worker-stays number worker = record {
+  pub worker-step : (number : ℕ) → IsWorker table number old → IsWorker table number new
+  worker-step number worker = record {
     own = record {
       table_is = becomes.table_is ∙ worker.own.table_is;
       no_slots = ap (λ me. me.1) becomes.me ∙ worker.own.no_slots;
@@ -35,10 +35,10 @@ module _ (table : LogTable) (old new : Seat) (view : View) (becomes : Becomes ol
     none_held = ap (λ (v : View). v.books.held) is ∙ (keeps.held ∙ worker.none_held);
   }
 
-  pub member-stays : (share : Share) (step step' : MemberStep) → view.entries ≡ (view_of old).entries → (member : IsMember table share step old)
+  pub member-step : (share : Share) (step step' : MemberStep) → view.entries ≡ (view_of old).entries → (member : IsMember table share step old)
       → view.call ≡ Joined share.slot member.piece step' → IsMember table share step' new
-  member-stays share step step' entries member call = record {
-    worker = worker-stays share.worker member.worker;
+  member-step share step step' entries member call = record {
+    worker = worker-step share.worker member.worker;
     slot = member.slot;
     piece = member.piece;
     own_piece = member.own_piece;
@@ -46,10 +46,10 @@ module _ (table : LogTable) (old new : Seat) (view : View) (becomes : Becomes ol
     no_entry = ap (λ (v : View). v.entries) is ∙ (entries ∙ member.no_entry);
   }
 
-  pub released-stays : (share : Share) (base : ℕ) (call call' : Call) → view.entries ≡ (view_of old).entries
+  pub released-step : (share : Share) (base : ℕ) (call call' : Call) → view.entries ≡ (view_of old).entries
       → (released : HasReleased table share base call old) → view.call ≡ call' → HasReleased table share base call' new
-  released-stays share base call call' entries released is_call = record {
-    worker = worker-stays share.worker released.worker;
+  released-step share base call call' entries released is_call = record {
+    worker = worker-step share.worker released.worker;
     slot = released.slot;
     piece = released.piece;
     own_piece = released.own_piece;
@@ -57,10 +57,10 @@ module _ (table : LogTable) (old new : Seat) (view : View) (becomes : Becomes ol
     entry = ap (λ (v : View). v.entries) is ∙ (entries ∙ released.entry);
   }
 
-  pub left-stays : (share : Share) (call call' : Call) → view.entries ≡ (view_of old).entries → HasLeft table share call old → view.call ≡ call'
+  pub left-step : (share : Share) (call call' : Call) → view.entries ≡ (view_of old).entries → HasLeft table share call old → view.call ≡ call'
       → HasLeft table share call' new
-  left-stays share call call' entries left is_call = record {
-    worker = worker-stays share.worker left.worker;
+  left-step share call call' entries left is_call = record {
+    worker = worker-step share.worker left.worker;
     slot = left.slot;
     call_is = ap (λ (v : View). v.call) is ∙ is_call;
     no_entry = ap (λ (v : View). v.entries) is ∙ (entries ∙ left.no_entry);

@@ -1,4 +1,4 @@
--- The fields of a slot's word stand apart.
+-- The fields of a slot's word stand word_of-injective.
 use mathlib.Core.HLevel.{is_prop→PathP}
 use Rattle.std.proofs.Common.{arith, ◌≡◌, ◌≤◌, ◌<◌, ◌+◌, ◌-◌, ◌*◌, ◌%◌, ◌^◌, ◌∙◌, ℕ, ap, sym}
 use Rattle.std.proofs.Math.Bridge.{le_prop}
@@ -33,9 +33,9 @@ pub word_back : (word : ℕ) → word < 2 ^ 64 → packed (phase_in word) (total
 word_back word w = grind (arith)
 
 -- the sum of the shifted parts wraps nowhere
-pub packed_parts : (slot : SlotWord) (number total remaining : ℕ) → number ≡ number_of slot.phase → total ≡ slot.total → remaining ≡ slot.remaining
+pub word_of-shifted_sum : (slot : SlotWord) (number total remaining : ℕ) → number ≡ number_of slot.phase → total ≡ slot.total → remaining ≡ slot.remaining
     → number * 2 ^ 62 % 2 ^ 64 + total * 2 ^ 31 % 2 ^ 64 + remaining ≡ word_of slot
-packed_parts slot number total remaining is_number is_total is_remaining =
+word_of-shifted_sum slot number total remaining is_number is_total is_remaining =
     let small = number_of-small slot.phase in let total_fits = slot.total_fits in let remaining_fits = slot.remaining_fits in grind (arith)
 
 phase_read : (slot : SlotWord) → phase_in (word_of slot) ≡ slot.phase
@@ -47,14 +47,14 @@ total_read slot = total_back slot.phase slot.total slot.remaining slot.total_fit
 remaining_read : (slot : SlotWord) → remaining_in (word_of slot) ≡ slot.remaining
 remaining_read slot = remaining_back slot.phase slot.total slot.remaining slot.total_fits slot.remaining_fits
 
-pub slot_is : (slot : SlotWord) → IsSlotWord (word_of slot)
-slot_is slot = record {
+pub word_of-is_slot_word : (slot : SlotWord) → IsSlotWord (word_of slot)
+word_of-is_slot_word slot = record {
   gathering = λ is. remaining_read slot ∙ slot.gathering (sym (phase_read slot) ∙ is);
   pending = λ is. let none = slot.pending (sym (phase_read slot) ∙ is) in (total_read slot ∙ none.0, remaining_read slot ∙ none.1);
 }
 
-pub slot_back : (word : ℕ) → word < 2 ^ 64 → IsSlotWord word → (slot : SlotWord) × (word_of slot ≡ word)
-slot_back word w is = (
+pub is_slot_word-some_slot : (word : ℕ) → word < 2 ^ 64 → IsSlotWord word → (slot : SlotWord) × (word_of slot ≡ word)
+is_slot_word-some_slot word w is = (
   record {
     phase = phase_in word;
     total = total_in word;
@@ -84,15 +84,15 @@ same_field : {A : Type 0} (part : ℕ → A) (field : SlotWord → A) → ((slot
     → (a b : SlotWord) → word_of a ≡ word_of b → field a ≡ field b
 same_field part field read a b same = sym (read a) ∙ ap part same ∙ read b
 
-pub apart : (a b : SlotWord) → word_of a ≡ word_of b → a ≡ b
-apart a b same = same_slot a b
+pub word_of-injective : (a b : SlotWord) → word_of a ≡ word_of b → a ≡ b
+word_of-injective a b same = same_slot a b
     (same_field phase_in (λ slot. slot.phase) phase_read a b same)
     (same_field total_in (λ slot. slot.total) total_read a b same)
     (same_field remaining_in (λ slot. slot.remaining) remaining_read a b same)
 
-pub released : (phase : Phase) (total remaining n : ℕ) → total < 2 ^ 31 → remaining < 2 ^ 31 → n ≤ remaining
+pub subtracted-packed : (phase : Phase) (total remaining n : ℕ) → total < 2 ^ 31 → remaining < 2 ^ 31 → n ≤ remaining
     → subtracted n (packed phase total remaining) ≡ packed phase total (remaining - n)
-released phase total remaining n t r le = let small = number_of-small phase in grind (arith)
+subtracted-packed phase total remaining n t r le = let small = number_of-small phase in grind (arith)
 
-pub one_pending : (slot : SlotWord) → slot.phase ≡ Pending → (word : ℕ) → swapped (word_of slot) word ≡ packed Pending 0 0
-one_pending slot is word = let none = slot.pending is in λ i. packed (is i) (none.0 i) (none.1 i)
+pub swapped-pending : (slot : SlotWord) → slot.phase ≡ Pending → (word : ℕ) → swapped (word_of slot) word ≡ packed Pending 0 0
+swapped-pending slot is word = let none = slot.pending is in λ i. packed (is i) (none.0 i) (none.1 i)

@@ -22,7 +22,7 @@ use Rattle.standby.specs.AppliedFrames.{Base, with_frames, HoldsFront, Wrote, Ha
 use Rattle.standby.specs.Following.{BeginsWithFrames, Follows, GoesOn, HasEnded, HasFollowed, HasFrame, HoldsFollowed, IsReason, Stops, TellsEnd, whole_frames}
 use Rattle.standby.proofs.FrameLists.{holds-front-none, holds-lawful}
 use Rattle.standby.proofs.JudgedFrames.{with_records-none}
-use Rattle.standby.proofs.StoppedStreams.{begins-none, has-fewer, has-longer, read-come}
+use Rattle.standby.proofs.StoppedStreams.{begins_with_frames-append_none, has_frames-front, has_frames-more, read-come}
 
 -- ---- the frames that have come
 
@@ -35,7 +35,7 @@ begins-come list fed (Whole first frames) goes come = inr (end_bytes, subst (λ 
 pub begins-longer : (fed more : List ℕ) (list : OpenedList) (frames : List (List Rec)) → BeginsWithFrames fed list frames
     → BeginsWithFrames (fed ++ more) list frames
 begins-longer fed more list frames (inl none) = inl none
-begins-longer fed more list frames (inr has) = inr (has.0 ++ more, has-longer fed _ frames has.0 more has.1)
+begins-longer fed more list frames (inr has) = inr (has.0 ++ more, has_frames-more fed _ frames has.0 more has.1)
 
 -- ---- a stop in whole parts
 
@@ -52,14 +52,14 @@ module _ {D : Type 0} (g : Ghosts D) (base : Base D) (fed : List ℕ) (s : Stand
       (holds-lawful list c kept.each kept.taken.ledger.judged.lawful (kept.stands (follows.applied.wrote.honest.0 honest) c image).held)
 
   -- with no frame in flight
-  pub stops-here : (more : List ℕ) (fault : StandbyFault) → (fault ≡ DiskFault → ⊥)
+  pub follows-stops_between_frames : (more : List ℕ) (fault : StandbyFault) → (fault ≡ DiskFault → ⊥)
       → IsReason base.list (fed ++ more) (whole_frames follows.came) [] fault
       → Stops g base (fed ++ more) fault s.disk.now
-  stops-here more fault other reason = record {
+  follows-stops_between_frames more fault other reason = record {
     frames = whole_frames follows.came;
     cut = [];
     reason = reason;
-    begins = begins-none (fed ++ more) base.list _ (begins-longer fed more base.list _ begins-followed);
+    begins = begins_with_frames-append_none (fed ++ more) base.list _ (begins-longer fed more base.list _ begins-followed);
     images = images-followed;
     wrote = subst (λ fs. Wrote g base fs s.disk.now) (sym (append-nil (whole_frames follows.came))) follows.applied.wrote;
     faults = record { counted = λ is. absurd (other is); fine = λ no. follows.applied.fine };
@@ -68,7 +68,7 @@ module _ {D : Type 0} (g : Ghosts D) (base : Base D) (fed : List ℕ) (s : Stand
   -- at a part that is cut or outside the grammar
   pub stops-bad : (piece : List ℕ) (offset : ℕ) → ((more : List ℕ) → IsBadBehind follows.came (fed ++ piece ++ more) offset)
       → Stops g base (fed ++ piece) (BadStream offset) s.disk.now
-  stops-bad piece offset bad = stops-here piece (BadStream offset) (λ is. cc) (refl, (follows.came, refl, follows.goes_on, bad))
+  stops-bad piece offset bad = follows-stops_between_frames piece (BadStream offset) (λ is. cc) (refl, (follows.came, refl, follows.goes_on, bad))
 
   module _ (reader : StreamReader) (longer : List ℕ) where
     abbrev later : Standby D
@@ -99,8 +99,8 @@ module _ {D : Type 0} (g : Ghosts D) (base : Base D) (fed : List ℕ) (s : Stand
     }
 
     -- a frame
-    pub follows-frame : (adds : AddsFrame follows.came reader longer) → HasFrame g base longer adds.frames adds.records later
-    follows-frame adds =
+    pub follows-has_frame : (adds : AddsFrame follows.came reader longer) → HasFrame g base longer adds.frames adds.records later
+    follows-has_frame adds =
         let goes : adds.first ≡ list_end base.list = subst (GoesOn base.list) adds.before follows.goes_on in record {
           read = subst (λ n. HasRead reader longer (Open n (adds.frames ++ adds.records ∷ []))) goes adds.read;
           holds = adds.units;
@@ -116,7 +116,7 @@ stops-gap g base fed piece rest s reader first follows none read other =
     let frames : whole_frames follows.came ≡ [] = ap whole_frames none in
     let next : s.tail.next ≡ list_end base.list =
     follows.applied.kept.next ∙ ap (λ fs. list_end (with_frames base.list fs)) frames ∙ ap list_end (with_records-none base.list) in
-    stops-here g base fed s follows (piece ++ rest) (Gap s.tail.next first) (λ is. cc) (
+    follows-stops_between_frames g base fed s follows (piece ++ rest) (Gap s.tail.next first) (λ is. cc) (
       refl,
       frames,
       next,
@@ -124,7 +124,7 @@ stops-gap g base fed piece rest s reader first follows none read other =
       (
         come.0 ++ rest,
         subst (λ b. HasFrames b first [] (come.0 ++ rest)) (append_assoc fed piece rest)
-            (has-longer (fed ++ piece) first [] come.0 rest come.1),
+            (has_frames-more (fed ++ piece) first [] come.0 rest come.1),
       ),
     )
 
@@ -144,10 +144,10 @@ reason-longer list fed more frames cut (BadStream offset) is = (
   ),
 )
 reason-longer list fed more frames cut (Gap have from) is =
-    (is.0, is.1, is.2, is.3, (is.4.0 ++ more, has-longer fed from [] is.4.0 more is.4.1))
+    (is.0, is.1, is.2, is.3, (is.4.0 ++ more, has_frames-more fed from [] is.4.0 more is.4.1))
 reason-longer list fed more frames cut (StreamUnlawful lsn why) is =
-    (is.0, (is.1.0, is.1.1 ++ more, has-longer fed _ _ is.1.1 more is.1.2, is.1.3))
-reason-longer list fed more frames cut DiskFault is = (is.0, is.1 ++ more, is.2, has-longer fed _ _ is.1 more is.3)
+    (is.0, (is.1.0, is.1.1 ++ more, has_frames-more fed _ _ is.1.1 more is.1.2, is.1.3))
+reason-longer list fed more frames cut DiskFault is = (is.0, is.1 ++ more, is.2, has_frames-more fed _ _ is.1 more is.3)
 reason-longer list fed more frames cut NoMemory is = is
 
 pub stops-longer : {D : Type 0} (g : Ghosts D) (base : Base D) (fed more : List ℕ) (fault : StandbyFault) (disk : D)
@@ -176,7 +176,7 @@ holds-followed list fed frames (inl none) c held =
     record { frames = held.front; begins = inl (no-front held.front held.rest (sym none ∙ held.whole)); holds = held.holds }
 holds-followed list fed frames (inr has) c held = record {
   frames = held.front;
-  begins = inr (_, has-fewer fed _ held.front held.rest has.0 (subst (λ fs. HasFrames fed (list_end list) fs has.0) held.whole has.1));
+  begins = inr (_, has_frames-front fed _ held.front held.rest has.0 (subst (λ fs. HasFrames fed (list_end list) fs has.0) held.whole has.1));
   holds = held.holds;
 }
 
@@ -186,15 +186,15 @@ wrote-followed : {D : Type 0} (g : Ghosts D) (base : Base D) (fed : List ℕ) (f
 wrote-followed g base fed frames disk begins wrote honest =
     Leaves-weaken g.moment g.images_since _ _ base.disk disk (holds-followed base.list fed frames begins) (wrote.moments honest)
 
-pub images-follows : {D : Type 0} (g : Ghosts D) (base : Base D) (fed : List ℕ) (s : Standby D) → Follows g base fed s → g.honest base.disk
+pub follows-leaves_followed : {D : Type 0} (g : Ghosts D) (base : Base D) (fed : List ℕ) (s : Standby D) → Follows g base fed s → g.honest base.disk
     → Leaves g.moment g.images_since (HoldsFollowed base.list fed) base.disk s.disk.now
-images-follows g base fed s follows =
+follows-leaves_followed g base fed s follows =
     wrote-followed g base fed (whole_frames follows.came) s.disk.now (begins-followed g base fed s follows) follows.applied.wrote
 
-pub images-stops : {D : Type 0} (g : Ghosts D) (base : Base D) (fed : List ℕ) (fault : StandbyFault) (disk : D)
+pub stops-leaves_followed : {D : Type 0} (g : Ghosts D) (base : Base D) (fed : List ℕ) (fault : StandbyFault) (disk : D)
     → Stops g base fed fault disk
     → g.honest base.disk → Leaves g.moment g.images_since (HoldsFollowed base.list fed) base.disk disk
-images-stops g base fed fault disk stops = wrote-followed g base fed (stops.frames ++ stops.cut) disk stops.begins stops.wrote
+stops-leaves_followed g base fed fault disk stops = wrote-followed g base fed (stops.frames ++ stops.cut) disk stops.begins stops.wrote
 
 -- ---- the end
 
@@ -270,9 +270,9 @@ passed-stops g old new bytes rest fault disk passed stops base fed follows =
     subst (λ b. Stops g base b fault disk) (append_assoc fed passed.front rest ∙ ap (λ b. fed ++ b) (sym passed.whole))
     (stops base (fed ++ passed.front) (passed.follows base fed follows))
 
-pub passed-all : {D : Type 0} (g : Ghosts D) (old new : Standby D) (bytes rest : List ℕ) → HasPassed g old new bytes rest → rest ≡ []
+pub passed_all-follows : {D : Type 0} (g : Ghosts D) (old new : Standby D) (bytes rest : List ℕ) → HasPassed g old new bytes rest → rest ≡ []
     → (base : Base D) (fed : List ℕ) → Follows g base fed old → Follows g base (fed ++ bytes) new
-passed-all g old new bytes rest passed none base fed follows =
+passed_all-follows g old new bytes rest passed none base fed follows =
     subst (λ b. Follows g base b new)
     (ap (λ b. fed ++ b) (sym (passed.whole ∙ ap (λ b. passed.front ++ b) none ∙ append-nil passed.front)))
     (passed.follows base fed follows)

@@ -22,40 +22,40 @@ pub records_of-append : (xs ys : List (List Rec)) → records_of (xs ++ ys) ≡ 
 records_of-append [] ys = refl
 records_of-append (x ∷ xs) ys = ap (λ rs. x ++ rs) (records_of-append xs ys) ∙ sym (append_assoc x (records_of xs) (records_of ys))
 
-pub records_of-next : (frames : List (List Rec)) (records : List Rec) → records_of (frames ++ records ∷ []) ≡ records_of frames ++ records
-records_of-next frames records = records_of-append frames (records ∷ []) ∙ ap (λ rs. records_of frames ++ rs) (append-nil records)
+pub records_of-push : (frames : List (List Rec)) (records : List Rec) → records_of (frames ++ records ∷ []) ≡ records_of frames ++ records
+records_of-push frames records = records_of-append frames (records ∷ []) ∙ ap (λ rs. records_of frames ++ rs) (append-nil records)
 
-pub end_of-next : (frames : List (List Rec)) (records : List Rec)
+pub end_of_records_of-push : (frames : List (List Rec)) (records : List Rec)
     → end_of (records_of (frames ++ records ∷ [])) ≡ end_of (records_of frames) + end_of records
-end_of-next frames records =
-    ap end_of (records_of-next frames records) ∙ ap length (units_of-append (records_of frames) records)
+end_of_records_of-push frames records =
+    ap end_of (records_of-push frames records) ∙ ap length (units_of-append (records_of frames) records)
     ∙ length-append (units_of (records_of frames)) (units_of records)
 
 pub frames-spellable : (frames : List (List Rec)) → AllByRecursion IsFrame frames → AllByRecursion IsSpellable (records_of frames)
 frames-spellable [] each = tt
 frames-spellable (frame ∷ frames) each = all-append IsSpellable frame (records_of frames) each.0.spellable (frames-spellable frames each.1)
 
-pub last-frame : (frames : List (List Rec)) (records : List Rec) → AllByRecursion IsFrame (frames ++ records ∷ []) → IsFrame records
-last-frame frames records each = (all-split IsFrame frames (records ∷ []) each).1.0
+pub all_frames-last_is_frame : (frames : List (List Rec)) (records : List Rec) → AllByRecursion IsFrame (frames ++ records ∷ []) → IsFrame records
+all_frames-last_is_frame frames records each = (all-split IsFrame frames (records ∷ []) each).1.0
 
 -- ---- the list with them
 
-pub with_frames-next : (list : OpenedList) (frames : List (List Rec)) (records : List Rec)
+pub with_frames-push : (list : OpenedList) (frames : List (List Rec)) (records : List Rec)
     → with_records (with_frames list frames) records ≡ with_frames list (frames ++ records ∷ [])
-with_frames-next list frames records =
-    with_records-append list (records_of frames) records ∙ ap (with_records list) (sym (records_of-next frames records))
+with_frames-push list frames records =
+    with_records-append list (records_of frames) records ∙ ap (with_records list) (sym (records_of-push frames records))
 
 pub list_end-frames : (list : OpenedList) (frames : List (List Rec))
     → list_end (with_frames list frames) ≡ list_end list + end_of (records_of frames)
 list_end-frames list frames = list_end-more list (records_of frames)
 
-pub place_behind-next : (at : ℕ) (frames : List (List Rec)) (records : List Rec)
+pub place_behind-push : (at : ℕ) (frames : List (List Rec)) (records : List Rec)
     → place_behind at (frames ++ records ∷ []) ≡ place_behind at frames + (5 + 8 * end_of records)
-place_behind-next at frames records = omega (arith, end_of-next frames records, length-append frames (records ∷ []))
+place_behind-push at frames records = omega (arith, end_of_records_of-push frames records, length-append frames (records ∷ []))
 
-pub log_of-more : (list : OpenedList) (records : List Rec)
+pub log_of-with_records : (list : OpenedList) (records : List Rec)
     → with_units (log_of list) (units_of records) ≡ log_of (with_records list records)
-log_of-more list records = λ i. record { opening = list.opening; units = sym (units_of-append list.records records) i }
+log_of-with_records list records = λ i. record { opening = list.opening; units = sym (units_of-append list.records records) i }
 
 -- ---- what an image holds
 
@@ -79,18 +79,18 @@ module _ (list : OpenedList) (bytes : List ℕ) where
   holds-lawful each lawful held = record { list = record { each = each; holds = held }; lawful = lawful }
 
   -- the log before a frame, or with all of it
-  pub holds-front-either : (records : List Rec) (units : List ℕ) → units ≡ units_of records
+  pub holds-front-log_or_more : (records : List Rec) (units : List ℕ) → units ≡ units_of records
       → AllByRecursion IsSpellable list.records → IsLawful (opening_before list) (placed list)
       → AllByRecursion IsSpellable records → IsLawful (opening_before list) (placed (with_records list records))
       → HoldsLogOrMore (log_of list) units bytes → HoldsFront list (records ∷ []) bytes
-  holds-front-either records units same each lawful more after (inl held) =
+  holds-front-log_or_more records units same each lawful more after (inl held) =
       holds-front-more [] (records ∷ []) (holds-front-none (holds-lawful each lawful held))
-  holds-front-either records units same each lawful more after (inr held) =
+  holds-front-log_or_more records units same each lawful more after (inr held) =
       let one : with_records list records ≡ with_frames list (records ∷ []) = ap (with_records list) (sym (append-nil records)) in
       holds-front-all (records ∷ []) (subst (HoldsLawful bytes) one (record {
         list = record {
           each = all-append IsSpellable list.records records each more;
-          holds = subst (HoldsLog bytes) (ap (with_units (log_of list)) same ∙ log_of-more list records) held;
+          holds = subst (HoldsLog bytes) (ap (with_units (log_of list)) same ∙ log_of-with_records list records) held;
         };
         lawful = after;
       }))

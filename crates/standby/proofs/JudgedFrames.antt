@@ -15,7 +15,7 @@ use Rattle.lock_core.specs.Lawful.{Passes}
 use Rattle.lock_core.specs.Taking.{HasJudged}
 use Rattle.lock_core.specs.declared.judge.Judge.{Judge}
 use Rattle.lock_core.specs.declared.reason.Why.{Why}
-use Rattle.lock_core.proofs.Fronts.{history_from-append, history_from-onto}
+use Rattle.lock_core.proofs.Fronts.{history_from-append, history_from-extends}
 use Rattle.log_recovery.specs.Opened.{OpenedList, list_end, opening_before, placed, with_records}
 use Rattle.log_recovery.proofs.ListingLemmas.{units_of-append}
 use Rattle.log_recovery.proofs.OpenedLemmas.{list_end-more, placed-end}
@@ -24,8 +24,8 @@ use Rattle.standby.specs.TakenList.{HasTakenList}
 -- ---- records and their units
 
 -- a spelling has at least one unit
-pub size_of-some : (rec : Rec) → 0 < size_of rec
-size_of-some rec = omega (arith, ap length (spelling-parts_of rec))
+pub size_of-positive : (rec : Rec) → 0 < size_of rec
+size_of-positive rec = omega (arith, ap length (spelling-parts_of rec))
 
 size_of-begins : (units : List ℕ) (rec : Rec) → BeginsWith units rec → size_of rec ≤ length units
 size_of-begins units rec begins = omega (arith, ap length begins.2, length-append (spelling rec) begins.1)
@@ -46,15 +46,15 @@ end_of-one : (rec : Rec) → end_of (rec ∷ []) ≡ size_of rec
 end_of-one rec = ap length (append-nil (spelling rec))
 
 -- records without units are none
-pub no-records : (records : List Rec) → end_of records ≡ 0 → records ≡ []
-no-records [] none = refl
-no-records (rec ∷ records) none = absurd (omega (arith, none, size_of-some rec, length-append (spelling rec) (units_of records)))
+pub end_of_zero-no_records : (records : List Rec) → end_of records ≡ 0 → records ≡ []
+end_of_zero-no_records [] none = refl
+end_of_zero-no_records (rec ∷ records) none = absurd (omega (arith, none, size_of-positive rec, length-append (spelling rec) (units_of records)))
 
 -- ---- the list with one record more
 
-pub placed-next : (list : OpenedList) (rec : Rec) (lsn : ℕ) → lsn ≡ list_end list
+pub placed-push : (list : OpenedList) (rec : Rec) (lsn : ℕ) → lsn ≡ list_end list
     → placed (with_records list (rec ∷ [])) ≡ entry_at lsn rec ∷ placed list
-placed-next list rec lsn place =
+placed-push list rec lsn place =
     history_from-append list.opening.lsn [] list.records (rec ∷ [])
     ∙ ap (λ start. entry_at start rec ∷ placed list) (placed-end list ∙ sym place)
 
@@ -95,8 +95,8 @@ module _ (list : OpenedList) (records : List Rec) (at : ℕ) (units : List ℕ) 
   unseen-spellable = all-behind to.seen to.unseen (subst (AllByRecursion IsSpellable) to.whole spellable)
 
   -- where units are left, they begin with a record
-  pub taken-begins : at < length units → (rec : Rec) × BeginsWith (drop at units) rec
-  taken-begins within = by-unseen to.unseen unseen-spellable to.left
+  pub taken-record_begins : at < length units → (rec : Rec) × BeginsWith (drop at units) rec
+  taken-record_begins within = by-unseen to.unseen unseen-spellable to.left
     where
       by-unseen : (unseen : List Rec) → AllByRecursion IsSpellable unseen → drop at units ≡ units_of unseen → (rec : Rec)
           × BeginsWith (drop at units) rec
@@ -107,12 +107,12 @@ module _ (list : OpenedList) (records : List Rec) (at : ℕ) (units : List ℕ) 
   pub taken-all : length units ≤ at → HasTakenList (with_records list records) judge
   taken-all end =
       let none : end_of to.unseen ≡ 0 = omega (arith, length-drop at units, ap length to.left, end) in
-      let same : to.seen ≡ records = sym (to.whole ∙ ap (λ rs. to.seen ++ rs) (no-records to.unseen none) ∙ append-nil to.seen) in
+      let same : to.seen ≡ records = sym (to.whole ∙ ap (λ rs. to.seen ++ rs) (end_of_zero-no_records to.unseen none) ∙ append-nil to.seen) in
       subst (λ rs. HasTakenList (with_records list rs) judge) same to.taken
 
   -- the next record stands where what was taken ends
-  pub taken-place : (from lsn : ℕ) → from ≡ list_end list → lsn ≡ from + at → lsn ≡ list_end (with_records list to.seen)
-  taken-place from lsn start is = omega (arith, start, is, to.place, list_end-more list to.seen)
+  pub taken_lsn-list_end : (from lsn : ℕ) → from ≡ list_end list → lsn ≡ from + at → lsn ≡ list_end (with_records list to.seen)
+  taken_lsn-list_end from lsn start is = omega (arith, start, is, to.place, list_end-more list to.seen)
 
   module _ (rec : Rec) (begins : BeginsWith (drop at units) rec) where
     record Goes : Type 0 where
@@ -123,7 +123,7 @@ module _ (list : OpenedList) (records : List Rec) (at : ℕ) (units : List ℕ) 
     goes = by-unseen to.unseen unseen-spellable to.left refl
       where
         by-unseen : (unseen : List Rec) → AllByRecursion IsSpellable unseen → drop at units ≡ units_of unseen → to.unseen ≡ unseen → Goes
-        by-unseen [] all left is = absurd (omega (arith, size_of-some rec, size_of-begins _ rec begins, ap length left))
+        by-unseen [] all left is = absurd (omega (arith, size_of-positive rec, size_of-begins _ rec begins, ap length left))
         by-unseen (next ∷ unseen) all left is =
             let same = spelling-append-injective next rec _ _ all.0 begins.0 (sym left ∙ begins.2) in
             record { unseen = unseen; whole = is ∙ ap (λ r. r ∷ unseen) same.0 }
@@ -135,13 +135,13 @@ module _ (list : OpenedList) (records : List Rec) (at : ℕ) (units : List ℕ) 
         → placed (with_records list (to.seen ++ rec ∷ [])) ≡ entry_at lsn rec ∷ placed (with_records list to.seen)
     placed-more lsn place =
         ap placed (sym (with_records-append list to.seen (rec ∷ [])))
-        ∙ placed-next (with_records list to.seen) rec lsn place
+        ∙ placed-push (with_records list to.seen) rec lsn place
 
     -- it is taken
-    pub taken-next : (lsn size : ℕ) (later : Judge) → lsn ≡ list_end (with_records list to.seen) → size ≡ size_of rec
+    pub has_taken_to-push : (lsn size : ℕ) (later : Judge) → lsn ≡ list_end (with_records list to.seen) → size ≡ size_of rec
         → HasJudged (opening_before list) later (entry_at lsn rec ∷ placed (with_records list to.seen))
         → HasTakenTo list records (at + size) units later
-    taken-next lsn size later place size_is taken = record {
+    has_taken_to-push lsn size later place size_is taken = record {
       seen = to.seen ++ rec ∷ [];
       unseen = goes.unseen;
       whole = seen-more;
@@ -152,11 +152,11 @@ module _ (list : OpenedList) (records : List Rec) (at : ℕ) (units : List ℕ) 
     }
 
     -- it fails a test
-    pub fails-next : (lsn : ℕ) (why : Why) → lsn ≡ list_end (with_records list to.seen)
+    pub first_failing-unlawful_at : (lsn : ℕ) (why : Why) → lsn ≡ list_end (with_records list to.seen)
         → IsFirstFailing (Passes (opening_before list) (placed (with_records list to.seen)) (entry_at lsn rec)) why
         → IsUnlawfulAt (opening_before list) (placed (with_records list records)) lsn why
-    fails-next lsn why place first =
-        let onto = history_from-onto list.opening.lsn (placed (with_records list (to.seen ++ rec ∷ []))) goes.unseen in
+    first_failing-unlawful_at lsn why place first =
+        let onto = history_from-extends list.opening.lsn (placed (with_records list (to.seen ++ rec ∷ []))) goes.unseen in
         record {
           later = onto.0;
           entry = entry_at lsn rec;

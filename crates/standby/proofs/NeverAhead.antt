@@ -16,7 +16,7 @@ use Rattle.ship_stream.proofs.PackingLemmas.{records_of-packed, shipped-stream}
 use Rattle.ship_stream.proofs.StreamLemmas.{one_stream-front}
 use Rattle.standby.specs.Following.{BeginsWithFrames, HoldsFollowed}
 use Rattle.standby.proofs.FrameLists.{records_of-append}
-use Rattle.standby.proofs.StoppedStreams.{has-longer}
+use Rattle.standby.proofs.StoppedStreams.{has_frames-more}
 
 module _ (list : OpenedList) (before later : List Rec) (log fed more : List ℕ) (held : HoldsLawful log list)
     (whole : list.records ≡ before ++ later)
@@ -40,7 +40,7 @@ module _ (list : OpenedList) (before later : List Rec) (log fed more : List ℕ)
   shipped-front frames (inl none) = (later, sym (ap (λ fs. records_of fs ++ later) none))
   shipped-front frames (inr has) =
       let found = one_stream-front (fed ++ more) first first (frames_of later) frames (has.0 ++ more) stream
-      (has-longer fed first frames has.0 more has.1) in (
+      (has_frames-more fed first frames has.0 more has.1) in (
         records_of found.1,
         sym (records_of-packed SHIPPED_UNITS [] later) ∙ ap records_of found.2 ∙ records_of-append frames found.1,
       )

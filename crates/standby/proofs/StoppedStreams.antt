@@ -4,7 +4,7 @@ use Rattle.std.specs.List.{flat_map}
 use Rattle.log_disk.specs.Disk.{Leaves}
 use Rattle.log_disk.specs.Faults.{Rose, CountsWhere}
 use Rattle.log_disk.specs.declared.disk.LogDisk.{Ghosts}
-use Rattle.log_disk.proofs.Moments.{Leaves-now}
+use Rattle.log_disk.proofs.Moments.{Leaves-images_now}
 use Rattle.lsn_space.specs.declared.lsn.TheConstants.{LAST}
 use Rattle.log_record.specs.declared.rec.Rec.{Rec}
 use Rattle.log_record.specs.LogList.{AreUnitsOf, units_of, end_of}
@@ -25,8 +25,8 @@ use Rattle.standby.specs.declared.fault.StandbyFault.TheVariants.{BadStream, Gap
 use Rattle.standby.specs.AppliedFrames.{Base, with_frames, HoldsFront, Wrote, HasApplied}
 use Rattle.standby.specs.Following.{BeginsWithFrames, HasFrame, IsReason, Stops}
 use Rattle.standby.specs.TakenList.{HasTakenList, IsFrameFault}
-use Rattle.standby.proofs.AppliedFrames.{WroteFrame, wrote-next, frame-moments}
-use Rattle.standby.proofs.FrameLists.{records_of-append, end_of-next, last-frame, list_end-frames, with_frames-next, holds-front-none, holds-front-more, holds-lawful}
+use Rattle.standby.proofs.AppliedFrames.{WroteFrame, wrote-push, frame-leaves_holds_front}
+use Rattle.standby.proofs.FrameLists.{records_of-append, end_of_records_of-push, all_frames-last_is_frame, list_end-frames, with_frames-push, holds-front-none, holds-front-more, holds-lawful}
 use Rattle.standby.proofs.JudgedFrames.{end_of-append}
 
 -- ---- frames and bytes
@@ -38,9 +38,9 @@ bytes-append (x ∷ xs) ys =
     ∙ sym (append_assoc (frame_bytes x) (flat_map frame_bytes xs) (flat_map frame_bytes ys))
 
 -- the first of some frames are the first of the stream
-pub has-fewer : (bytes : List ℕ) (first : ℕ) (frames more : List (List Rec)) (rest : List ℕ) → HasFrames bytes first (frames ++ more) rest
+pub has_frames-front : (bytes : List ℕ) (first : ℕ) (frames more : List (List Rec)) (rest : List ℕ) → HasFrames bytes first (frames ++ more) rest
     → HasFrames bytes first frames (flat_map frame_bytes more ++ rest)
-has-fewer bytes first frames more rest has =
+has_frames-front bytes first frames more rest has =
     let head : List ℕ = head_bytes first in
     let these : List ℕ = flat_map frame_bytes frames in
     let those : List ℕ = flat_map frame_bytes more in
@@ -53,17 +53,17 @@ has-fewer bytes first frames more rest has =
     }
 
 -- and stay so, whatever follows
-pub has-longer : (bytes : List ℕ) (first : ℕ) (frames : List (List Rec)) (rest more : List ℕ) → HasFrames bytes first frames rest
+pub has_frames-more : (bytes : List ℕ) (first : ℕ) (frames : List (List Rec)) (rest more : List ℕ) → HasFrames bytes first frames rest
     → HasFrames (bytes ++ more) first frames (rest ++ more)
-has-longer bytes first frames rest more has = record {
+has_frames-more bytes first frames rest more has = record {
   each = has.each;
   total = has.total;
   whole = ap (λ b. b ++ more) has.whole ∙ append_assoc (head_bytes first ++ flat_map frame_bytes frames) rest more;
 }
 
-pub begins-none : (fed : List ℕ) (list : OpenedList) (frames : List (List Rec)) → BeginsWithFrames fed list frames
+pub begins_with_frames-append_none : (fed : List ℕ) (list : OpenedList) (frames : List (List Rec)) → BeginsWithFrames fed list frames
     → BeginsWithFrames fed list (frames ++ [])
-begins-none fed list frames begins = subst (BeginsWithFrames fed list) (sym (append-nil frames)) begins
+begins_with_frames-append_none fed list frames begins = subst (BeginsWithFrames fed list) (sym (append-nil frames)) begins
 
 -- ---- what was read
 
@@ -84,22 +84,22 @@ module _ {D : Type 0} (g : Ghosts D) (base : Base D) (fed : List ℕ) (frames : 
   has : HasFrames fed (list_end base.list) (frames ++ records ∷ []) left
   has = (read-come s.reader fed _ h.read).1
 
-  pub frame-is : IsFrame records
-  frame-is = last-frame frames records has.each
+  pub has_frame-is_frame : IsFrame records
+  has_frame-is_frame = all_frames-last_is_frame frames records has.each
 
-  pub frame-spells : AreUnitsOf s.reader.batch.units records
-  frame-spells = record { spellable = frame-is.spellable; units_are = h.holds }
+  pub has_frame-batch_are_units_of : AreUnitsOf s.reader.batch.units records
+  has_frame-batch_are_units_of = record { spellable = has_frame-is_frame.spellable; units_are = h.holds }
 
-  pub frame-fits : s.tail.next + length s.reader.batch.units ≤ LAST
-  frame-fits =
-      omega (arith, h.applied.kept.next, list_end-frames base.list frames, has.total, end_of-next frames records, ap length h.holds)
+  pub has_frame-within_log : s.tail.next + length s.reader.batch.units ≤ LAST
+  has_frame-within_log =
+      omega (arith, h.applied.kept.next, list_end-frames base.list frames, has.total, end_of_records_of-push frames records, ap length h.holds)
 
-  pub frame-taken : (list : OpenedList) × HasTakenList list s.judge × (s.tail.next ≡ list_end list)
-  frame-taken = (before, h.applied.kept.taken, h.applied.kept.next)
+  pub has_frame-has_taken_list : (list : OpenedList) × HasTakenList list s.judge × (s.tail.next ≡ list_end list)
+  has_frame-has_taken_list = (before, h.applied.kept.taken, h.applied.kept.next)
 
   -- each image holds what was applied
-  pub images-before : g.honest base.disk → (c : List ℕ) → g.images s.disk.now c → HoldsFront before [] c
-  images-before honest c image =
+  pub has_frame-images_hold_applied : g.honest base.disk → (c : List ℕ) → g.images s.disk.now c → HoldsFront before [] c
+  has_frame-images_hold_applied honest c image =
       holds-front-none before c
       (holds-lawful before c h.applied.kept.each h.applied.kept.taken.ledger.judged.lawful
       (h.applied.kept.stands (h.applied.wrote.honest.0 honest) c image).held)
@@ -117,11 +117,11 @@ module _ {D : Type 0} (g : Ghosts D) (base : Base D) (fed : List ℕ) (frames : 
         records,
         left,
         has,
-        subst (λ l. IsUnlawfulAt (opening_before base.list) (placed l) lsn why) (with_frames-next base.list frames records) is,
+        subst (λ l. IsUnlawfulAt (opening_before base.list) (placed l) lsn why) (with_frames-push base.list frames records) is,
       ),
     );
-    begins = begins-none fed base.list frames (inr (_, has-fewer fed _ frames (records ∷ []) left has));
-    images = images-before;
+    begins = begins_with_frames-append_none fed base.list frames (inr (_, has_frames-front fed _ frames (records ∷ []) left has));
+    images = has_frame-images_hold_applied;
     wrote = subst (λ fs. Wrote g base fs s.disk.now) (sym (append-nil frames)) h.applied.wrote;
     faults = record { counted = λ is. absurd cc; fine = λ no. h.applied.fine };
   }
@@ -130,8 +130,8 @@ module _ {D : Type 0} (g : Ghosts D) (base : Base D) (fed : List ℕ) (frames : 
     frames = frames;
     cut = [];
     reason = refl;
-    begins = begins-none fed base.list frames (inr (_, has-fewer fed _ frames (records ∷ []) left has));
-    images = images-before;
+    begins = begins_with_frames-append_none fed base.list frames (inr (_, has_frames-front fed _ frames (records ∷ []) left has));
+    images = has_frame-images_hold_applied;
     wrote = subst (λ fs. Wrote g base fs s.disk.now) (sym (append-nil frames)) h.applied.wrote;
     faults = record { counted = λ is. absurd cc; fine = λ no. h.applied.fine };
   }
@@ -148,12 +148,12 @@ module _ {D : Type 0} (g : Ghosts D) (base : Base D) (fed : List ℕ) (frames : 
       reason = (records, left, refl, has);
       begins = inr (left, has);
       images = λ honest.
-          Leaves-now g.moment g.images_since g.images counts_now _ s.disk.now disk only_now
-          (λ c image. holds-front-more before c [] (records ∷ []) (images-before honest c image))
-          (frame-moments g base frames s.judge s.tail s.disk.now h.applied records s.reader.batch.units h.holds frame-is.spellable later
+          Leaves-images_now g.moment g.images_since g.images counts_now _ s.disk.now disk only_now
+          (λ c image. holds-front-more before c [] (records ∷ []) (has_frame-images_hold_applied honest c image))
+          (frame-leaves_holds_front g base frames s.judge s.tail s.disk.now h.applied records s.reader.batch.units h.holds has_frame-is_frame.spellable later
           taken disk wrote
           (h.applied.wrote.honest.0 honest));
-      wrote = wrote-next g base frames s.judge s.tail s.disk.now h.applied records s.reader.batch.units h.holds frame-is.spellable later
+      wrote = wrote-push g base frames s.judge s.tail s.disk.now h.applied records s.reader.batch.units h.holds has_frame-is_frame.spellable later
           taken disk wrote;
       faults = record { counted = λ is. subst (λ n. Rose n (g.faults disk)) h.applied.fine rose; fine = λ no. absurd (no refl) };
     }

@@ -15,7 +15,7 @@ use Rattle.ship_stream.specs.Came.{Came, HasCome, IsBegun, count_begun, units_be
 use Rattle.ship_stream.specs.Came.Came.{NoHead, Open, Whole}
 use Rattle.ship_stream.specs.Stream.{stream_magic, head_bytes, counted_bytes, frame_bytes, end_bytes, records_of, frames_end, IsFrame, HasFrames, HasNoHead, HasNoFrame, HasNoEnd}
 use Rattle.ship_stream.specs.declared.layout.TheConstants.{MOST_FRAME_UNITS}
-use Rattle.ship_stream.proofs.FrameLemmas.{end_of-append, same_number, same_units, spellings-fit, length-head, length-unit_bytes, length-frame}
+use Rattle.ship_stream.proofs.FrameLemmas.{end_of-append, same_number, same_units, units_of-below_64_bits, length-head, length-unit_bytes, length-frame}
 use Rattle.ship_stream.proofs.StreamLemmas.{begun-no_frame, begun-no_end}
 use Rattle.segment_file.specs.File.{AreUnits}
 use Rattle.stream_reader.specs.Reader.{units_bytes, part_bytes, IsFrameBegun, IsAtStage, ReadsTo, ReadsAt}
@@ -27,9 +27,9 @@ IsUnit unit = unit < 2 ^ 64
 
 -- ---- frames in front of more
 
-pub frames-more : (bytes : List ℕ) (first : ℕ) (frames : List (List Rec)) (rest more : List ℕ) → HasFrames bytes first frames rest
+pub frames-append : (bytes : List ℕ) (first : ℕ) (frames : List (List Rec)) (rest more : List ℕ) → HasFrames bytes first frames rest
     → HasFrames (bytes ++ more) first frames (rest ++ more)
-frames-more bytes first frames rest more reads = record {
+frames-append bytes first frames rest more reads = record {
   each = reads.each;
   total = reads.total;
   whole = ap (λ list. list ++ more) reads.whole ∙ append_assoc (head_bytes first ++ flat_map frame_bytes frames) rest more;
@@ -41,9 +41,9 @@ pub frames-same : (bytes : List ℕ) (first : ℕ) (frames : List (List Rec)) (r
 frames-same bytes first frames rest other same reads = subst (HasFrames bytes first frames) same reads
 
 -- the end with one frame more
-pub ends-more : (first : ℕ) (frames : List (List Rec)) (records : List Rec)
+pub frames_end-push : (first : ℕ) (frames : List (List Rec)) (records : List Rec)
     → frames_end first (frames ++ records ∷ []) ≡ frames_end first frames + end_of records
-ends-more first frames records =
+frames_end-push first frames records =
     omega (
       arith,
       ap end_of (flat_map-append (λ (list : List Rec). list) frames (records ∷ [])),
@@ -52,12 +52,12 @@ ends-more first frames records =
     )
 
 -- one frame more
-pub frames-next : (bytes : List ℕ) (first : ℕ) (frames : List (List Rec)) (records : List Rec)
+pub frames-push : (bytes : List ℕ) (first : ℕ) (frames : List (List Rec)) (records : List Rec)
     → HasFrames bytes first frames (frame_bytes records)
     → IsFrame records → frames_end first frames + end_of records ≤ LAST → HasFrames bytes first (frames ++ records ∷ []) []
-frames-next bytes first frames records reads frame fits = record {
+frames-push bytes first frames records reads frame fits = record {
   each = all-push IsFrame frames records reads.each frame;
-  total = omega (arith, fits, ends-more first frames records);
+  total = omega (arith, fits, frames_end-push first frames records);
   whole = reads.whole ∙ append_assoc (head_bytes first) (flat_map frame_bytes frames) (frame_bytes records)
       ∙ ap (λ list. head_bytes first ++ list) (ap (λ list. flat_map frame_bytes frames ++ list) (sym (append-nil (frame_bytes records)))
       ∙ sym (flat_map-append frame_bytes frames (records ∷ [])))
@@ -121,47 +121,47 @@ module _ (at next room : ℕ) (units begun past : List ℕ) where
   has-come (Units count) (Whole first frames) r = absurd r.stage_is
   has-come End (Whole first frames) r = r.reads
 
-  pub place-small : (stage : Stage) (came : Came) → ReadsAt stage at next room units begun past came → at ≤ 11 + 12 * LAST
-  place-small Head NoHead r = omega (arith, r.place, ap length r.reads)
-  place-small Count NoHead r = absurd r.stage_is
-  place-small (Units count) NoHead r = absurd r.stage_is
-  place-small End NoHead r = absurd r.stage_is
-  place-small stage (Open first frames) r = small-at past first at frames (part_bytes stage units begun) r.reads r.place
-  place-small stage (Whole first frames) r = small-at past first at frames (part_bytes stage units begun) r.reads r.place
+  pub ReadsAt-place_bound : (stage : Stage) (came : Came) → ReadsAt stage at next room units begun past came → at ≤ 11 + 12 * LAST
+  ReadsAt-place_bound Head NoHead r = omega (arith, r.place, ap length r.reads)
+  ReadsAt-place_bound Count NoHead r = absurd r.stage_is
+  ReadsAt-place_bound (Units count) NoHead r = absurd r.stage_is
+  ReadsAt-place_bound End NoHead r = absurd r.stage_is
+  ReadsAt-place_bound stage (Open first frames) r = small-at past first at frames (part_bytes stage units begun) r.reads r.place
+  ReadsAt-place_bound stage (Whole first frames) r = small-at past first at frames (part_bytes stage units begun) r.reads r.place
 
   -- where nothing more comes, the part under way is bad, unless the end has come
-  pub unfinished : (stage : Stage) (came : Came) → (stage ≡ End → ⊥) → ReadsAt stage at next room units begun past came
+  pub unfinished-bad_behind : (stage : Stage) (came : Came) → (stage ≡ End → ⊥) → ReadsAt stage at next room units begun past came
       → IsBadBehind came past at
-  unfinished Head NoHead going r = (
+  unfinished-bad_behind Head NoHead going r = (
     (λ first rest fits is. omega (arith, ap length r.reads, r.stage_is, ap length is, length-head first rest)),
     omega (arith, r.place, ap length r.reads),
   )
-  unfinished Count NoHead going r = absurd r.stage_is
-  unfinished (Units count) NoHead going r = absurd r.stage_is
-  unfinished End NoHead going r = absurd r.stage_is
-  unfinished stage (Open first frames) going r =
+  unfinished-bad_behind Count NoHead going r = absurd r.stage_is
+  unfinished-bad_behind (Units count) NoHead going r = absurd r.stage_is
+  unfinished-bad_behind End NoHead going r = absurd r.stage_is
+  unfinished-bad_behind stage (Open first frames) going r =
       let begun_is = is-begun stage first next frames units begun r.stage_is in
       (part_bytes stage units begun, r.reads, begun-no_frame _ _ begun_is, begun-no_end _ _ begun_is, r.place)
-  unfinished Head (Whole first frames) going r = absurd r.stage_is
-  unfinished Count (Whole first frames) going r = absurd r.stage_is
-  unfinished (Units count) (Whole first frames) going r = absurd r.stage_is
-  unfinished End (Whole first frames) going r = absurd (going refl)
+  unfinished-bad_behind Head (Whole first frames) going r = absurd r.stage_is
+  unfinished-bad_behind Count (Whole first frames) going r = absurd r.stage_is
+  unfinished-bad_behind (Units count) (Whole first frames) going r = absurd r.stage_is
+  unfinished-bad_behind End (Whole first frames) going r = absurd (going refl)
 
-  pub finished : (came : Came) → ReadsAt End at next room units begun past came → IsWhole came
-  finished NoHead r = absurd r.stage_is
-  finished (Open first frames) r = absurd r.stage_is
-  finished (Whole first frames) r = tt
+  pub stage_end-whole : (came : Came) → ReadsAt End at next room units begun past came → IsWhole came
+  stage_end-whole NoHead r = absurd r.stage_is
+  stage_end-whole (Open first frames) r = absurd r.stage_is
+  stage_end-whole (Whole first frames) r = tt
 
 -- behind the end nothing may follow
-pub nothing-more : (at next room : ℕ) (units begun past piece after : List ℕ) (came : Came)
+pub stage_end-more_bad : (at next room : ℕ) (units begun past piece after : List ℕ) (came : Came)
     → ReadsAt End at next room units begun past came → 0 < length piece
     → IsBadBehind came (past ++ piece ++ after) (at + 4)
-nothing-more at next room units begun past piece after NoHead r some = absurd r.stage_is
-nothing-more at next room units begun past piece after (Open first frames) r some = absurd r.stage_is
-nothing-more at next room units begun past piece after (Whole first frames) r some = (
+stage_end-more_bad at next room units begun past piece after NoHead r some = absurd r.stage_is
+stage_end-more_bad at next room units begun past piece after (Open first frames) r some = absurd r.stage_is
+stage_end-more_bad at next room units begun past piece after (Whole first frames) r some = (
   piece ++ after,
   subst (λ list. HasFrames list first frames (end_bytes ++ (piece ++ after))) (sym (append_assoc past piece after))
-      (frames-more past first frames end_bytes (piece ++ after) r.reads),
+      (frames-append past first frames end_bytes (piece ++ after) r.reads),
   omega (arith, some, length-append piece after),
   omega (arith, r.place, length-append past (piece ++ after), ap length (append_assoc past piece after)),
 )
@@ -183,7 +183,7 @@ module _ (past : List ℕ) (first at : ℕ) (frames : List (List Rec)) (part pie
   counted-read : HasFrames (past ++ piece ++ after) first frames (to_be_bytes w32 count ++ tail)
   counted-read = subst (λ list. HasFrames list first frames (to_be_bytes w32 count ++ tail)) (sym (append_assoc past piece after))
       (frames-same (past ++ (piece ++ after)) first frames (part ++ (piece ++ after)) _ behind
-      (frames-more past first frames part (piece ++ after) reads))
+      (frames-append past first frames part (piece ++ after) reads))
 
   counted-place : at + length (to_be_bytes w32 count ++ tail) ≡ length (past ++ piece ++ after)
   counted-place = omega (
@@ -196,9 +196,9 @@ module _ (past : List ℕ) (first at : ℕ) (frames : List (List Rec)) (part pie
   )
 
   -- it is bad, where it is no frame
-  pub counted-bad : 0 < count → count < 4294967296 → HasNoFrame (frames_end first frames) (to_be_bytes w32 count ++ tail)
+  pub no_frame-bad_behind : 0 < count → count < 4294967296 → HasNoFrame (frames_end first frames) (to_be_bytes w32 count ++ tail)
       → IsBadBehind (Open first frames) (past ++ piece ++ after) at
-  counted-bad some fits none = (
+  no_frame-bad_behind some fits none = (
     to_be_bytes w32 count ++ tail,
     counted-read,
     none,
@@ -260,53 +260,53 @@ module _ (at next room : ℕ) (units begun past more : List ℕ) where
   head-bad (Open one frames) piece rest after r long none split = absurd r.stage_is
   head-bad (Whole one frames) piece rest after r long none split = absurd r.stage_is
 
-  pub head-begun : (came : Came) → ReadsAt Head at next room units begun past came → length begun < 11
-  head-begun NoHead r = r.stage_is
-  head-begun (Open first frames) r = absurd r.stage_is
-  head-begun (Whole first frames) r = absurd r.stage_is
+  pub head-begun_short : (came : Came) → ReadsAt Head at next room units begun past came → length begun < 11
+  head-begun_short NoHead r = r.stage_is
+  head-begun_short (Open first frames) r = absurd r.stage_is
+  head-begun_short (Whole first frames) r = absurd r.stage_is
 
   pub count-more : (came : Came) → ReadsAt Count at next room units begun past came → length (begun ++ more) < 4
       → ReadsAt Count at next room units (begun ++ more) (past ++ more) came
   count-more NoHead r short = absurd r.stage_is
   count-more (Open first frames) r short = record {
     stage_is = (r.stage_is.0, short);
-    reads = frames-more past first frames begun more r.reads;
+    reads = frames-append past first frames begun more r.reads;
     place = omega (arith, r.place, length-append begun more, length-append past more);
     room_is = r.room_is;
   }
   count-more (Whole first frames) r short = absurd r.stage_is
 
   -- the end has come
-  pub count-end : (came : Came) (other : List ℕ) → ReadsAt Count at next room units begun past came → begun ++ more ≡ end_bytes
+  pub count-reads_at_end : (came : Came) (other : List ℕ) → ReadsAt Count at next room units begun past came → begun ++ more ≡ end_bytes
       → (first : ℕ) × (frames : List (List Rec)) × (came ≡ Open first frames)
       × ReadsAt End at next room units other (past ++ more) (Whole first frames)
-  count-end NoHead other r is = absurd r.stage_is
-  count-end (Open first frames) other r is = (
+  count-reads_at_end NoHead other r is = absurd r.stage_is
+  count-reads_at_end (Open first frames) other r is = (
     first,
     frames,
     refl,
     record {
       stage_is = tt;
-      reads = frames-same (past ++ more) first frames (begun ++ more) end_bytes is (frames-more past first frames begun more r.reads);
+      reads = frames-same (past ++ more) first frames (begun ++ more) end_bytes is (frames-append past first frames begun more r.reads);
       place = omega (arith, r.place, ap length is, length-append begun more, length-append past more);
       room_is = r.room_is;
     },
   )
-  count-end (Whole first frames) other r is = absurd r.stage_is
+  count-reads_at_end (Whole first frames) other r is = absurd r.stage_is
 
   -- the count of a frame has come
-  pub count-units : (came : Came) (count : ℕ) → ReadsAt Count at next room units begun past came → begun ++ more ≡ to_be_bytes w32 count
+  pub count-reads_at_units : (came : Came) (count : ℕ) → ReadsAt Count at next room units begun past came → begun ++ more ≡ to_be_bytes w32 count
       → 0 < count
       → count ≤ MOST_FRAME_UNITS → next + count ≤ LAST → ReadsAt (Units count) at next room [] [] (past ++ more) came
-  count-units NoHead count r is some most fits = absurd r.stage_is
-  count-units (Open first frames) count r is some most fits = record {
+  count-reads_at_units NoHead count r is some most fits = absurd r.stage_is
+  count-reads_at_units (Open first frames) count r is some most fits = record {
     stage_is = (r.stage_is.0, record { under = some; most = most; fits = fits; short = omega arith; each = tt });
     reads = frames-same (past ++ more) first frames (begun ++ more) (to_be_bytes w32 count ++ units_bytes [] [])
-        (is ∙ sym (append-nil (to_be_bytes w32 count))) (frames-more past first frames begun more r.reads);
+        (is ∙ sym (append-nil (to_be_bytes w32 count))) (frames-append past first frames begun more r.reads);
     place = omega (arith, r.place, ap length is, length-append begun more, length-append past more);
     room_is = r.room_is;
   }
-  count-units (Whole first frames) count r is some most fits = absurd r.stage_is
+  count-reads_at_units (Whole first frames) count r is some most fits = absurd r.stage_is
 
   -- a count that no frame has here
   pub count-bad : (came : Came) (count : ℕ) (piece rest after : List ℕ) → ReadsAt Count at next room units begun past came
@@ -315,16 +315,16 @@ module _ (at next room : ℕ) (units begun past more : List ℕ) where
       → IsBadBehind came (past ++ piece ++ after) at
   count-bad NoHead count piece rest after r is some fits none split = absurd r.stage_is
   count-bad (Open first frames) count piece rest after r is some fits none split =
-      counted-bad past first at frames begun piece after (rest ++ after) count r.reads r.place
+      no_frame-bad_behind past first at frames begun piece after (rest ++ after) count r.reads r.place
       (ap (λ list. begun ++ (list ++ after)) split ∙ ap (λ list. begun ++ list) (append_assoc more rest after)
       ∙ sym (append_assoc begun more (rest ++ after)) ∙ ap (λ list. list ++ (rest ++ after)) is) some fits
       (count-none (frames_end first frames) count (rest ++ after) fits (λ most room. none most (omega (arith, room, r.stage_is.0))))
   count-bad (Whole first frames) count piece rest after r is some fits none split = absurd r.stage_is
 
-  pub units-fit : (came : Came) (count : ℕ) → ReadsAt (Units count) at next room units begun past came → AreUnits units
-  units-fit NoHead count r = absurd r.stage_is
-  units-fit (Open first frames) count r = r.stage_is.1.each
-  units-fit (Whole first frames) count r = absurd r.stage_is
+  pub units_stage-AreUnits : (came : Came) (count : ℕ) → ReadsAt (Units count) at next room units begun past came → AreUnits units
+  units_stage-AreUnits NoHead count r = absurd r.stage_is
+  units_stage-AreUnits (Open first frames) count r = r.stage_is.1.each
+  units_stage-AreUnits (Whole first frames) count r = absurd r.stage_is
 
   -- a count, and more of the units behind it
   units-read : (first : ℕ) (frames : List (List Rec)) (count : ℕ) (new left : List ℕ)
@@ -334,7 +334,7 @@ module _ (at next room : ℕ) (units begun past more : List ℕ) where
   units-read first frames count new left is reads =
       frames-same (past ++ more) first frames _ (to_be_bytes w32 count ++ units_bytes new left)
       (ap (λ list. to_be_bytes w32 count ++ list) (sym is))
-      (frames-more past first frames (to_be_bytes w32 count ++ units_bytes units begun) more reads)
+      (frames-append past first frames (to_be_bytes w32 count ++ units_bytes units begun) more reads)
 
   -- units have come, and not yet all
   pub units-more : (came : Came) (count : ℕ) (new left : List ℕ) → ReadsAt (Units count) at next room units begun past came
@@ -356,9 +356,9 @@ module _ (at next room : ℕ) (units begun past more : List ℕ) where
     spelled = ap (λ list. to_be_bytes w32 count ++ list) (sym is ∙ append-nil (flat_map unit_bytes new))
 
     -- some bytes were taken
-    pub units-some : (came : Came) → ReadsAt (Units count) at next room units begun past came → 0 < length more
-    units-some NoHead r = absurd r.stage_is
-    units-some (Open first frames) r =
+    pub units-some_bytes_taken : (came : Came) → ReadsAt (Units count) at next room units begun past came → 0 < length more
+    units-some_bytes_taken NoHead r = absurd r.stage_is
+    units-some_bytes_taken (Open first frames) r =
         omega (
           arith,
           ap length is,
@@ -369,14 +369,14 @@ module _ (at next room : ℕ) (units begun past more : List ℕ) where
           r.stage_is.1.under,
           r.stage_is.1.short,
         )
-    units-some (Whole first frames) r = absurd r.stage_is
+    units-some_bytes_taken (Whole first frames) r = absurd r.stage_is
 
     -- the frame is whole
-    pub units-frame : (came : Came) (records : List Rec) → ReadsAt (Units count) at next room units begun past came → AreUnitsOf new records
+    pub units-reads_at_count : (came : Came) (records : List Rec) → ReadsAt (Units count) at next room units begun past came → AreUnitsOf new records
         → (first : ℕ) × (frames : List (List Rec)) × (came ≡ Open first frames) × IsFrame records
         × ReadsAt Count (at + 4 + 8 * count) (next + count) room new [] (past ++ more) (Open first (frames ++ records ∷ []))
-    units-frame NoHead records r are = absurd r.stage_is
-    units-frame (Open first frames) records r are =
+    units-reads_at_count NoHead records r are = absurd r.stage_is
+    units-reads_at_count (Open first frames) records r are =
         let count_is : count ≡ end_of records = sym all ∙ ap length are.units_are in
         let frame : IsFrame records =
         record {
@@ -387,14 +387,14 @@ module _ (at next room : ℕ) (units begun past more : List ℕ) where
         } in
         let bytes : counted_bytes count new ≡ frame_bytes records = (λ i. counted_bytes (count_is i) (are.units_are i)) in
         let reads = frames-same (past ++ more) first frames _ (frame_bytes records) (spelled ∙ bytes)
-        (frames-more past first frames (to_be_bytes w32 count ++ units_bytes units begun) more r.reads) in (
+        (frames-append past first frames (to_be_bytes w32 count ++ units_bytes units begun) more r.reads) in (
           first,
           frames,
           refl,
           frame,
           record {
-            stage_is = (omega (arith, r.stage_is.0, count_is, ends-more first frames records), omega arith);
-            reads = frames-next (past ++ more) first frames records reads frame (omega (arith, r.stage_is.0, r.stage_is.1.fits, count_is));
+            stage_is = (omega (arith, r.stage_is.0, count_is, frames_end-push first frames records), omega arith);
+            reads = frames-push (past ++ more) first frames records reads frame (omega (arith, r.stage_is.0, r.stage_is.1.fits, count_is));
             place = omega (
               arith,
               r.place,
@@ -407,7 +407,7 @@ module _ (at next room : ℕ) (units begun past more : List ℕ) where
             room_is = r.room_is;
           },
         )
-    units-frame (Whole first frames) records r are = absurd r.stage_is
+    units-reads_at_count (Whole first frames) records r are = absurd r.stage_is
 
     -- a count and units that are no whole spellings
     units-none : (lsn : ℕ) (tail : List ℕ) → count ≤ MOST_FRAME_UNITS → ((records : List Rec) → AreUnitsOf new records → ⊥)
@@ -419,7 +419,7 @@ module _ (at next room : ℕ) (units begun past more : List ℕ) where
         none records record {
           spellable = frame.spellable;
           units_are = same_units new (units_of records) tail other (All-from_recursion IsUnit new fit)
-              (spellings-fit records frame.spellable) (omega (arith, all, number.0)) number.1;
+              (units_of-below_64_bits records frame.spellable) (omega (arith, all, number.0)) number.1;
         }
 
     pub units-bad : (came : Came) (piece rest after : List ℕ) → ReadsAt (Units count) at next room units begun past came
@@ -434,7 +434,7 @@ module _ (at next room : ℕ) (units begun past more : List ℕ) where
         ∙ ap (λ list. count_bytes ++ (body ++ list)) (append_assoc more rest after)
         ∙ ap (λ list. count_bytes ++ list) (sym (append_assoc body more (rest ++ after))
         ∙ ap (λ list. list ++ (rest ++ after)) (sym is ∙ append-nil (flat_map unit_bytes new))) in
-        counted-bad past first at frames (count_bytes ++ body) piece after (flat_map unit_bytes new ++ (rest ++ after)) count r.reads r.place
+        no_frame-bad_behind past first at frames (count_bytes ++ body) piece after (flat_map unit_bytes new ++ (rest ++ after)) count r.reads r.place
         behind (omega (arith, r.stage_is.1.under)) (omega (arith, r.stage_is.1.most))
         (units-none (frames_end first frames) (rest ++ after) r.stage_is.1.most none fit)
     units-bad (Whole first frames) piece rest after r none fit split = absurd r.stage_is

@@ -8,28 +8,28 @@ use Rattle.log_record.specs.declared.rec.Rec.{Rec}
 use Rattle.log_record.specs.LogList.{units_of, end_of, size_of, AreUnitsOf}
 use Rattle.log_record.specs.Spelling.{header, spelling, IsSpellable, BeginsWith}
 use Rattle.log_record.proofs.BoundLemmas.{length-spelling}
-use Rattle.log_record.proofs.Fronts.{parts_of-front}
+use Rattle.log_record.proofs.Fronts.{front_header-kind_and_length}
 use Rattle.log_record.proofs.SpellingLemmas.{spelling-append-injective}
-use Rattle.ship_stream.proofs.FrameLemmas.{units_of-append, some_units}
+use Rattle.ship_stream.proofs.FrameLemmas.{units_of-append, length_spelling-positive}
 
 -- what begins a front begins the whole
-pub begins-front : (units : List ℕ) (n : ℕ) (rec : Rec) → BeginsWith (take n units) rec → BeginsWith units rec
-begins-front units n rec begins = (
+pub front_begins-whole_begins : (units : List ℕ) (n : ℕ) (rec : Rec) → BeginsWith (take n units) rec → BeginsWith units rec
+front_begins-whole_begins units n rec begins = (
   begins.0,
   begins.1 ++ drop n units,
   sym (take-append-drop n units) ∙ ap (λ list. list ++ drop n units) begins.2 ∙ append_assoc (spelling rec) begins.1 (drop n units),
 )
 
 -- the first unit says how many units the record has
-pub size-says : (units rest : List ℕ) (first kind count field txn : ℕ) (rec : Rec) → units ≡ first ∷ rest
+pub size_of-header : (units rest : List ℕ) (first kind count field txn : ℕ) (rec : Rec) → units ≡ first ∷ rest
     → first ≡ header kind count field txn
     → count < 256 → field < 2 ^ 16 → txn < 2 ^ 32 → BeginsWith units rec → size_of rec ≡ count
-size-says units rest first kind count field txn rec is parts count_fits field_fits txn_fits begins =
-    (parts_of-front rec kind count field txn first rest begins.1 begins.0 count_fits field_fits txn_fits parts (sym is ∙ begins.2)).1
+size_of-header units rest first kind count field txn rec is parts count_fits field_fits txn_fits begins =
+    (front_header-kind_and_length rec kind count field txn first rest begins.1 begins.0 count_fits field_fits txn_fits parts (sym is ∙ begins.2)).1
 
 -- a front of as many units as the record has begins with it
-pub front-begins : (units : List ℕ) (n : ℕ) (rec : Rec) → BeginsWith units rec → n ≡ size_of rec → BeginsWith (take n units) rec
-front-begins units n rec begins count = (
+pub whole_begins-front_begins : (units : List ℕ) (n : ℕ) (rec : Rec) → BeginsWith units rec → n ≡ size_of rec → BeginsWith (take n units) rec
+whole_begins-front_begins units n rec begins count = (
   begins.0,
   [],
   ap (λ k. take k units) count ∙ ap (take (size_of rec)) begins.2 ∙ take-append_seam (spelling rec) begins.1
@@ -39,7 +39,7 @@ front-begins units n rec begins count = (
 pub size-bounds : (units : List ℕ) (rec : Rec) → BeginsWith units rec
     → (0 < size_of rec) × (size_of rec ≤ 26) × (size_of rec ≤ length units)
 size-bounds units rec begins = (
-  some_units rec,
+  length_spelling-positive rec,
   length-spelling rec begins.0,
   omega (arith, ap length begins.2, length-append (spelling rec) begins.1),
 )
@@ -97,7 +97,7 @@ next-begins (first ∷ front) [] rest fits each is some =
     absurd (omega (
       arith,
       ap length is,
-      some_units first,
+      length_spelling-positive first,
       length-append (units_of (first ∷ front)) rest,
       length-append (spelling first) (units_of front),
     ))
@@ -107,26 +107,26 @@ next-begins (first ∷ front) (rec ∷ records) rest fits each is some =
     next-begins front records rest fits.1 each.1 same.1 some
 
 -- no records have these units
-pub passed-bad : (units : List ℕ) (at : ℕ) → IsPassed units at → at < length units → ((rec : Rec) → BeginsWith (drop at units) rec → ⊥)
+pub passed_bad-no_records : (units : List ℕ) (at : ℕ) → IsPassed units at → at < length units → ((rec : Rec) → BeginsWith (drop at units) rec → ⊥)
     → (records : List Rec) → AreUnitsOf units records → ⊥
-passed-bad units at passed some none records are =
+passed_bad-no_records units at passed some none records are =
     let next = next-begins passed.front records (drop at units) passed.each are.spellable (sym are.units_are
     ∙ passed.whole) (omega (arith, some, length-drop at units)) in
     none next.0 next.1
 
 -- ---- a record of the batch
 
-pub units-at-more : (units taken new : List ℕ) (at index unit : ℕ) → taken ≡ take index (drop at units) → new ≡ taken ++ unit ∷ []
+pub taken_units-push : (units taken new : List ℕ) (at index unit : ℕ) → taken ≡ take index (drop at units) → new ≡ taken ++ unit ∷ []
     → unit ≡ get_or units (at + index) 0
     → at + index < length units → new ≡ take (index + 1) (drop at units)
-units-at-more units taken new at index unit before pushed is inside =
+taken_units-push units taken new at index unit before pushed is inside =
     pushed ∙ (λ i. before i ++ (is ∙ sym (get_or-drop at units index 0)) i ∷ [])
     ∙ sym (take_more (drop at units) index 0 (omega (arith, inside, length-drop at units)))
 
 -- what begins at this index, by its first unit
-pub size-at : (units : List ℕ) (at kind count field txn : ℕ) (rec : Rec) → at < length units
+pub size_of-header_at : (units : List ℕ) (at kind count field txn : ℕ) (rec : Rec) → at < length units
     → get_or units at 0 ≡ header kind count field txn
     → count < 256 → field < 2 ^ 16 → txn < 2 ^ 32 → BeginsWith (drop at units) rec → size_of rec ≡ count
-size-at units at kind count field txn rec inside parts count_fits field_fits txn_fits begins =
-    size-says (drop at units) (drop (suc at) units) (get_or units at 0) kind count field txn rec (drop-cons units at 0 inside) parts
+size_of-header_at units at kind count field txn rec inside parts count_fits field_fits txn_fits begins =
+    size_of-header (drop at units) (drop (suc at) units) (get_or units at 0) kind count field txn rec (drop-cons units at 0 inside) parts
     count_fits field_fits txn_fits begins

@@ -17,8 +17,8 @@ slash-within : (path front name : List ℕ) → path ≡ front ++ SLASH ∷ name
 slash-within path front name is = omega (arith, ap length is, length-append front (SLASH ∷ name))
 
 -- where no slash is found, there is none
-pub found-none : (path front name : List ℕ) → RFindsChar SLASH path None → path ≡ front ++ SLASH ∷ name → ⊥
-found-none path front name found is =
+pub finds_none-no_slash : (path front name : List ℕ) → RFindsChar SLASH path None → path ≡ front ++ SLASH ∷ name → ⊥
+finds_none-no_slash path front name found is =
     NoCharPasses-char SLASH path (length front) found (omega arith) (omega (arith, slash-within path front name is)) (slash-at path front name is)
 
 module _ (path : List ℕ) (i j : ℕ) (found : RFindsChar SLASH path (Some (i, j))) (within : i < length path) where
@@ -26,8 +26,8 @@ module _ (path : List ℕ) (i j : ℕ) (found : RFindsChar SLASH path (Some (i, 
   here = found.1.byte (omega arith)
 
   -- where one is found, there is one
-  pub found-some : Contains path SLASH
-  found-some = subst (Contains path) here (Contains-get_or path i 0 within)
+  pub found-contains_slash : Contains path SLASH
+  found-contains_slash = subst (Contains path) here (Contains-get_or path i 0 within)
 
   -- no slash is behind it, so the one before a name isn't
   not-behind : (front name : List ℕ) → path ≡ front ++ SLASH ∷ name → i < length front → ⊥
@@ -48,16 +48,16 @@ module _ (path : List ℕ) (i j : ℕ) (found : RFindsChar SLASH path (Some (i, 
       lacks (subst (Contains name) read (Contains-get_or name k 0 (omega (arith, slash-within path front name is))))
 
   -- and it is the last
-  pub found-last : (front name : List ℕ) → path ≡ front ++ SLASH ∷ name → (Contains name SLASH → ⊥) → take i path ≡ front
-  found-last front name is lacks =
+  pub take_found-front : (front name : List ℕ) → path ≡ front ++ SLASH ∷ name → (Contains name SLASH → ⊥) → take i path ≡ front
+  take_found-front front name is lacks =
       let same : i ≡ length front = omega (arith, not-behind front name is, not-in-name front name is lacks) in
       ap (λ n. take n path) same ∙ ap (take (length front)) is ∙ take-append_seam front (SLASH ∷ name)
 
 -- a folder that isn't empty, and the root
-pub folder-some : (front folder : List ℕ) → folder ≡ front → 0 < length folder → folder ≡ folder_before front
-folder-some [] folder is some = absurd (omega (arith, some, ap length is))
-folder-some (byte ∷ front) folder is some = is
+pub folder_before-some : (front folder : List ℕ) → folder ≡ front → 0 < length folder → folder ≡ folder_before front
+folder_before-some [] folder is some = absurd (omega (arith, some, ap length is))
+folder_before-some (byte ∷ front) folder is some = is
 
-pub folder-root : (front : List ℕ) → length front ≡ 0 → codes "/" ≡ folder_before front
-folder-root [] is = refl
-folder-root (byte ∷ front) is = absurd (omega arith)
+pub folder_before-root : (front : List ℕ) → length front ≡ 0 → codes "/" ≡ folder_before front
+folder_before-root [] is = refl
+folder_before-root (byte ∷ front) is = absurd (omega arith)

@@ -12,7 +12,7 @@ use Rattle.log_rule.specs.AccountViews.{took_job}
 use Rattle.log_rule.specs.Books.{taking_job, next_of, IsNext, MayEnter}
 use Rattle.log_table.specs.Seats.{Becomes, view_of}
 use Rattle.log_rule.specs.Views.{empty_entry}
-use Rattle.log_rule.proofs.RecordsToPlace.{next-is, may-enter, note-next}
+use Rattle.log_rule.proofs.RecordsToPlace.{is_next-next_of, may-enter, note-next}
 use Rattle.ring_buffer.specs.Calls.{MayPlace, HasPlaced, HasReserved}
 use Rattle.ring_buffer.specs.declared.call.Range.{Range}
 use Rattle.test_rig.specs.NotedJobs.{AreNoteUnits, MayInsert}
@@ -31,7 +31,7 @@ module _ (table : LogTable) (number : ℕ) (job : Job) (units : List ℕ) (seat 
     next = note-next books noted.0 refl noted.1 noted.2
 
     pub units-noted : units ≡ spelling (next_of (view_of after).books)
-    units-noted = noted.3 ∙ (ap spelling (sym (next-is (Note number noted.0) books next)) ∙ ap (λ (b : Books). spelling (next_of b)) (sym is))
+    units-noted = noted.3 ∙ (ap spelling (sym (is_next-next_of (Note number noted.0) books next)) ∙ ap (λ (b : Books). spelling (next_of b)) (sym is))
 
     pub MayPlace-noted : MayPlace (length units) (view_of after).books
     MayPlace-noted = record {

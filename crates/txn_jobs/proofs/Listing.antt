@@ -54,9 +54,9 @@ not-falling xs rising j k le within = dite (ℕ_discrete j k) (λ same. subst (�
     (λ apart. let less = rising-below xs rising j k (omega arith) within in omega arith)
 
 -- the place that a binary search answers is such a one
-pub rising-searched : (xs ys : List ℕ) (i x : ℕ) → IsStrictlyIncreasing xs → ys ≡ xs
+pub rising-insert_searched : (xs ys : List ℕ) (i x : ℕ) → IsStrictlyIncreasing xs → ys ≡ xs
     → IsBinarySearchResult (λ y. nat_cmp y x) ys (Err i) → IsStrictlyIncreasing (insert xs i x)
-rising-searched xs ys i x rising is search =
+rising-insert_searched xs ys i x rising is search =
     let found = searched xs x (Err i) (subst (λ list. IsBinarySearchResult (λ y. nat_cmp y x) list (Err i)) is search)
     (not-falling xs rising) in
     rising-insert xs i x rising found.0 found.1 found.2
@@ -117,28 +117,28 @@ module _ (legs : List (ℕ × ℕ × ℕ)) (i : ℕ) (within : i < length legs) 
       ])
 
   -- with the first i legs' accounts, and no others, so it is with this leg's
-  pub lists-more : All (HasAccountsOf before) (take i legs) → All (IsAccountOf legs) before
+  pub listed_accounts-next_leg : All (HasAccountsOf before) (take i legs) → All (IsAccountOf legs) before
       → All (HasAccountsOf after) (take (i + 1) legs) × All (IsAccountOf legs) after
-  lists-more all only = (all-more all, only-more only)
+  listed_accounts-next_leg all only = (all-more all, only-more only)
 
 -- the list of a leg's two accounts, the lower and the higher, or of the one that they are
 module _ (payer payee : ℕ) where
-  pub one-rising : IsStrictlyIncreasing (payer ∷ [])
-  one-rising k within = absurd (omega arith)
+  pub one_account-rising : IsStrictlyIncreasing (payer ∷ [])
+  one_account-rising k within = absurd (omega arith)
 
-  pub two-rising : payer ≢ payee → IsStrictlyIncreasing (min payer payee ∷ max payer payee ∷ [])
-  two-rising apart zero within = omega arith
-  two-rising apart (suc k) within = absurd (omega arith)
+  pub two_accounts-rising : payer ≢ payee → IsStrictlyIncreasing (min payer payee ∷ max payer payee ∷ [])
+  two_accounts-rising apart zero within = omega arith
+  two_accounts-rising apart (suc k) within = absurd (omega arith)
 
   module _ (amount : ℕ) where
     abbrev leg : ℕ × ℕ × ℕ
     leg = (payer, payee, amount)
 
-    pub one-has : payer ≡ payee → HasAccountsOf (payer ∷ []) leg
-    one-has same = ((0, omega arith, refl), (0, omega arith, same))
+    pub one_account-has_accounts_of : payer ≡ payee → HasAccountsOf (payer ∷ []) leg
+    one_account-has_accounts_of same = ((0, omega arith, refl), (0, omega arith, same))
 
-    pub two-has : HasAccountsOf (min payer payee ∷ max payer payee ∷ []) leg
-    two-has = elim (cases_lt payer payee) [
+    pub two_accounts-has_accounts_of : HasAccountsOf (min payer payee ∷ max payer payee ∷ []) leg
+    two_accounts-has_accounts_of = elim (cases_lt payer payee) [
       | inl less ↦ ((0, omega arith, omega arith), (1, omega arith, omega arith))
       | inr more ↦ ((1, omega arith, omega arith), (0, omega arith, omega arith))
     ]
@@ -146,11 +146,11 @@ module _ (payer payee : ℕ) where
     own : (account : ℕ) → (payer ≡ account) ⊎ (payee ≡ account) → IsAccountOf (leg ∷ []) account
     own account side = (0, leg, omega arith, refl, side)
 
-    pub one-only : All (IsAccountOf (leg ∷ [])) (payer ∷ [])
-    one-only = All-cons (IsAccountOf (leg ∷ [])) payer [] (own payer (inl refl)) (All-nil (IsAccountOf (leg ∷ [])))
+    pub one_account-is_account_of : All (IsAccountOf (leg ∷ [])) (payer ∷ [])
+    one_account-is_account_of = All-cons (IsAccountOf (leg ∷ [])) payer [] (own payer (inl refl)) (All-nil (IsAccountOf (leg ∷ [])))
 
-    pub two-only : All (IsAccountOf (leg ∷ [])) (min payer payee ∷ max payer payee ∷ [])
-    two-only = All-cons (IsAccountOf (leg ∷ [])) (min payer payee) (max payer payee ∷ [])
+    pub two_accounts-is_account_of : All (IsAccountOf (leg ∷ [])) (min payer payee ∷ max payer payee ∷ [])
+    two_accounts-is_account_of = All-cons (IsAccountOf (leg ∷ [])) (min payer payee) (max payer payee ∷ [])
         (own (min payer payee) (elim (cases_lt payer payee) [ inl less ↦ inl (omega arith) | inr more ↦ inr (omega arith) ]))
         (All-cons (IsAccountOf (leg ∷ [])) (max payer payee) []
         (own (max payer payee) (elim (cases_lt payer payee) [ inl less ↦ inr (omega arith) | inr more ↦ inl (omega arith) ]))
@@ -158,15 +158,15 @@ module _ (payer payee : ℕ) where
 
 -- where there is one leg, its accounts are all
 module _ (xs : List ℕ) where
-  pub all-of-one : (legs : List (ℕ × ℕ × ℕ)) → length legs ≡ 1
+  pub one_leg-has_accounts_of : (legs : List (ℕ × ℕ × ℕ)) → length legs ≡ 1
       → ((amount : ℕ) → HasAccountsOf xs ((get_or legs 0 (0, 0, 0)).0, (get_or legs 0 (0, 0, 0)).1, amount)) → All (HasAccountsOf xs) legs
-  all-of-one [] len has = absurd (omega arith)
-  all-of-one (leg ∷ []) len has = All-cons (HasAccountsOf xs) leg [] (has 0) (All-nil (HasAccountsOf xs))
-  all-of-one (leg ∷ more ∷ legs) len has = absurd (omega arith)
+  one_leg-has_accounts_of [] len has = absurd (omega arith)
+  one_leg-has_accounts_of (leg ∷ []) len has = All-cons (HasAccountsOf xs) leg [] (has 0) (All-nil (HasAccountsOf xs))
+  one_leg-has_accounts_of (leg ∷ more ∷ legs) len has = absurd (omega arith)
 
-  pub only-of-one : (legs : List (ℕ × ℕ × ℕ)) → length legs ≡ 1
+  pub one_leg-is_account_of : (legs : List (ℕ × ℕ × ℕ)) → length legs ≡ 1
       → ((amount : ℕ) → All (IsAccountOf (((get_or legs 0 (0, 0, 0)).0, (get_or legs 0 (0, 0, 0)).1, amount) ∷ [])) xs)
       → All (IsAccountOf legs) xs
-  only-of-one [] len only = absurd (omega arith)
-  only-of-one (leg ∷ []) len only = only leg.2
-  only-of-one (leg ∷ more ∷ legs) len only = absurd (omega arith)
+  one_leg-is_account_of [] len only = absurd (omega arith)
+  one_leg-is_account_of (leg ∷ []) len only = only leg.2
+  one_leg-is_account_of (leg ∷ more ∷ legs) len only = absurd (omega arith)

@@ -1,7 +1,7 @@
 -- Lists of numbers that rise.
 use Rattle.std.proofs.Common.{ℕ, ◌+◌, ◌<◌, ◌≤◌, List, [], ◌∷◌, ◌++◌, length, arith}
 use Rattle.std.specs.List.{AllByRecursion}
-use Rattle.lsn_space.proofs.TilingLemmas.{all-weaker}
+use Rattle.lsn_space.proofs.TilingLemmas.{all-weaken}
 use Rattle.lock_core.proofs.ListLemmas.{all-append}
 use Rattle.txn_jobs.specs.Places.{Rises}
 
@@ -16,12 +16,12 @@ rises-from : (low high : ℕ) (xs : List ℕ) → low ≤ high → Rises xs → 
 rises-from low high [] order rises above below = omega (arith, order)
 rises-from low high (x ∷ xs) order rises above below =
     let rest : x + 1 + length xs ≤ high = rises-from (x + 1) high xs (omega (arith, below.0)) rises.1
-    (all-weaker (λ y. x < y) (λ y. x + 1 ≤ y) xs (λ y less. omega (arith, less)) rises.0) below.1 in
+    (all-weaken (λ y. x < y) (λ y. x + 1 ≤ y) xs (λ y less. omega (arith, less)) rises.0) below.1 in
     omega (arith, rest, above.0)
 
 -- so those below a number are no more than it says
-pub Rises-few : (xs : List ℕ) (high : ℕ) → Rises xs → AllByRecursion (λ x. x < high) xs → length xs ≤ high
-Rises-few xs high rises below = omega (arith, rises-from 0 high xs (omega arith) rises (at_least xs) below)
+pub Rises-length_le : (xs : List ℕ) (high : ℕ) → Rises xs → AllByRecursion (λ x. x < high) xs → length xs ≤ high
+Rises-length_le xs high rises below = omega (arith, rises-from 0 high xs (omega arith) rises (at_least xs) below)
   where
     at_least : (xs : List ℕ) → AllByRecursion (λ x. 0 ≤ x) xs
     at_least [] = tt

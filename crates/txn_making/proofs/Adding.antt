@@ -17,17 +17,17 @@ use Rattle.txn_making.specs.Inserts.{placed_behind, placing_all, Adds, IsLeft, S
 use Rattle.txn_making.specs.Inserts.{LieInOrder}
 use Rattle.ring_buffer.proofs.TwoCalls.{HasEntries-trans}
 
-pub lie-longer : (from to further : ℕ) (entries : List Entry) → to ≤ further → LieInOrder from to entries → LieInOrder from further entries
-lie-longer from to further [] more lie = omega arith
-lie-longer from to further (entry ∷ entries) more lie = (lie.0, lie-longer (entry.start + entry.size) to further entries more lie.1)
+pub LieInOrder-weaken_to : (from to further : ℕ) (entries : List Entry) → to ≤ further → LieInOrder from to entries → LieInOrder from further entries
+LieInOrder-weaken_to from to further [] more lie = omega arith
+LieInOrder-weaken_to from to further (entry ∷ entries) more lie = (lie.0, LieInOrder-weaken_to (entry.start + entry.size) to further entries more lie.1)
 
-pub lie-sooner : (sooner from to : ℕ) (entries : List Entry) → sooner ≤ from → LieInOrder from to entries → LieInOrder sooner to entries
-lie-sooner sooner from to [] less lie = omega arith
-lie-sooner sooner from to (entry ∷ entries) less lie = (omega (arith, lie.0), lie.1)
+pub LieInOrder-weaken_from : (sooner from to : ℕ) (entries : List Entry) → sooner ≤ from → LieInOrder from to entries → LieInOrder sooner to entries
+LieInOrder-weaken_from sooner from to [] less lie = omega arith
+LieInOrder-weaken_from sooner from to (entry ∷ entries) less lie = (omega (arith, lie.0), lie.1)
 
 lie-append : (from mid to : ℕ) (entries more : List Entry) → LieInOrder from mid entries → LieInOrder mid to more
     → LieInOrder from to (entries ++ more)
-lie-append from mid to [] more before after = lie-sooner from mid to more before after
+lie-append from mid to [] more before after = LieInOrder-weaken_from from mid to more before after
 lie-append from mid to (entry ∷ entries) more before after =
     (before.0, lie-append (entry.start + entry.size) mid to entries more before.1 after)
 
@@ -59,25 +59,25 @@ adds-trans entries more first second third before after = record {
         ∙ (λ i. record (view_of first).books { placed = sym (placed_behind-append entries more (view_of first).books.placed) i })
 
 -- what is placed is no more left
-pub placed-front : (entries : List Entry) (placed : List Placed) (rest : List Rec)
+pub in_order-placed_behind : (entries : List Entry) (placed : List Placed) (rest : List Rec)
     → in_order (recs_of (placed_behind entries placed)) rest ≡ in_order (recs_of placed) (records_of entries ++ rest)
-placed-front [] placed rest = refl
-placed-front (entry ∷ entries) placed rest = placed-front entries (record { end = entry.start + entry.size; rec = entry.rec } ∷ placed) rest
+in_order-placed_behind [] placed rest = refl
+in_order-placed_behind (entry ∷ entries) placed rest = in_order-placed_behind entries (record { end = entry.start + entry.size; rec = entry.rec } ∷ placed) rest
 
-pub left-behind : (entries : List Entry) (rest : List Rec) (books books' : Books) → books' ≡ placing_all entries books
+pub IsLeft-placing_all : (entries : List Entry) (rest : List Rec) (books books' : Books) → books' ≡ placing_all entries books
     → IsLeft (records_of entries ++ rest) books → IsLeft rest books'
-left-behind entries rest books books' is left = subst (IsLeft rest) (sym is) (placed-front entries books.placed rest ∙ left)
+IsLeft-placing_all entries rest books books' is left = subst (IsLeft rest) (sym is) (in_order-placed_behind entries books.placed rest ∙ left)
 
 -- the records that are placed then, newest first
-pub records-behind : (entries : List Entry) (placed : List Placed) → recs_of (placed_behind entries placed)
+pub recs_of-placed_behind : (entries : List Entry) (placed : List Placed) → recs_of (placed_behind entries placed)
     ≡ in_order (records_of entries) (recs_of placed)
-records-behind [] placed = refl
-records-behind (entry ∷ entries) placed = records-behind entries (record { end = entry.start + entry.size; rec = entry.rec } ∷ placed)
+recs_of-placed_behind [] placed = refl
+recs_of-placed_behind (entry ∷ entries) placed = recs_of-placed_behind entries (record { end = entry.start + entry.size; rec = entry.rec } ∷ placed)
 
-pub uncommitted-behind : (entries : List Entry) (books books' : Books) → books' ≡ placing_all entries books
+pub uncommitted-placing_all : (entries : List Entry) (books books' : Books) → books' ≡ placing_all entries books
     → has_commit (records_of entries) ≡ false
     → has_commit (recs_of books.placed) ≡ false → has_commit (recs_of books'.placed) ≡ false
-uncommitted-behind entries books books' is none before = ap (λ (b : Books). has_commit (recs_of b.placed)) is
+uncommitted-placing_all entries books books' is none before = ap (λ (b : Books). has_commit (recs_of b.placed)) is
     ∙ still entries books.placed none before
   where
     still : (entries : List Entry) (placed : List Placed) → has_commit (records_of entries) ≡ false → has_commit (recs_of placed) ≡ false
@@ -87,10 +87,10 @@ uncommitted-behind entries books books' is none before = ap (λ (b : Books). has
         still entries (record { end = entry.start + entry.size; rec = entry.rec } ∷ placed) parts.1 (λ i. parts.0 i || before i)
 
 -- the next record was not inserted
-pub cut-off : (rec : Rec) (rest : List Rec) (cause : Cause) (old new : Seat) → IsLeft (rec ∷ rest) (view_of old).books
+pub StopsFor-is_cut_off : (rec : Rec) (rest : List Rec) (cause : Cause) (old new : Seat) → IsLeft (rec ∷ rest) (view_of old).books
     → has_commit (recs_of (view_of old).books.placed) ≡ false
     → (view_of new).books ≡ (view_of old).books → StopsFor cause (rec ∷ []) (view_of new) → IsCutOff (view_of new) cause
-cut-off rec rest cause old new left uncommitted same stops = record {
+StopsFor-is_cut_off rec rest cause old new left uncommitted same stops = record {
   rest = rec ∷ rest;
   left = subst (IsLeft (rec ∷ rest)) (sym same) left;
   some = λ none. absurd (omega (arith, ap length none));

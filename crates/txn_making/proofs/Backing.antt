@@ -44,6 +44,6 @@ back-unchanged books none holding = record {
     both = (λ i. cond (none i) (moved loss holding.taken.account changes) 0)
         ∙ (λ i. cond (sym none i) (moved gain holding.taken.account changes) 0)
 
-pub all-unchanged : (books : Books) → has_commit (recs_of books.placed) ≡ false → (holdings : List TakenAccount)
+pub GoesBack-unchanged : (books : Books) → has_commit (recs_of books.placed) ≡ false → (holdings : List TakenAccount)
     → All (GoesBack Unchanged books) holdings
-all-unchanged books none holdings k d within = back-unchanged books none (get_or holdings k d)
+GoesBack-unchanged books none holdings k d within = back-unchanged books none (get_or holdings k d)

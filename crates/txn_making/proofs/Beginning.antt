@@ -24,8 +24,8 @@ use Rattle.txn_parts.specs.declared.taken_account.TakenAccount.{TakenAccount}
 use Rattle.txn_making.specs.Holdings.{IsUnchanged}
 use Rattle.txn_making.specs.Inserts.{PutsRecord, placing_all, IsLeft, StopsFor, IsCutOff}
 use Rattle.txn_making.specs.Legs.{changes_by, HoldsJob, AddsRecords, StandsBefore, TouchesLeg}
-use Rattle.txn_making.proofs.Adding.{adds-none, left-behind, records-behind, cut-off}
-use Rattle.txn_making.proofs.Putting.{spells-next, puts-it, stops-it}
+use Rattle.txn_making.proofs.Adding.{adds-none, IsLeft-placing_all, recs_of-placed_behind, StopsFor-is_cut_off}
+use Rattle.txn_making.proofs.Putting.{IsNext-spelling, IsNext-puts_record, IsNext-stops_for}
 
 module _ (number : ℕ) (job : Job) (text : List ℕ) (old : Seat)
     (last : (view_of old).books.last ≡ record { number = number; job = job })
@@ -34,37 +34,37 @@ module _ (number : ℕ) (job : Job) (text : List ℕ) (old : Seat)
   next = subst (λ r. IsNext r (view_of old).books) (ap (λ (taken : TakenJob). Note taken.number text) last)
       (note-next (view_of old).books text none (ap (λ (taken : TakenJob). taken.job.note) last ∙ noted) some)
 
-  pub enters-note : 1 ≤ number → MayEnter (next_of (view_of old).books) (view_of old).books
-  enters-note least = may-enter (Note number text) (view_of old).books (subst (λ (taken : TakenJob). 1 ≤ taken.number) (sym last) least)
+  pub MayEnter-note : 1 ≤ number → MayEnter (next_of (view_of old).books) (view_of old).books
+  MayEnter-note least = may-enter (Note number text) (view_of old).books (subst (λ (taken : TakenJob). 1 ≤ taken.number) (sym last) least)
       next (inl tt)
 
-  pub spells-note : (units : List ℕ) → units ≡ spelling (Note number text) → units ≡ spelling (next_of (view_of old).books)
-  spells-note = spells-next (Note number text) old next
+  pub note-spells_next : (units : List ℕ) → units ≡ spelling (Note number text) → units ≡ spelling (next_of (view_of old).books)
+  note-spells_next = IsNext-spelling (Note number text) old next
 
-  pub cut-note : (cause : Cause) (new : Seat) → (view_of new).books ≡ (view_of old).books
+  pub IsCutOff-note : (cause : Cause) (new : Seat) → (view_of new).books ≡ (view_of old).books
       → StopsFor cause (next_of (view_of old).books ∷ []) (view_of new) → IsCutOff (view_of new) cause
-  cut-note cause new same stops = cut-off (Note number text) next.rest cause old new next.plan
-      (ap (λ placed. has_commit (recs_of placed)) none) same (stops-it (Note number text) old next cause (view_of new) stops)
+  IsCutOff-note cause new same stops = StopsFor-is_cut_off (Note number text) next.rest cause old new next.plan
+      (ap (λ placed. has_commit (recs_of placed)) none) same (IsNext-stops_for (Note number text) old next cause (view_of new) stops)
 
-  pub noted-by : (end : ℕ) (new : Seat) → PutsRecord (next_of (view_of old).books) end old new
+  pub AddsRecords-note : (end : ℕ) (new : Seat) → PutsRecord (next_of (view_of old).books) end old new
       → AddsRecords (with_note number (note_of job.note) []) old new
-  noted-by end new put = record {
+  AddsRecords-note end new put = record {
     added = entry_of put-note.start (Note number text) ∷ [];
     adds = put-note.adds;
     records_are = sym (ap (λ note. with_note number (note_of note) []) noted ∙ long text some);
   }
     where
       put-note : PutsRecord (Note number text) end old new
-      put-note = puts-it (Note number text) old next end new put
+      put-note = IsNext-puts_record (Note number text) old next end new put
 
       long : (bytes : List ℕ) → 1 ≤ length bytes → with_note number bytes [] ≡ Note number bytes ∷ []
       long [] some = absurd (omega arith)
       long (byte ∷ bytes) some = refl
 
 -- a job without a note needs no record before its first leg
-pub none-noted : (number : ℕ) (job : Job) (seat : Seat) → HasEntries seat seat (view_of seat).entries (view_of seat).books → job.note ≡ None
+pub AddsRecords-no_note : (number : ℕ) (job : Job) (seat : Seat) → HasEntries seat seat (view_of seat).entries (view_of seat).books → job.note ≡ None
     → AddsRecords (with_note number (note_of job.note) []) seat seat
-none-noted number job seat kept none = subst (λ note. AddsRecords (with_note number (note_of note) []) seat seat) (sym none)
+AddsRecords-no_note number job seat kept none = subst (λ note. AddsRecords (with_note number (note_of note) []) seat seat) (sym none)
     record { added = []; adds = adds-none seat seat kept; records_are = refl }
 
 no-changes : (number : ℕ) (text : List ℕ) → changes_in (in_order (with_note number text []) []) ≡ []
@@ -91,7 +91,7 @@ module _ (accounts number : ℕ) (job : Job) (holdings : List TakenAccount) (sta
   held = ap (λ (b : Books). b.held) placed
 
   records : recs_of books.placed ≡ in_order (with_note number (note_of job.note) []) []
-  records = ap (λ (b : Books). recs_of b.placed) placed ∙ records-behind added start.placed
+  records = ap (λ (b : Books). recs_of b.placed) placed ∙ recs_of-placed_behind added start.placed
       ∙ (λ i. in_order (records-are i) (recs_of (none i)))
 
   changes : changes_by books ≡ []
@@ -103,11 +103,11 @@ module _ (accounts number : ℕ) (job : Job) (holdings : List TakenAccount) (sta
       ∙ (λ i. planned_records (sym holds.last i).number (transfer_of (sym holds.last i).job) (last_commit_taken start.held)
       (balance_taken start.held)))
 
-  pub stands-first : All IsUnchanged holdings → StandsBefore 0 number job holdings books
-  stands-first unchanged = record {
+  pub StandsBefore-first_leg : All IsUnchanged holdings → StandsBefore 0 number job holdings books
+  StandsBefore-first_leg unchanged = record {
     balances = balance_taken books.held;
     left = subst (λ list. IsLeft (planned_from number (last_commit_taken list) (balance_taken list) 0 job.legs) books) (sym held)
-        (left-behind added rest start books placed left-first);
+        (IsLeft-placing_all added rest start books placed left-first);
     outcome = refl;
     now = λ k d within. unchanged k d within ∙ sym (holds.taken k d within).balance
         ∙ ap (λ list. balance_taken list (get_or holdings k d).taken.account) (sym held);

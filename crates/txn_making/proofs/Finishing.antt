@@ -26,11 +26,11 @@ use Rattle.txn_making.specs.Endings.{release_at, EndsTransfer}
 use Rattle.txn_making.specs.Holdings.{GoesBack}
 use Rattle.txn_making.specs.Inserts.{placing_all, Adds, PutsRecord, StopsFor, IsCutOff}
 use Rattle.txn_making.specs.Legs.{HoldsJob, HasChanged, ReachesEnd, last_record}
-use Rattle.txn_making.proofs.Adding.{adds-trans, left-behind, cut-off}
-use Rattle.txn_making.proofs.Backing.{all-unchanged}
-use Rattle.txn_making.proofs.Making.{enters}
-use Rattle.txn_making.proofs.Passing.{holds-behind, holds-accounts}
-use Rattle.txn_making.proofs.Putting.{spells-next, puts-it, stops-it}
+use Rattle.txn_making.proofs.Adding.{adds-trans, IsLeft-placing_all, StopsFor-is_cut_off}
+use Rattle.txn_making.proofs.Backing.{GoesBack-unchanged}
+use Rattle.txn_making.proofs.Making.{IsLeft-may_enter}
+use Rattle.txn_making.proofs.Passing.{HoldsJob-placing_all, HoldsJob-holds_accounts}
+use Rattle.txn_making.proofs.Putting.{IsNext-spelling, IsNext-puts_record, IsNext-stops_for}
 
 ends-last : (number : ℕ) (job : Job) (answer : Answer) → ends (last_record number job answer) ≡ true
 ends-last number job Done = refl
@@ -51,9 +51,9 @@ all-back : (number : ℕ) (job : Job) (answer : Answer) (holdings : List TakenAc
     (placing_all (entry_of start (last_record number job answer) ∷ []) books)) holdings
 all-back number job Done holdings books start reaches = λ k d within. back-moved number (length job.legs) start books
     (get_or holdings k d) (reaches.moved refl k d within)
-all-back number job (Short leg) holdings books start reaches = all-unchanged
+all-back number job (Short leg) holdings books start reaches = GoesBack-unchanged
     (placing_all (entry_of start (last_record number job (Short leg)) ∷ []) books) reaches.uncommitted holdings
-all-back number job (Over leg) holdings books start reaches = all-unchanged
+all-back number job (Over leg) holdings books start reaches = GoesBack-unchanged
     (placing_all (entry_of start (last_record number job (Over leg)) ∷ []) books) reaches.uncommitted holdings
 
 -- the end record comes next
@@ -61,31 +61,31 @@ next-last : (number : ℕ) (job : Job) (answer : Answer) (holdings : List TakenA
     → IsNext (last_record number job answer) books
 next-last number job answer holdings books reaches = record { rest = []; plan = reaches.left }
 
-pub enters-last : (accounts number : ℕ) (job : Job) (answer : Answer) (holdings holdings' : List TakenAccount) (old between : Seat)
+pub MayEnter-last_record : (accounts number : ℕ) (job : Job) (answer : Answer) (holdings holdings' : List TakenAccount) (old between : Seat)
     (before : List Entry)
     → Adds before old between → HoldsJob accounts number job holdings (view_of old).books
     → ReachesEnd answer number job holdings' (view_of between).books → MayEnter (next_of (view_of between).books) (view_of between).books
-enters-last accounts number job answer holdings holdings' old between before adds holds reaches =
-    enters (last_record number job answer) [] (view_of between).books
+MayEnter-last_record accounts number job answer holdings holdings' old between before adds holds reaches =
+    IsLeft-may_enter (last_record number job answer) [] (view_of between).books
     (subst (λ (last : TakenJob). 1 ≤ last.number) (sym still.last) holds.allowed.number.0)
-    (holds-accounts accounts number job holdings (view_of between).books still) reaches.left
+    (HoldsJob-holds_accounts accounts number job holdings (view_of between).books still) reaches.left
   where
     still : HoldsJob accounts number job holdings (view_of between).books
-    still = holds-behind accounts number job holdings (view_of old).books (view_of between).books before adds.entries.books_are holds
+    still = HoldsJob-placing_all accounts number job holdings (view_of old).books (view_of between).books before adds.entries.books_are holds
 
-pub spells-last : (number : ℕ) (job : Job) (answer : Answer) (holdings : List TakenAccount) (between : Seat)
+pub last_record-spells_next : (number : ℕ) (job : Job) (answer : Answer) (holdings : List TakenAccount) (between : Seat)
     → ReachesEnd answer number job holdings (view_of between).books → (units : List ℕ) → units ≡ spelling (last_record number job answer)
     → units ≡ spelling (next_of (view_of between).books)
-spells-last number job answer holdings between reaches = spells-next (last_record number job answer) between
+last_record-spells_next number job answer holdings between reaches = IsNext-spelling (last_record number job answer) between
     (next-last number job answer holdings (view_of between).books reaches)
 
-pub cut-last : (number : ℕ) (job : Job) (answer : Answer) (holdings : List TakenAccount) (between : Seat)
+pub IsCutOff-last_record : (number : ℕ) (job : Job) (answer : Answer) (holdings : List TakenAccount) (between : Seat)
     → ReachesEnd answer number job holdings (view_of between).books → (cause : Cause) (new : Seat)
     → (view_of new).books ≡ (view_of between).books → StopsFor cause (next_of (view_of between).books ∷ []) (view_of new)
     → IsCutOff (view_of new) cause
-cut-last number job answer holdings between reaches cause new same stops =
-    cut-off (last_record number job answer) [] cause between new reaches.left reaches.uncommitted same
-    (stops-it (last_record number job answer) between (next-last number job answer holdings (view_of between).books reaches) cause (view_of new) stops)
+IsCutOff-last_record number job answer holdings between reaches cause new same stops =
+    StopsFor-is_cut_off (last_record number job answer) [] cause between new reaches.left reaches.uncommitted same
+    (IsNext-stops_for (last_record number job answer) between (next-last number job answer holdings (view_of between).books reaches) cause (view_of new) stops)
 
 pub ends-transfer : (number : ℕ) (job : Job) (ended : TransferEnd) (holdings : List TakenAccount) (old between new : Seat)
     (before : List Entry)
@@ -96,7 +96,7 @@ ends-transfer number job ended holdings old between new before adds reaches put-
   start = put.start;
   end_is = put.ends;
   adds = adds-trans before (entry_of put.start (last_record number job ended.answer) ∷ []) old between new adds put.adds;
-  left = left-behind (entry_of put.start (last_record number job ended.answer) ∷ []) [] (view_of between).books (view_of new).books placed
+  left = IsLeft-placing_all (entry_of put.start (last_record number job ended.answer) ∷ []) [] (view_of between).books (view_of new).books placed
       reaches.left;
   outcome = reaches.outcome ∙ ap (λ (b : Books). outcome_alone (transfer_of job) (balance_taken b.held)) adds.entries.books_are;
   back = subst (λ (p : ℕ × Books). All (GoesBack (release_at p.0 ended.answer) p.1) holdings) (λ i. (sym put.ends i, sym placed i))
@@ -107,7 +107,7 @@ ends-transfer number job ended holdings old between new before adds reaches put-
 }
   where
     put : PutsRecord (last_record number job ended.answer) ended.end between new
-    put = puts-it (last_record number job ended.answer) between
+    put = IsNext-puts_record (last_record number job ended.answer) between
         (next-last number job ended.answer holdings (view_of between).books reaches) ended.end new put-next
 
     placed : (view_of new).books ≡ placing_all (entry_of put.start (last_record number job ended.answer) ∷ []) (view_of between).books

@@ -15,15 +15,15 @@ use Rattle.ring_buffer.specs.Calls.{HasEntries}
 use Rattle.txn_parts.specs.declared.taken_account.TakenAccount.{TakenAccount}
 use Rattle.early_locks.specs.Locks.{held_of}
 use Rattle.txn_making.specs.Holdings.{account_of, held_behind, holding_all, IsKnown, HoldsAll, TakesAll}
-use Rattle.txn_making.proofs.Held.{distinct}
+use Rattle.txn_making.proofs.Held.{IsStrictlyIncreasing-distinct}
 use Rattle.ring_buffer.proofs.TwoCalls.{HasEntries-trans}
 use Rattle.txn_jobs.proofs.Listing.{rising-below}
 
 -- what is known of each account is known of each holding
-pub all-known : (accounts : ℕ) (holdings : List TakenAccount) (list : List ℕ) → map account_of holdings ≡ list
+pub IsKnown-all : (accounts : ℕ) (holdings : List TakenAccount) (list : List ℕ) → map account_of holdings ≡ list
     → All (λ account. account < accounts) list
     → All (IsKnown accounts) holdings
-all-known accounts holdings list is known k d within =
+IsKnown-all accounts holdings list is known k d within =
     subst (λ account. account < accounts) (ap (λ xs. get_or xs k 0) (sym is) ∙ get_or-map account_of holdings k d 0 within)
     (known k 0 (subst (λ n. k < n) (sym (length-map holdings account_of) ∙ ap length is) within))
 
@@ -46,7 +46,7 @@ pub next-ascends : (accounts : List ℕ) (k : ℕ) (holdings : List TakenAccount
 next-ascends accounts k holdings first second before rising within =
     subst (Ascends (get_or accounts k 0)) (sym before.entries.books_are)
     (below-behind (get_or accounts k 0) holdings [] (recursion_from_All (IsKnown (get_or accounts k 0)) holdings
-    (all-known (get_or accounts k 0) holdings (take k accounts) before.accounts_are
+    (IsKnown-all (get_or accounts k 0) holdings (take k accounts) before.accounts_are
     (All-from_get_or (λ account. account < get_or accounts k 0) (take k accounts) 0 earlier))) tt)
   where
     earlier : (i : ℕ) → i < length (take k accounts) → get_or (take k accounts) i 0 < get_or accounts k 0
@@ -55,20 +55,20 @@ next-ascends accounts k holdings first second before rising within =
 
 module _ (accounts : List ℕ) (holdings : List TakenAccount) (first second third : Seat) (before : TakesAll accounts holdings first second) where
   -- after a call that took no account they may all be given back
-  pub holds-all : IsStrictlyIncreasing accounts → HasEntries second third (view_of second).entries (view_of second).books
+  pub TakesAll-holds_all : IsStrictlyIncreasing accounts → HasEntries second third (view_of second).entries (view_of second).books
       → HoldsAll holdings (view_of third).books
-  holds-all rising after = record {
-    distinct = distinct holdings (subst IsStrictlyIncreasing (sym before.accounts_are) rising);
+  TakesAll-holds_all rising after = record {
+    distinct = IsStrictlyIncreasing-distinct holdings (subst IsStrictlyIncreasing (sym before.accounts_are) rising);
     held = ap (λ (books : Books). books.held) (after.books_are ∙ before.entries.books_are);
   }
 
   -- one more is taken
-  pub takes-more : (more : List ℕ) (holding : TakenAccount) (all : List TakenAccount) → all ≡ holdings ++ holding ∷ []
+  pub TakesAll-push : (more : List ℕ) (holding : TakenAccount) (all : List TakenAccount) → all ≡ holdings ++ holding ∷ []
       → more ≡ accounts ++ holding.taken.account ∷ []
       → holding.balance ≡ holding.taken.balance
       → HasEntries second third (view_of second).entries (taking (held_of holding.taken) (view_of second).books)
       → (view_of third).seen.stop ≡ 0 → TakesAll more all first third
-  takes-more more holding all pushed is unchanged after runs = subst (λ list. TakesAll more list first third) (sym pushed) record {
+  TakesAll-push more holding all pushed is unchanged after runs = subst (λ list. TakesAll more list first third) (sym pushed) record {
     accounts_are = map-append account_of holdings (holding ∷ []) ∙ (λ i. before.accounts_are i ++ holding.taken.account ∷ []) ∙ sym is;
     unchanged = All-push (λ (holding : TakenAccount). holding.balance ≡ holding.taken.balance) holdings holding before.unchanged unchanged;
     entries = subst (λ (p : List Entry × Books). HasEntries first third p.0 p.1) (λ i. (before.entries.entries_are i, books i))

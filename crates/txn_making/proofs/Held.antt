@@ -19,9 +19,9 @@ use Rattle.txn_making.specs.Holdings.{account_of, taken_of, held_behind, given_b
 use Rattle.txn_making.specs.Holdings.{account_given}
 use Rattle.txn_jobs.proofs.Listing.{rising-below}
 
--- ascending accounts are distinct
-pub distinct : (holdings : List TakenAccount) → IsStrictlyIncreasing (map account_of holdings) → AreDistinct holdings
-distinct holdings rising = apart holdings (rising-below (map account_of holdings) rising)
+-- ascending accounts are IsStrictlyIncreasing-distinct
+pub IsStrictlyIncreasing-distinct : (holdings : List TakenAccount) → IsStrictlyIncreasing (map account_of holdings) → AreDistinct holdings
+IsStrictlyIncreasing-distinct holdings rising = apart holdings (rising-below (map account_of holdings) rising)
   where
     apart : (holdings : List TakenAccount) → ((i j : ℕ) → i < j → j < length (map account_of holdings)
         → get_or (map account_of holdings) i 0 < get_or (map account_of holdings) j 0)
@@ -50,10 +50,10 @@ without-behind (holding ∷ holdings) front last lacks none = without-behind hol
     (lacks.0, none)
 
 -- what was taken later doesn't concern the account
-pub taken-behind : (books : Books) (holdings : List TakenAccount) (held : List TakenHere) (taken : Taken) → Lacks taken.account holdings
+pub HoldsTaken-held_behind : (books : Books) (holdings : List TakenAccount) (held : List TakenHere) (taken : Taken) → Lacks taken.account holdings
     → HoldsTaken taken (record books { held = held }) → HoldsTaken taken (record books { held = held_behind holdings held })
-taken-behind books [] held taken lacks holds = holds
-taken-behind books (holding ∷ holdings) held taken lacks holds = taken-behind books holdings
+HoldsTaken-held_behind books [] held taken lacks holds = holds
+HoldsTaken-held_behind books (holding ∷ holdings) held taken lacks holds = HoldsTaken-held_behind books holdings
     (held_of holding.taken ∷ held) taken lacks.1 record {
       has = omega (arith, holds.has);
       balance = (λ i. cond (other i) holding.taken.balance (balance_taken held taken.account)) ∙ holds.balance;
@@ -64,9 +64,9 @@ taken-behind books (holding ∷ holdings) held taken lacks holds = taken-behind 
     other = ne_eqb holding.taken.account taken.account lacks.0
 
 -- the account taken last
-pub taken-first : (books : Books) (holding : TakenAccount) (held : List TakenHere)
+pub HoldsTaken-first : (books : Books) (holding : TakenAccount) (held : List TakenHere)
     → HoldsTaken holding.taken (record books { held = held_of holding.taken ∷ held })
-taken-first books holding held = record {
+HoldsTaken-first books holding held = record {
   has = subst (λ b. 1 ≤ cond b 1 0 + times_held holding.taken.account held) (sym same) (omega arith);
   balance = λ i. cond (same i) holding.taken.balance (balance_taken held holding.taken.account);
   last_commit = λ i. cond (same i) holding.taken.mark (last_commit_taken held holding.taken.account);
@@ -76,18 +76,18 @@ taken-first books holding held = record {
     same = eq-eqb holding.taken.account holding.taken.account refl
 
 module _ (view : View) where
-  pub given-push : (holdings : List TakenAccount) (holding : TakenAccount) (given : List Given)
+  pub given_behind-push : (holdings : List TakenAccount) (holding : TakenAccount) (given : List Given)
       → given_behind view (holdings ++ holding ∷ []) given
       ≡ given_at view holding.taken ∷ given_behind view holdings given
-  given-push [] holding given = refl
-  given-push (first ∷ holdings) holding given = given-push holdings holding (given_at view first.taken ∷ given)
+  given_behind-push [] holding given = refl
+  given_behind-push (first ∷ holdings) holding given = given_behind-push holdings holding (given_at view first.taken ∷ given)
 
   -- what goes back stands before what went back before
-  pub given-front : (holdings : List TakenAccount) (given : List Given)
+  pub given_behind-append : (holdings : List TakenAccount) (given : List Given)
       → given_behind view holdings given ≡ given_behind view holdings [] ++ given
-  given-front [] given = refl
-  given-front (holding ∷ holdings) given = given-front holdings (given_at view holding.taken ∷ given)
-      ∙ sym (ap (λ l. l ++ given) (given-front holdings (given_at view holding.taken ∷ []))
+  given_behind-append [] given = refl
+  given_behind-append (holding ∷ holdings) given = given_behind-append holdings (given_at view holding.taken ∷ given)
+      ∙ sym (ap (λ l. l ++ given) (given_behind-append holdings (given_at view holding.taken ∷ []))
       ∙ append_assoc (given_behind view holdings []) (given_at view holding.taken ∷ []) given)
 
   -- what went back before stays among what went back
@@ -98,31 +98,31 @@ module _ (view : View) where
       (Contains-append_right (holding.taken.account ∷ []) (map account_given given) account has)
 
   -- each account went back
-  pub given-all : (holdings : List TakenAccount) (given : List Given) (account : ℕ) → Contains (map account_of holdings) account
+  pub given_behind-contains : (holdings : List TakenAccount) (given : List Given) (account : ℕ) → Contains (map account_of holdings) account
       → Contains (map account_given (given_behind view holdings given)) account
-  given-all [] given account has = absurd (omega (arith, has.1))
-  given-all (holding ∷ holdings) given account has =
+  given_behind-contains [] given account has = absurd (omega (arith, has.1))
+  given_behind-contains (holding ∷ holdings) given account has =
       elim (Contains-append_cases (holding.taken.account ∷ []) (map account_of holdings) account has) [
         | inl first ↦ still-given holdings (given_at view holding.taken ∷ given) account
             (Contains-append_left (holding.taken.account ∷ []) (map account_given given) account first)
-        | inr later ↦ given-all holdings (given_at view holding.taken ∷ given) account later
+        | inr later ↦ given_behind-contains holdings (given_at view holding.taken ∷ given) account later
       ]
 
   -- what is said of each account as it goes back is said of all that went back
-  pub given-each : (P : Given → Type 0) (holdings : List TakenAccount) (given : List Given)
+  pub given_behind-all : (P : Given → Type 0) (holdings : List TakenAccount) (given : List Given)
       → AllByRecursion (λ (holding : TakenAccount). P (given_at view holding.taken)) holdings
       → All P given → All P (given_behind view holdings given)
-  given-each P [] given each all = all
-  given-each P (holding ∷ holdings) given each all = given-each P holdings (given_at view holding.taken ∷ given) each.1
+  given_behind-all P [] given each all = all
+  given_behind-all P (holding ∷ holdings) given each all = given_behind-all P holdings (given_at view holding.taken ∷ given) each.1
       (All-cons P (given_at view holding.taken) given each.0 all)
 
 -- the account that went back, of those
-pub account-given : (back : List Given) (account : ℕ) → Contains (map account_given back) account
+pub account_given-found : (back : List Given) (account : ℕ) → Contains (map account_given back) account
     → (one : Given) × Contains back one × (one.account ≡ account)
-account-given [] account has = absurd (omega (arith, has.1))
-account-given (first ∷ back) account has = elim (Contains-append_cases (first.account ∷ []) (map account_given back) account has) [
+account_given-found [] account has = absurd (omega (arith, has.1))
+account_given-found (first ∷ back) account has = elim (Contains-append_cases (first.account ∷ []) (map account_given back) account has) [
   | inl here ↦ (first, Contains-append_left (first ∷ []) back first (Contains-push [] first), is here)
-  | inr later ↦ let more = account-given back account later in
+  | inr later ↦ let more = account_given-found back account later in
       (more.0, Contains-append_right (first ∷ []) back more.0 more.1, more.2)
 ]
   where
@@ -130,11 +130,11 @@ account-given (first ∷ back) account has = elim (Contains-append_cases (first.
     is here = elim (Contains-push_cases [] first.account account here) [ inl none ↦ absurd (omega (arith, none.1)) | inr same ↦ same ]
 
 -- after these accounts went back
-pub given-held : (back : List TakenAccount) (held : List TakenHere) (first second : Seat)
+pub KeepsGiven-with_held : (back : List TakenAccount) (held : List TakenHere) (first second : Seat)
     → Becomes first second (with_held held back (view_of first)) → KeepsGiven (view_of first) (view_of second)
-given-held back held first second becomes = record {
+KeepsGiven-with_held back held first second becomes = record {
   back = given_behind (view_of first) back [];
-  given_are = ap (λ m. m.0.books.given) becomes.me ∙ given-front (view_of first) back (view_of first).books.given;
+  given_are = ap (λ m. m.0.books.given) becomes.me ∙ given_behind-append (view_of first) back (view_of first).books.given;
 }
 
 -- the first of the holdings that are left, and the others once it is given back
@@ -157,14 +157,14 @@ module _ (first second : Seat) (back holdings rest : List TakenAccount) (holding
   books = record view.books { given = given_behind view back view.books.given }
 
   held-first : HoldsTaken holding.taken (record books { held = held_behind (holding ∷ rest) [] })
-  held-first = taken-behind books rest (held_of holding.taken ∷ []) holding.taken distinct-both.0 (taken-first books holding [])
+  held-first = HoldsTaken-held_behind books rest (held_of holding.taken ∷ []) holding.taken distinct-both.0 (HoldsTaken-first books holding [])
 
-  pub holds-first : HoldsTaken holding.taken (view_of second).books
-  holds-first = subst (λ m. HoldsTaken holding.taken m.0.books) (sym is-held) held-first
+  pub HoldsTaken-with_held : HoldsTaken holding.taken (view_of second).books
+  HoldsTaken-with_held = subst (λ m. HoldsTaken holding.taken m.0.books) (sym is-held) held-first
 
-  pub gives-first : (third : Seat) → Becomes second third (gave_account holding.taken.account (view_of second))
+  pub gave_account-with_held : (third : Seat) → Becomes second third (gave_account holding.taken.account (view_of second))
       → Becomes first third (with_held (held_behind rest []) (back ++ holding ∷ []) view)
-  gives-first third after = record {
+  gave_account-with_held third after = record {
     table_is = after.table_is ∙ before.table_is;
     number = after.number ∙ before.number;
     me = after.me ∙ ap (λ m. (gave_account holding.taken.account m.0, m.1)) is-held
@@ -184,7 +184,7 @@ module _ (first second : Seat) (back holdings rest : List TakenAccount) (holding
       gone : record (given_at view holding.taken) { balance = balance_taken (held_behind (holding ∷ rest) []) holding.taken.account }
           ∷ given_behind view back view.books.given ≡ given_behind view (back ++ holding ∷ []) view.books.given
       gone = (λ i. record (given_at view holding.taken) { balance = held-first.balance i } ∷ given_behind view back view.books.given)
-          ∙ sym (given-push view back holding view.books.given)
+          ∙ sym (given_behind-push view back holding view.books.given)
 
       left : without holding.taken.account (held_behind (holding ∷ rest) []) ≡ held_behind rest []
       left = without-behind rest [] (held_of holding.taken) distinct-both.0 tt
@@ -214,15 +214,15 @@ module _ (old new : List TakenAccount) (same : map taken_of new ≡ map taken_of
   same-taken k d within = sym (get_or-map taken_of new k d d.taken within) ∙ ap (λ list. get_or list k d.taken) same
       ∙ get_or-map taken_of old k d d.taken (omega (arith, same-length))
 
-  pub same-accounts : map account_of new ≡ map account_of old
-  same-accounts = accounts new ∙ ap (map (λ (taken : Taken). taken.account)) same ∙ sym (accounts old)
+  pub map_account_of-same : map account_of new ≡ map account_of old
+  map_account_of-same = accounts new ∙ ap (map (λ (taken : Taken). taken.account)) same ∙ sym (accounts old)
     where
       accounts : (holdings : List TakenAccount) → map account_of holdings ≡ map (λ (taken : Taken). taken.account) (map taken_of holdings)
       accounts [] = refl
       accounts (holding ∷ holdings) = ap (λ list. holding.taken.account ∷ list) (accounts holdings)
 
-  pub all-same : (P : Taken → Type 0) → All (λ (holding : TakenAccount). P holding.taken) old → All (λ (holding : TakenAccount). P holding.taken) new
-  all-same P all k d within = subst P (sym (same-taken k d within)) (all k d (omega (arith, same-length)))
+  pub all_taken-same : (P : Taken → Type 0) → All (λ (holding : TakenAccount). P holding.taken) old → All (λ (holding : TakenAccount). P holding.taken) new
+  all_taken-same P all k d within = subst P (sym (same-taken k d within)) (all k d (omega (arith, same-length)))
 
-  pub still-distinct : AreDistinct old → AreDistinct new
-  still-distinct = distinct-same old new same-accounts
+  pub AreDistinct-same : AreDistinct old → AreDistinct new
+  AreDistinct-same = distinct-same old new map_account_of-same

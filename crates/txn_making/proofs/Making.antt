@@ -15,13 +15,13 @@ use Rattle.txn_jobs.specs.declared.cause.Cause.{Cause}
 use Rattle.txn_parts.specs.declared.taken_account.TakenAccount.{TakenAccount}
 use Rattle.txn_making.specs.Inserts.{placing_all, PutsRecord, IsLeft, StopsFor, IsCutOff}
 use Rattle.txn_making.specs.Legs.{MayMakeLeg, AddsRecords, leg_records}
-use Rattle.txn_making.proofs.Adding.{adds-trans, left-behind, uncommitted-behind, cut-off}
-use Rattle.txn_making.proofs.Putting.{spells-next, puts-it, stops-it}
+use Rattle.txn_making.proofs.Adding.{adds-trans, IsLeft-placing_all, uncommitted-placing_all, StopsFor-is_cut_off}
+use Rattle.txn_making.proofs.Putting.{IsNext-spelling, IsNext-puts_record, IsNext-stops_for}
 
 -- with all accounts held the next record may be placed
-pub enters : (rec : Rec) (rest : List Rec) (books : Books) → 1 ≤ books.last.number → HoldsAccounts books
+pub IsLeft-may_enter : (rec : Rec) (rest : List Rec) (books : Books) → 1 ≤ books.last.number → HoldsAccounts books
     → IsLeft (rec ∷ rest) books → MayEnter (next_of books) books
-enters rec rest books some_job holds left = may-enter rec books some_job record { rest = rest; plan = left } (inr holds)
+IsLeft-may_enter rec rest books some_job holds left = may-enter rec books some_job record { rest = rest; plan = left } (inr holds)
 
 module _ (accounts number : ℕ) (leg : ℕ × ℕ × ℕ) (holdings : List TakenAccount) (old : Seat)
     (may : MayMakeLeg accounts number leg holdings (view_of old).books) where
@@ -47,54 +47,54 @@ module _ (accounts number : ℕ) (leg : ℕ × ℕ × ℕ) (holdings : List Take
   next-less : IsNext less books
   next-less = record { rest = more ∷ may.rest; plan = may.left }
 
-  pub enters-first : MayEnter (next_of books) books
-  enters-first = enters less (more ∷ may.rest) books may.some_job may.holds may.left
+  pub MayEnter-payer_update : MayEnter (next_of books) books
+  MayEnter-payer_update = IsLeft-may_enter less (more ∷ may.rest) books may.some_job may.holds may.left
 
-  pub spells-first : (units : List ℕ) (payer : TakenAccount)
+  pub payer_update-spells_next : (units : List ℕ) (payer : TakenAccount)
       → units ≡ spelling (Update number payer.taken.account (neg_ℤ (pos leg.2)) payer.taken.mark) → Contains holdings payer
       → payer.taken.account ≡ leg.0 → units ≡ spelling (next_of books)
-  spells-first units payer is has same = spells-next less old next-less units (marked units (neg_ℤ (pos leg.2)) leg.0 payer is has same)
+  payer_update-spells_next units payer is has same = IsNext-spelling less old next-less units (marked units (neg_ℤ (pos leg.2)) leg.0 payer is has same)
 
-  pub cut-first : (cause : Cause) (new : Seat) → (view_of new).books ≡ books → StopsFor cause (next_of books ∷ []) (view_of new)
+  pub IsCutOff-payer_update : (cause : Cause) (new : Seat) → (view_of new).books ≡ books → StopsFor cause (next_of books ∷ []) (view_of new)
       → IsCutOff (view_of new) cause
-  cut-first cause new same stops = cut-off less (more ∷ may.rest) cause old new may.left may.uncommitted same
-      (stops-it less old next-less cause (view_of new) stops)
+  IsCutOff-payer_update cause new same stops = StopsFor-is_cut_off less (more ∷ may.rest) cause old new may.left may.uncommitted same
+      (IsNext-stops_for less old next-less cause (view_of new) stops)
 
   module _ (between : Seat) (end : ℕ) (put : PutsRecord (next_of books) end old between) where
     put-less : PutsRecord less end old between
-    put-less = puts-it less old next-less end between put
+    put-less = IsNext-puts_record less old next-less end between put
 
     placed : (view_of between).books ≡ placing_all (entry_of put-less.start less ∷ []) books
     placed = put-less.adds.entries.books_are
 
     left-second : IsLeft (more ∷ may.rest) (view_of between).books
-    left-second = left-behind (entry_of put-less.start less ∷ []) (more ∷ may.rest) books (view_of between).books placed may.left
+    left-second = IsLeft-placing_all (entry_of put-less.start less ∷ []) (more ∷ may.rest) books (view_of between).books placed may.left
 
     next-more : IsNext more (view_of between).books
     next-more = record { rest = may.rest; plan = left-second }
 
-    pub enters-second : MayEnter (next_of (view_of between).books) (view_of between).books
-    enters-second = enters more may.rest (view_of between).books (subst (λ (b : Books). 1 ≤ b.last.number) (sym placed) may.some_job)
+    pub MayEnter-payee_update : MayEnter (next_of (view_of between).books) (view_of between).books
+    MayEnter-payee_update = IsLeft-may_enter more may.rest (view_of between).books (subst (λ (b : Books). 1 ≤ b.last.number) (sym placed) may.some_job)
         (subst HoldsAccounts (sym placed) may.holds) left-second
 
-    pub spells-second : (units : List ℕ) (payee : TakenAccount)
+    pub payee_update-spells_next : (units : List ℕ) (payee : TakenAccount)
         → units ≡ spelling (Update number payee.taken.account (pos leg.2) payee.taken.mark) → Contains holdings payee
         → payee.taken.account ≡ leg.1 → units ≡ spelling (next_of (view_of between).books)
-    spells-second units payee is has same = spells-next more between next-more units (marked units (pos leg.2) leg.1 payee is has same)
+    payee_update-spells_next units payee is has same = IsNext-spelling more between next-more units (marked units (pos leg.2) leg.1 payee is has same)
 
-    pub cut-second : (cause : Cause) (new : Seat) → (view_of new).books ≡ (view_of between).books
+    pub IsCutOff-payee_update : (cause : Cause) (new : Seat) → (view_of new).books ≡ (view_of between).books
         → StopsFor cause (next_of (view_of between).books ∷ []) (view_of new) → IsCutOff (view_of new) cause
-    cut-second cause new same stops = cut-off more may.rest cause between new left-second
-        (uncommitted-behind (entry_of put-less.start less ∷ []) books (view_of between).books placed refl may.uncommitted) same
-        (stops-it more between next-more cause (view_of new) stops)
+    IsCutOff-payee_update cause new same stops = StopsFor-is_cut_off more may.rest cause between new left-second
+        (uncommitted-placing_all (entry_of put-less.start less ∷ []) books (view_of between).books placed refl may.uncommitted) same
+        (IsNext-stops_for more between next-more cause (view_of new) stops)
 
-    pub leg-made : (new : Seat) (end' : ℕ) → PutsRecord (next_of (view_of between).books) end' between new
+    pub AddsRecords-leg : (new : Seat) (end' : ℕ) → PutsRecord (next_of (view_of between).books) end' between new
         → AddsRecords (leg_records number (last_commit_taken books.held) leg) old new
-    leg-made new end' put' = record {
+    AddsRecords-leg new end' put' = record {
       added = entry_of put-less.start less ∷ entry_of put-more.start more ∷ [];
       adds = adds-trans (entry_of put-less.start less ∷ []) (entry_of put-more.start more ∷ []) old between new put-less.adds put-more.adds;
       records_are = refl;
     }
       where
         put-more : PutsRecord more end' between new
-        put-more = puts-it more between next-more end' new put'
+        put-more = IsNext-puts_record more between next-more end' new put'

@@ -31,8 +31,8 @@ use Rattle.txn_jobs.specs.Accounts.{HasAccountsOf, IsAccountOf}
 use Rattle.txn_making.specs.Holdings.{account_of, taken_of}
 use Rattle.txn_making.specs.Inserts.{placing_all, IsLeft}
 use Rattle.txn_making.specs.Legs.{AreHeld, HasBalance, IsRefused, CanMake, changes_by, HoldsJob, leg_records, MayMakeLeg, IsAfter, TouchesLeg, StandsBefore, HasChanged, ReachesEnd}
-use Rattle.txn_making.proofs.Adding.{left-behind, records-behind, uncommitted-behind}
-use Rattle.txn_making.proofs.Held.{same-accounts, all-same}
+use Rattle.txn_making.proofs.Adding.{IsLeft-placing_all, recs_of-placed_behind, uncommitted-placing_all}
+use Rattle.txn_making.proofs.Held.{map_account_of-same, all_taken-same}
 
 -- an account that is one of the holdings' is held
 contains-held : (books : Books) (holdings : List TakenAccount) (account : ℕ)
@@ -46,19 +46,19 @@ contains-held books (first ∷ holdings) account taken has = subst (λ a. 1 ≤ 
     within = omega (arith, has.1, length-map (first ∷ holdings) account_of)
 
 -- all accounts of the job are held
-pub holds-accounts : (accounts number : ℕ) (job : Job) (holdings : List TakenAccount) (books : Books)
+pub HoldsJob-holds_accounts : (accounts number : ℕ) (job : Job) (holdings : List TakenAccount) (books : Books)
     → HoldsJob accounts number job holdings books → HoldsAccounts books
-holds-accounts accounts number job holdings books holds = subst (λ (last : TakenJob). AllByRecursion
+HoldsJob-holds_accounts accounts number job holdings books holds = subst (λ (last : TakenJob). AllByRecursion
     (HoldsLeg books.held) last.job.legs) (sym holds.last)
     (recursion_from_All (HoldsLeg books.held) job.legs (All-weaker (HasAccountsOf (map account_of holdings)) (HoldsLeg books.held)
     (λ leg has. (contains-held books holdings leg.0 holds.taken has.0, contains-held books holdings leg.1 holds.taken has.1))
     job.legs holds.all))
 
 -- records that are placed, and balances that are changed, leave the job and its accounts as they are
-pub holds-behind : (accounts number : ℕ) (job : Job) (holdings : List TakenAccount) (books books' : Books) (added : List Entry)
+pub HoldsJob-placing_all : (accounts number : ℕ) (job : Job) (holdings : List TakenAccount) (books books' : Books) (added : List Entry)
     → books' ≡ placing_all added books
     → HoldsJob accounts number job holdings books → HoldsJob accounts number job holdings books'
-holds-behind accounts number job holdings books books' added placed holds = subst (HoldsJob accounts number job holdings)
+HoldsJob-placing_all accounts number job holdings books books' added placed holds = subst (HoldsJob accounts number job holdings)
     (sym placed) record {
       last = holds.last;
       allowed = holds.allowed;
@@ -72,9 +72,9 @@ holds-same : (accounts number : ℕ) (job : Job) (old new : List TakenAccount) (
 holds-same accounts number job old new books same holds = record {
   last = holds.last;
   allowed = holds.allowed;
-  all = subst (λ list. All (HasAccountsOf list) job.legs) (sym (same-accounts old new same)) holds.all;
-  only = subst (All (IsAccountOf job.legs)) (sym (same-accounts old new same)) holds.only;
-  taken = all-same old new same (λ taken. HoldsTaken taken books) holds.taken;
+  all = subst (λ list. All (HasAccountsOf list) job.legs) (sym (map_account_of-same old new same)) holds.all;
+  only = subst (All (IsAccountOf job.legs)) (sym (map_account_of-same old new same)) holds.only;
+  taken = all_taken-same old new same (λ taken. HoldsTaken taken books) holds.taken;
 }
 
 -- the accounts of one more leg are changed
@@ -95,11 +95,11 @@ touches-more legs i leg changes less more within is pays receives before = All-m
     ))
 
 -- what a leg makes of each holding
-pub paid-taken : (leg : ℕ × ℕ × ℕ) (old new : List TakenAccount) → AllZip (IsAfter leg) old new → map taken_of new ≡ map taken_of old
-paid-taken leg [] [] paid = refl
-paid-taken leg [] (after ∷ new) paid = absurd paid
-paid-taken leg (before ∷ old) [] paid = absurd paid
-paid-taken leg (before ∷ old) (after ∷ new) paid = λ i. paid.0.taken i ∷ paid-taken leg old new paid.1 i
+pub IsAfter-taken_same : (leg : ℕ × ℕ × ℕ) (old new : List TakenAccount) → AllZip (IsAfter leg) old new → map taken_of new ≡ map taken_of old
+IsAfter-taken_same leg [] [] paid = refl
+IsAfter-taken_same leg [] (after ∷ new) paid = absurd paid
+IsAfter-taken_same leg (before ∷ old) [] paid = absurd paid
+IsAfter-taken_same leg (before ∷ old) (after ∷ new) paid = λ i. paid.0.taken i ∷ IsAfter-taken_same leg old new paid.1 i
 
 paid-now : (leg : ℕ × ℕ × ℕ) (balances : ℕ → ℕ) (old new : List TakenAccount) → AllZip (IsAfter leg) old new
     → All (λ (holding : TakenAccount). holding.balance ≡ balances holding.taken.account) old
@@ -188,12 +188,12 @@ module _ (accounts number : ℕ) (job : Job) (holdings : List TakenAccount) (boo
     leg-number : IsLeg (i + 1)
     leg-number = (omega arith, omega (arith, ap length same, holds.allowed.job.legs.few))
 
-    pub leg-accounts : HasAccountsOf (map account_of holdings) leg
-    leg-accounts = subst (HasAccountsOf (map account_of holdings)) (sym is)
+    pub leg-has_accounts_of : HasAccountsOf (map account_of holdings) leg
+    leg-has_accounts_of = subst (HasAccountsOf (map account_of holdings)) (sym is)
         (subst (All (HasAccountsOf (map account_of holdings))) (sym same) holds.all i leg within)
 
-    pub leg-most : leg.2 ≤ MOST_BALANCE
-    leg-most = leg-allowed.most
+    pub leg_amount-le_most : leg.2 ≤ MOST_BALANCE
+    leg_amount-le_most = leg-allowed.most
 
     balance-of : (account : ℕ) (Such : ℕ → Type 0) → HasBalance holdings account Such → Such (balances account)
     balance-of account Such of = subst Such (balance-is of.holding account of.contains of.account_is) of.balance
@@ -251,13 +251,13 @@ module _ (accounts number : ℕ) (job : Job) (holdings : List TakenAccount) (boo
       left-leg = subst (λ records. IsLeft records books) (cond-false (lacks leg balances) _ _ (has can.payer)
           ∙ cond-false (overfills leg balances) _ _ fits) left-at
 
-      pub may-make : MayMakeLeg accounts number leg holdings books
-      may-make = record {
+      pub CanMake-may_make_leg : MayMakeLeg accounts number leg holdings books
+      CanMake-may_make_leg = record {
         some_job = subst (λ (last : TakenJob). 1 ≤ last.number) (sym holds.last) holds.allowed.number.0;
-        holds = holds-accounts accounts number job holdings books holds;
+        holds = HoldsJob-holds_accounts accounts number job holdings books holds;
         txn = holds.allowed.number;
         leg_allowed = leg-allowed;
-        both = leg-accounts;
+        both = leg-has_accounts_of;
         taken = holds.taken;
         uncommitted = stands.uncommitted;
         rest = behind;
@@ -272,7 +272,7 @@ module _ (accounts number : ℕ) (job : Job) (holdings : List TakenAccount) (boo
 
         records' : recs_of books'.placed ≡ Update number leg.1 (pos leg.2) (last_commit leg.1) ∷ Update number leg.0
             (neg_ℤ (pos leg.2)) (last_commit leg.0) ∷ recs_of books.placed
-        records' = ap (λ (b : Books). recs_of b.placed) placed ∙ records-behind added books.placed
+        records' = ap (λ (b : Books). recs_of b.placed) placed ∙ recs_of-placed_behind added books.placed
             ∙ ap (λ records. in_order records (recs_of books.placed)) records-are
 
         abbrev less : Change
@@ -284,9 +284,9 @@ module _ (accounts number : ℕ) (job : Job) (holdings : List TakenAccount) (boo
         changes' : changes_by books' ≡ more ∷ less ∷ changes
         changes' = ap changes_in records'
 
-        pub still-holds : HoldsJob accounts number job holdings' books'
-        still-holds = holds-same accounts number job holdings holdings' books' (paid-taken leg holdings holdings' paid)
-            (holds-behind accounts number job holdings books books' added placed holds)
+        pub HoldsJob-after_leg : HoldsJob accounts number job holdings' books'
+        HoldsJob-after_leg = holds-same accounts number job holdings holdings' books' (IsAfter-taken_same leg holdings holdings' paid)
+            (HoldsJob-placing_all accounts number job holdings books books' added placed holds)
 
         touched' : All (TouchesLeg (changes_by books')) (take (i + 1) job.legs)
         touched' = subst (λ (p : List (ℕ × ℕ × ℕ) × List Change). All (TouchesLeg p.1) (take (i + 1) p.0))
@@ -294,11 +294,11 @@ module _ (accounts number : ℕ) (job : Job) (holdings : List TakenAccount) (boo
             (touches-more legs i leg changes less more within is refl refl
             (subst (λ list. All (TouchesLeg changes) (take i list)) (sym same) stands.touched))
 
-        pub stands-next : StandsBefore (i + 1) number job holdings' books'
-        stands-next = record {
+        pub StandsBefore-next_leg : StandsBefore (i + 1) number job holdings' books'
+        StandsBefore-next_leg = record {
           balances = after_leg leg balances;
           left = subst (λ list. IsLeft (planned_from number (last_commit_taken list) (after_leg leg balances) (i + 1) rest) books') (sym held)
-              (left-behind added behind books books' placed (subst (λ records. IsLeft (records ++ behind) books)
+              (IsLeft-placing_all added behind books books' placed (subst (λ records. IsLeft (records ++ behind) books)
               (sym records-are) left-leg));
           outcome = ap (λ list. outcome_alone (transfer_of job) (balance_taken list)) held
               ∙ outcome-at ∙ cond-false (lacks leg balances) _ _ (has can.payer) ∙ cond-false (overfills leg balances) _ _ fits;
@@ -309,5 +309,5 @@ module _ (accounts number : ℕ) (job : Job) (holdings : List TakenAccount) (boo
               (leg-sums leg balances (balance_taken books.held) changes (last_commit leg.0)
               (last_commit leg.1) account leg-allowed.two (covered can.payer) (stands.sums account));
           touched = touched';
-          uncommitted = uncommitted-behind added books books' placed (ap has_commit records-are) stands.uncommitted;
+          uncommitted = uncommitted-placing_all added books books' placed (ap has_commit records-are) stands.uncommitted;
         }

@@ -16,9 +16,9 @@ use Rattle.early_locks.specs.declared.taken.Taken.{Taken}
 use Rattle.early_locks.specs.Locks.{HasTaken, WasHeld, held_of}
 
 -- what a second call leaves as it was
-pub stays : (first second third : Seat) (entries : List Entry) (books : Books) → HasEntries first second entries books
+pub HasEntries-after_unchanged : (first second third : Seat) (entries : List Entry) (books : Books) → HasEntries first second entries books
     → HasEntries second third (view_of second).entries (view_of second).books → HasEntries first third entries books
-stays first second third entries books before after = record {
+HasEntries-after_unchanged first second third entries books before after = record {
   same = IsSameWorker-trans first second third before.same after.same;
   idle = after.idle;
   contended = after.contended ∙ before.contended;
@@ -27,11 +27,11 @@ stays first second third entries books before after = record {
 }
 
 -- the seat saw more, and its books are these
-pub changes : (old new : Seat) (seen : Seen) (books : Books) → (view_of old).call ≡ Idle
+pub Becomes-has_entries : (old new : Seat) (seen : Seen) (books : Books) → (view_of old).call ≡ Idle
     → Becomes old new (record (view_of old) { seen = seen; books = books })
     → (view_of old).seen.tail ≤ seen.tail → (view_of old).seen.exposed ≤ seen.exposed → (view_of old).seen.durable ≤ seen.durable
     → (view_of old).seen.steps ≤ seen.steps → HasEntries old new (view_of old).entries books
-changes old new seen books idle becomes tail exposed durable steps = record {
+Becomes-has_entries old new seen books idle becomes tail exposed durable steps = record {
   same = record {
     table_is = becomes.table_is;
     number = becomes.number;
@@ -50,18 +50,18 @@ changes old new seen books idle becomes tail exposed durable steps = record {
   books_are = ap (λ m. m.0.books) becomes.me;
 }
 
-pub taken-fits : (old new : Seat) (account : ℕ) (taken : Taken) → HasTaken old new account taken → taken.balance ≤ MOST_BALANCE
-taken-fits old new account taken has = omega (arith, has.balance, has.word.fits)
+pub HasTaken-balance_le : (old new : Seat) (account : ℕ) (taken : Taken) → HasTaken old new account taken → taken.balance ≤ MOST_BALANCE
+HasTaken-balance_le old new account taken has = omega (arith, has.balance, has.word.fits)
 
 either : {X Y Z : Type 0} (so : Bool) → MatchBool so X Y → (X → Z) → (Y → Z) → Z
 either true has f g = f has
 either false has f g = g has
 
 module _ (first second third : Seat) (account : ℕ) (before : HasEntries first second (view_of first).entries (view_of first).books) where
-  pub takes-one : (taken : Taken) → HasTaken second third account taken
+  pub HasTaken-has_entries : (taken : Taken) → HasTaken second third account taken
       → HasEntries first third (view_of first).entries (taking (held_of taken) (view_of first).books)
-  takes-one taken has =
-      let step = changes second third _ _ before.idle has.becomes (omega arith) (omega arith) (omega arith) (omega arith) in record {
+  HasTaken-has_entries taken has =
+      let step = Becomes-has_entries second third _ _ before.idle has.becomes (omega arith) (omega arith) (omega arith) (omega arith) in record {
         same = IsSameWorker-trans first second third before.same step.same;
         idle = step.idle;
         contended = step.contended ∙ before.contended;
@@ -73,8 +73,8 @@ module _ (first second third : Seat) (account : ℕ) (before : HasEntries first 
       → (view_of second).seen.exposed ≤ seen.exposed → (view_of second).seen.durable ≤ seen.durable → (view_of second).seen.steps ≤ seen.steps
       → HasEntries first third (view_of first).entries (view_of first).books
   saw seen becomes tail exposed durable steps =
-      stays _ _ _ _ _ before (changes second third seen (view_of second).books before.idle becomes tail exposed durable steps)
+      HasEntries-after_unchanged _ _ _ _ _ before (Becomes-has_entries second third seen (view_of second).books before.idle becomes tail exposed durable steps)
 
-  pub passes-one : (held : Held) → WasHeld second third account held → HasEntries first third (view_of first).entries (view_of first).books
-  passes-one held was = either held.loaded.held was (λ same. saw _ same.1 (omega arith) (omega arith) (omega arith) (omega arith))
+  pub WasHeld-has_entries : (held : Held) → WasHeld second third account held → HasEntries first third (view_of first).entries (view_of first).books
+  WasHeld-has_entries held was = either held.loaded.held was (λ same. saw _ same.1 (omega arith) (omega arith) (omega arith) (omega arith))
       (λ other. saw _ other.1 (omega arith) (omega arith) (omega arith) (omega arith))

@@ -34,17 +34,17 @@ use Rattle.txn_making.specs.Holdings.{account_of, taken_of, IsKnown, held_behind
 use Rattle.txn_making.specs.Inserts.{Adds, IsLeft, StopsFor}
 use Rattle.txn_making.specs.Legs.{AreHeld, HoldsJob, last_record}
 use Rattle.txn_runner.specs.Running.{LieInOrder, GaveBack, HasInserted, IsUncommittedAt, HasRun, HasCut}
-use Rattle.txn_making.proofs.Adding.{lie-longer, lie-sooner, placed-front}
-use Rattle.txn_making.proofs.Gaining.{all-known}
-use Rattle.txn_runner.proofs.PlanLemmas.{planned_records-some}
+use Rattle.txn_making.proofs.Adding.{LieInOrder-weaken_to, LieInOrder-weaken_from, in_order-placed_behind}
+use Rattle.txn_making.proofs.Gaining.{IsKnown-all}
+use Rattle.txn_runner.proofs.PlanLemmas.{planned_records-not_empty}
 use Rattle.txn_runner.specs.Stages.{HasTakenJob, MayMakeTransfer}
-use Rattle.txn_making.proofs.Held.{distinct, still-distinct, given-all, given-each, given-front, same-accounts, all-same, taken-behind, taken-first}
+use Rattle.txn_making.proofs.Held.{IsStrictlyIncreasing-distinct, AreDistinct-same, given_behind-contains, given_behind-all, given_behind-append, map_account_of-same, all_taken-same, HoldsTaken-held_behind, HoldsTaken-first}
 
 -- every account of a job that the table allows is one of the table's
-pub accounts-known : (accounts : ℕ) (legs : List (ℕ × ℕ × ℕ)) (list : List ℕ) → AllByRecursion (IsAllowedLeg accounts) legs
+pub IsAccountOf-below : (accounts : ℕ) (legs : List (ℕ × ℕ × ℕ)) (list : List ℕ) → AllByRecursion (IsAllowedLeg accounts) legs
     → All (IsAccountOf legs) list
     → All (λ account. account < accounts) list
-accounts-known accounts legs list allowed only k d within = known (only k d within)
+IsAccountOf-below accounts legs list allowed only k d within = known (only k d within)
   where
     known : {account : ℕ} → IsAccountOf legs account → account < accounts
     known (j, leg, inside, is, side) = let a = subst (IsAllowedLeg accounts) is
@@ -56,7 +56,7 @@ all-held : (books : Books) (holdings : List TakenAccount) (held : List TakenHere
     → AllByRecursion (λ (holding : TakenAccount). HoldsTaken holding.taken (record books { held = held_behind holdings held })) holdings
 all-held books [] held apart = tt
 all-held books (holding ∷ holdings) held apart = (
-  taken-behind books holdings (held_of holding.taken ∷ held) holding.taken apart.0 (taken-first books holding held),
+  HoldsTaken-held_behind books holdings (held_of holding.taken ∷ held) holding.taken apart.0 (HoldsTaken-first books holding held),
   all-held books holdings (held_of holding.taken ∷ held) apart.1,
 )
 
@@ -76,12 +76,12 @@ module _ (accounts number : ℕ) (job : Job) (list slice : List ℕ) (holdings :
   are-held : AreHeld holdings (view_of new).books
   are-held = subst (AreHeld holdings) (sym takes.entries.books_are)
       (All-from_recursion (λ (holding : TakenAccount). HoldsTaken holding.taken (holding_all holdings (view_of old).books)) holdings
-      (all-held (view_of old).books holdings [] (distinct holdings (subst IsStrictlyIncreasing (sym listed) rising))))
+      (all-held (view_of old).books holdings [] (IsStrictlyIncreasing-distinct holdings (subst IsStrictlyIncreasing (sym listed) rising))))
 
   -- the job may be run
-  pub holds-job : All (HasAccountsOf list) job.legs → (view_of old).books.last ≡ record { number = number; job = job }
+  pub TakesAll-holds_job : All (HasAccountsOf list) job.legs → (view_of old).books.last ≡ record { number = number; job = job }
       → HoldsJob accounts number job holdings (view_of new).books
-  holds-job all last = record {
+  TakesAll-holds_job all last = record {
     last = ap (λ (books : Books). books.last) takes.entries.books_are ∙ last;
     allowed = allowed;
     all = subst (λ xs. All (HasAccountsOf xs) job.legs) (sym listed) all;
@@ -90,15 +90,15 @@ module _ (accounts number : ℕ) (job : Job) (list slice : List ℕ) (holdings :
   }
 
   -- and its transfer made
-  pub may-make : All (HasAccountsOf list) job.legs → (view_of old).books.last ≡ record { number = number; job = job }
+  pub TakesAll-may_make_transfer : All (HasAccountsOf list) job.legs → (view_of old).books.last ≡ record { number = number; job = job }
       → (view_of old).books.placed ≡ [] → MayMakeTransfer accounts number job holdings (view_of new).books
-  may-make all last none = record {
-    holds = holds-job all last;
+  TakesAll-may_make_transfer all last none = record {
+    holds = TakesAll-holds_job all last;
     all = record {
-      distinct = distinct holdings (subst IsStrictlyIncreasing (sym listed) rising);
+      distinct = IsStrictlyIncreasing-distinct holdings (subst IsStrictlyIncreasing (sym listed) rising);
       held = ap (λ (books : Books). books.held) takes.entries.books_are;
     };
-    known = all-known accounts holdings list listed (accounts-known accounts job.legs list allowed.job.legs.each only);
+    known = IsKnown-all accounts holdings list listed (IsAccountOf-below accounts job.legs list allowed.job.legs.each only);
     unchanged = takes.unchanged;
     none = ap (λ (books : Books). books.placed) takes.entries.books_are ∙ none;
   }
@@ -107,13 +107,13 @@ module _ (accounts number : ℕ) (job : Job) (list slice : List ℕ) (holdings :
 module _ (accounts number : ℕ) (job : Job) (holdings paid : List TakenAccount) (books : Books)
     (may : MayMakeTransfer accounts number job holdings books) (same : map taken_of paid ≡ map taken_of holdings) where
   -- they are still the table's accounts
-  pub still-known : All (IsKnown accounts) paid
-  still-known = all-same holdings paid same (λ taken. taken.account < accounts) may.known
+  pub IsKnown-paid : All (IsKnown accounts) paid
+  IsKnown-paid = all_taken-same holdings paid same (λ taken. taken.account < accounts) may.known
 
   -- and all that is held
-  pub still-held : (later : Books) → later.held ≡ books.held → HoldsAll paid later
-  still-held later held = record {
-    distinct = still-distinct holdings paid same may.all.distinct;
+  pub HoldsAll-paid : (later : Books) → later.held ≡ books.held → HoldsAll paid later
+  HoldsAll-paid later held = record {
+    distinct = AreDistinct-same holdings paid same may.all.distinct;
     held = held ∙ may.all.held ∙ behind holdings [] ∙ ap (λ (list : List Taken). onto list []) (sym same) ∙ sym (behind paid []);
   }
     where
@@ -127,30 +127,30 @@ module _ (accounts number : ℕ) (job : Job) (holdings paid : List TakenAccount)
 
   -- each taken with the balance that is known of it
   still-as : All (λ (holding : TakenAccount). balance_taken books.held holding.taken.account ≡ holding.taken.balance) paid
-  still-as = all-same holdings paid same (λ taken. balance_taken books.held taken.account ≡ taken.balance)
+  still-as = all_taken-same holdings paid same (λ taken. balance_taken books.held taken.account ≡ taken.balance)
       (λ k d within. (may.holds.taken k d within).balance)
 
   -- a seat with this view gave them back
-  pub gave-back : (from view : View) (before : List Given) → from.books.last.number ≡ number
+  pub GaveBack-given_behind : (from view : View) (before : List Given) → from.books.last.number ≡ number
       → view.books.given ≡ given_behind from paid before
       → (gave : GaveBack number job (balance_taken books.held) before view) × All (IsGivenFrom from) gave.back
-  gave-back from view before own given = (
+  GaveBack-given_behind from view before own given = (
     record {
       back = given_behind from paid [];
-      given_are = given ∙ given-front from paid before;
+      given_are = given ∙ given_behind-append from paid before;
       own = said (λ one. one.txn ≡ number) (λ k d within. own);
       taken_as = said (λ one. balance_taken books.held one.account ≡ one.balance) still-as;
-      each = λ k d within. let both = all k d within in (given-all from paid [] _ both.0, given-all from paid [] _ both.1);
+      each = λ k d within. let both = all k d within in (given_behind-contains from paid [] _ both.0, given_behind-contains from paid [] _ both.1);
     },
     said (IsGivenFrom from) (λ k d within. record { tail = refl; durable = refl; committed = refl }),
   )
     where
       said : (P : Given → Type 0) → All (λ (holding : TakenAccount). P (given_at from holding.taken)) paid → All P (given_behind from paid [])
-      said P all = given-each from P paid []
+      said P all = given_behind-all from P paid []
           (recursion_from_All (λ (holding : TakenAccount). P (given_at from holding.taken)) paid all) (All-from_recursion P [] tt)
 
       all : All (HasAccountsOf (map account_of paid)) job.legs
-      all = subst (λ xs. All (HasAccountsOf xs) job.legs) (sym (same-accounts holdings paid same)) may.holds.all
+      all = subst (λ xs. All (HasAccountsOf xs) job.legs) (sym (map_account_of-same holdings paid same)) may.holds.all
 
 -- the entries and jobs stay
 pub record Keeps (old new : View) : Type 0 where
@@ -164,17 +164,17 @@ module _ (number : ℕ) (job : Job) (rest : List Rec) (first last : View) (secon
   abbrev held : List TakenHere
   held = (view_of second).books.held
 
-  pub all-entries : last.entries ≡ first.entries ++ added
-  all-entries = keeps.entries ∙ adds.entries.entries_are ∙ (λ i. taken.entries i ++ added)
+  pub entries-append_added : last.entries ≡ first.entries ++ added
+  entries-append_added = keeps.entries ∙ adds.entries.entries_are ∙ (λ i. taken.entries i ++ added)
 
-  pub all-within : LieInOrder first.seen.tail last.seen.tail added
-  all-within = lie-longer _ _ _ added keeps.grows (lie-sooner _ _ _ added taken.grows adds.within)
+  pub added-lie_in_order : LieInOrder first.seen.tail last.seen.tail added
+  added-lie_in_order = LieInOrder-weaken_to _ _ _ added keeps.grows (LieInOrder-weaken_from _ _ _ added taken.grows adds.within)
 
-  pub all-jobs : last.books.jobs ≡ record { number = number; job = job } ∷ first.books.jobs
-  all-jobs = keeps.jobs ∙ ap (λ (b : Books). b.jobs) adds.entries.books_are ∙ taken.jobs
+  pub books_jobs-first : last.books.jobs ≡ record { number = number; job = job } ∷ first.books.jobs
+  books_jobs-first = keeps.jobs ∙ ap (λ (b : Books). b.jobs) adds.entries.books_are ∙ taken.jobs
 
-  pub all-planned : records_of added ++ rest ≡ planned_records number (transfer_of job) (last_commit_taken held) (balance_taken held)
-  all-planned = sym (placed-front added (view_of second).books.placed rest
+  pub added-planned_records : records_of added ++ rest ≡ planned_records number (transfer_of job) (last_commit_taken held) (balance_taken held)
+  added-planned_records = sym (in_order-placed_behind added (view_of second).books.placed rest
       ∙ (λ i. in_order (recs_of (taken.none i)) (records_of added ++ rest)))
       ∙ subst (IsLeft rest) adds.entries.books_are left
       ∙ (λ i. planned_records (taken.last i).number (transfer_of (taken.last i).job) (last_commit_taken held) (balance_taken held))
@@ -185,10 +185,10 @@ module _ (number : ℕ) (job : Job) (rest : List Rec) (first last : View) (secon
     balances = balance_taken held;
     last_commits = last_commit_taken held;
     added = added;
-    entries = all-entries;
-    within = all-within;
-    plan = all-planned;
-    jobs = all-jobs;
+    entries = entries-append_added;
+    within = added-lie_in_order;
+    plan = added-planned_records;
+    jobs = books_jobs-first;
   }
 
 stops-held : (cause : Cause) (rest : List Rec) (held : List TakenHere) (back : List TakenAccount) (view : View) → StopsFor cause rest view
@@ -197,35 +197,35 @@ stops-held (Stop word) rest list back view stops = stops
 stops-held (LogEnd tail total) [] list back view stops = stops
 stops-held (LogEnd tail total) (next ∷ rest) list back view stops = stops
 
-pub still-stops : (cause : Cause) (rest : List Rec) (held : List TakenHere) (back : List TakenAccount) (first second : Seat)
+pub StopsFor-with_held : (cause : Cause) (rest : List Rec) (held : List TakenHere) (back : List TakenAccount) (first second : Seat)
     → Becomes first second (with_held held back (view_of first))
     → StopsFor cause rest (view_of first) → StopsFor cause rest (view_of second)
-still-stops cause rest held back first second becomes stops =
+StopsFor-with_held cause rest held back first second becomes stops =
     subst (StopsFor cause rest) (sym (ap (λ m. m.0) becomes.me)) (stops-held cause rest held back (view_of first) stops)
 
 -- the accounts were given back by a seat that saw this tail, and had placed no Commit
-pub uncommitted-at : (from new : View) (back : List Given) → All (IsGivenFrom from) back → from.seen.tail ≡ new.seen.tail
+pub IsGivenFrom-uncommitted : (from new : View) (back : List Given) → All (IsGivenFrom from) back → from.seen.tail ≡ new.seen.tail
     → has_commit (recs_of from.books.placed) ≡ false → All (IsUncommittedAt new.seen.tail) back
-uncommitted-at from new back all same none k d within = let one = all k d within in (one.committed ∙ none, one.tail ∙ same)
+IsGivenFrom-uncommitted from new back all same none k d within = let one = all k d within in (one.committed ∙ none, one.tail ∙ same)
 
-pub has-cut : (number : ℕ) (job : Job) (wait : Bool) (cause : Cause) (rest : List Rec) (old new : View) (inserted : HasInserted number job rest old new)
+pub HasCut-rest_left : (number : ℕ) (job : Job) (wait : Bool) (cause : Cause) (rest : List Rec) (old new : View) (inserted : HasInserted number job rest old new)
     → (gave : GaveBack number job inserted.balances old.books.given new) → All (IsUncommittedAt new.seen.tail) gave.back
     → rest ≢ [] → StopsFor cause rest new → HasCut number job wait cause old new
-has-cut number job wait (Stop word) rest old new inserted gave none some stops = (rest, inserted, λ none. absurd (some none), stops.0, stops.1)
-has-cut number job wait (LogEnd tail total) [] old new inserted gave none some stops = absurd stops
-has-cut number job wait (LogEnd tail total) (next ∷ rest) old new inserted gave none some stops =
+HasCut-rest_left number job wait (Stop word) rest old new inserted gave none some stops = (rest, inserted, λ none. absurd (some none), stops.0, stops.1)
+HasCut-rest_left number job wait (LogEnd tail total) [] old new inserted gave none some stops = absurd stops
+HasCut-rest_left number job wait (LogEnd tail total) (next ∷ rest) old new inserted gave none some stops =
     (next, rest, inserted, gave, subst (λ t. All (IsUncommittedAt t) gave.back) (sym stops.2) none, stops.0, stops.1, stops.2, stops.3)
 
 -- no record is left, but the worker waits
-pub has-stopped : (number : ℕ) (job : Job) (wait : Bool) (cause : Cause) (old new : View) → HasInserted number job [] old new → wait ≡ true
+pub HasCut-waiting : (number : ℕ) (job : Job) (wait : Bool) (cause : Cause) (old new : View) → HasInserted number job [] old new → wait ≡ true
     → StopsFor cause [] new → HasCut number job wait cause old new
-has-stopped number job wait (Stop word) old new inserted waits stops = ([], inserted, λ none. waits, stops.0, stops.1)
-has-stopped number job wait (LogEnd tail total) old new inserted waits stops = absurd stops
+HasCut-waiting number job wait (Stop word) old new inserted waits stops = ([], inserted, λ none. waits, stops.0, stops.1)
+HasCut-waiting number job wait (LogEnd tail total) old new inserted waits stops = absurd stops
 
 -- the transfer is cut off before its first record
-pub cut-early : (number : ℕ) (job : Job) (wait : Bool) (cause : Cause) (old mid new : View) → HasTakenJob number job old mid → Keeps mid new
+pub HasCut-none_inserted : (number : ℕ) (job : Job) (wait : Bool) (cause : Cause) (old mid new : View) → HasTakenJob number job old mid → Keeps mid new
     → StopsFor cause [] new → HasCut number job wait cause old new
-cut-early number job wait (Stop word) old mid new taken keeps stops = (
+HasCut-none_inserted number job wait (Stop word) old mid new taken keeps stops = (
   planned_records number (transfer_of job) (λ _. 0) (λ _. 0),
   record {
     balances = λ _. 0;
@@ -236,11 +236,11 @@ cut-early number job wait (Stop word) old mid new taken keeps stops = (
     plan = refl;
     jobs = keeps.jobs ∙ taken.jobs;
   },
-  λ none. absurd (planned_records-some number (transfer_of job) (λ _. 0) (λ _. 0) none),
+  λ none. absurd (planned_records-not_empty number (transfer_of job) (λ _. 0) (λ _. 0) none),
   stops.0,
   stops.1,
 )
-cut-early number job wait (LogEnd tail total) old mid new taken keeps stops = absurd stops
+HasCut-none_inserted number job wait (LogEnd tail total) old mid new taken keeps stops = absurd stops
 
 one-unit : (number : ℕ) (job : Job) (answer : Answer) → size_of (last_record number job answer) ≡ 1
 one-unit number job answer.Done = refl
@@ -252,13 +252,13 @@ lie-last from to [] entry lie = lie.0
 lie-last from to (other ∷ entries) entry lie = let after = lie-last (other.start + other.size) to entries entry lie.1 in
     omega (arith, lie.0, after)
 
-pub has-run : (number : ℕ) (job : Job) (wait : Bool) (ended : TransferEnd) (seen : ℕ) (holdings : List TakenAccount) (first last : View) (second third : Seat)
+pub EndsTransfer-has_run : (number : ℕ) (job : Job) (wait : Bool) (ended : TransferEnd) (seen : ℕ) (holdings : List TakenAccount) (first last : View) (second third : Seat)
     → HasTakenJob number job first (view_of second) → EndsTransfer number job ended holdings second third → Keeps (view_of third) last
     → seen ≡ last.seen.durable → (wait ≡ true → ended.end ≤ seen)
     → (gave : GaveBack number job (balance_taken (view_of second).books.held) first.books.given last)
     → All (λ (one : Given). one.durable ≡ seen) gave.back
     → HasRun number job wait (record { txn = number; answer = ended.answer; end = ended.end; seen = seen }) first last
-has-run number job wait ended seen holdings first last second third taken ends keeps durable waited gave at_seen = record {
+EndsTransfer-has_run number job wait ended seen holdings first last second third taken ends keeps durable waited gave at_seen = record {
   inserted = has-inserted number job [] first last second third (ends.before ++ end ∷ []) taken ends.adds ends.left keeps;
   txn = refl;
   outcome = ends.outcome;

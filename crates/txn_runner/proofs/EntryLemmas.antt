@@ -15,9 +15,9 @@ records_of-append [] ys = refl
 records_of-append (x ∷ xs) ys = ap (λ records. x.rec ∷ records) (records_of-append xs ys)
 
 -- what holds of the records holds of each entry's
-pub all-records : (P : Rec → Type 0) (xs : List Entry) → AllByRecursion P (records_of xs) → AllByRecursion (λ (entry : Entry). P entry.rec) xs
-all-records P [] all = tt
-all-records P (x ∷ xs) all = (all.0, all-records P xs all.1)
+pub records_of-all : (P : Rec → Type 0) (xs : List Entry) → AllByRecursion P (records_of xs) → AllByRecursion (λ (entry : Entry). P entry.rec) xs
+records_of-all P [] all = tt
+records_of-all P (x ∷ xs) all = (all.0, records_of-all P xs all.1)
 
 pub own_records-append : (number : ℕ) (xs ys : List Entry) → own_records number (xs ++ ys) ≡ own_records number xs ++ own_records number ys
 own_records-append number xs ys = ap (filter (λ rec. txn_of rec == number)) (records_of-append xs ys)
@@ -36,24 +36,24 @@ own_records-all number (x ∷ xs) own =
     ap (λ b. cond b (x.rec ∷ own_records number xs) (own_records number xs)) (eq-eqb (txn_of x.rec) number own.0)
     ∙ ap (λ records. x.rec ∷ records) (own_records-all number xs own.1)
 
-pub LieInOrder-grows : (from to : ℕ) (xs : List Entry) → LieInOrder from to xs → from ≤ to
-LieInOrder-grows from to [] order = order
-LieInOrder-grows from to (x ∷ xs) order = omega (arith, order.0, LieInOrder-grows (x.start + x.size) to xs order.1)
+pub LieInOrder-le : (from to : ℕ) (xs : List Entry) → LieInOrder from to xs → from ≤ to
+LieInOrder-le from to [] order = order
+LieInOrder-le from to (x ∷ xs) order = omega (arith, order.0, LieInOrder-le (x.start + x.size) to xs order.1)
 
-pub LieInOrder-from : (from since to : ℕ) (xs : List Entry) → from ≤ since → LieInOrder since to xs → LieInOrder from to xs
-LieInOrder-from from since to [] before order = omega (arith, before, order)
-LieInOrder-from from since to (x ∷ xs) before order = (omega (arith, before, order.0), order.1)
+pub LieInOrder-weaken_from : (from since to : ℕ) (xs : List Entry) → from ≤ since → LieInOrder since to xs → LieInOrder from to xs
+LieInOrder-weaken_from from since to [] before order = omega (arith, before, order)
+LieInOrder-weaken_from from since to (x ∷ xs) before order = (omega (arith, before, order.0), order.1)
 
 pub LieInOrder-append : (from mid to : ℕ) (xs ys : List Entry) → LieInOrder from mid xs → LieInOrder mid to ys → LieInOrder from to (xs ++ ys)
-LieInOrder-append from mid to [] ys first second = LieInOrder-from from mid to ys first second
+LieInOrder-append from mid to [] ys first second = LieInOrder-weaken_from from mid to ys first second
 LieInOrder-append from mid to (x ∷ xs) ys first second = (first.0, LieInOrder-append (x.start + x.size) mid to xs ys first.1 second)
 
 -- each starts at the first LSN or above it, and ends at the last or below it
 pub LieInOrder-starts : (from to : ℕ) (xs : List Entry) → LieInOrder from to xs → AllByRecursion (λ (entry : Entry). from ≤ entry.start) xs
 LieInOrder-starts from to [] order = tt
 LieInOrder-starts from to (x ∷ xs) order =
-    (order.0, LieInOrder-starts from to xs (LieInOrder-from from (x.start + x.size) to xs (omega (arith, order.0)) order.1))
+    (order.0, LieInOrder-starts from to xs (LieInOrder-weaken_from from (x.start + x.size) to xs (omega (arith, order.0)) order.1))
 
 pub LieInOrder-ends : (from to : ℕ) (xs : List Entry) → LieInOrder from to xs → AllByRecursion (λ (entry : Entry). entry.start + entry.size ≤ to) xs
 LieInOrder-ends from to [] order = tt
-LieInOrder-ends from to (x ∷ xs) order = (LieInOrder-grows (x.start + x.size) to xs order.1, LieInOrder-ends (x.start + x.size) to xs order.1)
+LieInOrder-ends from to (x ∷ xs) order = (LieInOrder-le (x.start + x.size) to xs order.1, LieInOrder-ends (x.start + x.size) to xs order.1)

@@ -7,7 +7,7 @@ use Rattle.lock_core.specs.declared.job.Job.{Job}
 use Rattle.lock_core.specs.Transfers.{IsAllowedJob}
 use Rattle.log_rule.specs.declared.view.TakenJob.{TakenJob}
 use Rattle.log_rule.specs.Accounts.{MayBeTaken}
-use Rattle.txn_jobs.proofs.Rising.{Rises-few}
+use Rattle.txn_jobs.proofs.Rising.{Rises-length_le}
 use Rattle.job_queue.specs.declared.queue.Queue.{Queue}
 use Rattle.job_queue.specs.declared.rows.Rows.{Rows}
 use Rattle.job_queue.specs.Passes.{KeepsRows, TakesPlace}
@@ -47,22 +47,22 @@ module _ (jobs : NumberedJobs) where
   HasRoomForRows-none rows empty none enough = omega (arith, ap length empty, ap length none, enough)
 
   -- one more was taken, and its row put
-  pub HasRoomForRows-next : (old new : Rows) (place : ℕ) → HasRoomForRows jobs old → places_in new ≡ places_in old ++ place ∷ []
+  pub HasRoomForRows-push : (old new : Rows) (place : ℕ) → HasRoomForRows jobs old → places_in new ≡ places_in old ++ place ∷ []
       → length (rows_in new) ≤ length (rows_in old) + 1 → room_of new ≡ room_of old → HasRoomForRows jobs new
-  HasRoomForRows-next old new place room places more same =
+  HasRoomForRows-push old new place room places more same =
       omega (arith, room, ap length places, length-append (places_in old) (place ∷ []), more, same)
 
 -- The rows' pass took a place, above the others, which rise.
 module _ (queue : Queue) (number : ℕ) (job : Job) (old new : Rows) (takes : TakesPlace queue number job old new) (rises : Rises (places_in old)) where
   places-few : length (places_in old) ≤ takes.place
-  places-few = Rises-few (places_in old) takes.place rises takes.above
+  places-few = Rises-length_le (places_in old) takes.place rises takes.above
 
   -- there is room for the row of its transfer
-  pub HasRoomForRows-now : HasRoomForRows (jobs_of queue) old → KeepsRows old new → length (rows_in new) < room_of new
-  HasRoomForRows-now room kept = omega (arith, room, places-few, takes.within, ap length kept.rows, kept.room)
+  pub HasRoomForRows-room_left : HasRoomForRows (jobs_of queue) old → KeepsRows old new → length (rows_in new) < room_of new
+  HasRoomForRows-room_left room kept = omega (arith, room, places-few, takes.within, ap length kept.rows, kept.room)
 
   -- fewer are left
-  pub places-nearer : (later : Rows) → places_in later ≡ places_in old ++ takes.place ∷ []
+  pub places_in-fewer_left : (later : Rows) → places_in later ≡ places_in old ++ takes.place ∷ []
       → length queue.script - length (places_in later) < length queue.script - length (places_in old)
-  places-nearer later places =
+  places_in-fewer_left later places =
       omega (arith, places-few, takes.within, ap length places, length-append (places_in old) (takes.place ∷ []))

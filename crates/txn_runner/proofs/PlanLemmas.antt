@@ -26,8 +26,8 @@ planned_from-own txn last_commit balance k (leg ∷ legs) =
     by_case false true own = (refl, tt)
     by_case false false own = (refl, (refl, own))
 
-pub planned_records-own : (txn : ℕ) (job : PlainTransfer) (last_commit balance : ℕ → ℕ) → AllByRecursion (IsRecordOf txn) (planned_records txn job last_commit balance)
-planned_records-own txn job last_commit balance = by_note job.note
+pub planned_records-all_of_txn : (txn : ℕ) (job : PlainTransfer) (last_commit balance : ℕ → ℕ) → AllByRecursion (IsRecordOf txn) (planned_records txn job last_commit balance)
+planned_records-all_of_txn txn job last_commit balance = by_note job.note
   where
     by_note : (note : List ℕ) → AllByRecursion (IsRecordOf txn) (with_note txn note (planned_from txn last_commit balance 0 job.legs))
     by_note [] = planned_from-own txn last_commit balance 0 job.legs
@@ -75,20 +75,20 @@ planned_records-last txn job last_commit balance = by_note job.note
         (planned_from-last txn last_commit balance 0 job.legs)
 
 -- a transfer has a record
-pub planned_records-some : (txn : ℕ) (job : PlainTransfer) (last_commit balance : ℕ → ℕ) → planned_records txn job last_commit balance ≢ []
-planned_records-some txn job last_commit balance none = subst EndsOnlyLast none (planned_records-last txn job last_commit balance)
+pub planned_records-not_empty : (txn : ℕ) (job : PlainTransfer) (last_commit balance : ℕ → ℕ) → planned_records txn job last_commit balance ≢ []
+planned_records-not_empty txn job last_commit balance none = subst EndsOnlyLast none (planned_records-last txn job last_commit balance)
 
 -- where records of it are left, none of those before them is its end record
-pub planned_records-front : (txn : ℕ) (job : PlainTransfer) (last_commit balance : ℕ → ℕ) (records rest : List Rec)
+pub planned_records-front_no_end : (txn : ℕ) (job : PlainTransfer) (last_commit balance : ℕ → ℕ) (records rest : List Rec)
     → records ++ rest ≡ planned_records txn job last_commit balance → rest ≢ [] → AllByRecursion (λ rec. ends rec ≡ false) records
-planned_records-front txn job last_commit balance records [] are some = absurd (some refl)
-planned_records-front txn job last_commit balance records (next ∷ rest) are some = ends_only_last-front records next rest
+planned_records-front_no_end txn job last_commit balance records [] are some = absurd (some refl)
+planned_records-front_no_end txn job last_commit balance records (next ∷ rest) are some = ends_only_last-front records next rest
     (subst EndsOnlyLast (sym are) (planned_records-last txn job last_commit balance))
 
-pub end_record-own : (txn : ℕ) (job : PlainTransfer) (outcome : Outcome) → txn_of (end_record txn job outcome) ≡ txn
-end_record-own txn job Done = refl
-end_record-own txn job (ShortAt leg) = refl
-end_record-own txn job (OverAt leg) = refl
+pub end_record-txn : (txn : ℕ) (job : PlainTransfer) (outcome : Outcome) → txn_of (end_record txn job outcome) ≡ txn
+end_record-txn txn job Done = refl
+end_record-txn txn job (ShortAt leg) = refl
+end_record-txn txn job (OverAt leg) = refl
 
 pub end_record-ends : (txn : ℕ) (job : PlainTransfer) (outcome : Outcome) → ends (end_record txn job outcome) ≡ true
 end_record-ends txn job Done = refl

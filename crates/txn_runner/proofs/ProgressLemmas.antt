@@ -17,9 +17,9 @@ use Rattle.txn_runner.specs.Running.{HasInserted, HasRun, HasCut}
 use Rattle.txn_runner.specs.Places.{NumberedJobs, number_at, job_at, jobs_taken}
 use Rattle.txn_runner.specs.Working.{rows_in, room_of, marks_in, EndsByMark, HasWorked, KeepsEntries, TakesJobs, Works, AddsRows}
 use Rattle.txn_runner.proofs.RowLemmas.{AddsRows-push, AddsRows-cut}
-use Rattle.txn_making.proofs.GivenLemmas.{given-same, given-trans}
+use Rattle.txn_making.proofs.GivenLemmas.{KeepsGiven-same, KeepsGiven-trans}
 use Rattle.txn_runner.proofs.PlaceLemmas.{jobs_taken-push}
-use Rattle.txn_runner.proofs.WorkLemmas.{IsNextJob, at-place, HasWorked-next, HaveEnded-next, HaveEnded-still, IsCutBy-next}
+use Rattle.txn_runner.proofs.WorkLemmas.{IsNextJob, IsNextJob-same_at_place, HasWorked-push, HaveEnded-push, HaveEnded-more, HasCut-is_cut_by}
 
 -- it took the transfers at the places `taken`, those of before first; each of the others has its end record and its row
 pub record Progress (jobs : NumberedJobs) (start taken : List ℕ) (wait : Bool) (rows_first rows : Rows) (first view : View) : Type 0 where
@@ -31,12 +31,12 @@ pub record Progress (jobs : NumberedJobs) (start taken : List ℕ) (wait : Bool)
   pub adds : AddsRows jobs start taken wait All rows_first rows first view
 
 -- before the first transfer
-pub Progress-first : (jobs : NumberedJobs) (start : List ℕ) (wait : Bool) (rows : Rows) (view : View) → HasWorked jobs start view
+pub Progress-none : (jobs : NumberedJobs) (start : List ℕ) (wait : Bool) (rows : Rows) (view : View) → HasWorked jobs start view
     → Progress jobs start start wait rows rows view view
-Progress-first jobs start wait rows view worked = record {
+Progress-none jobs start wait rows view worked = record {
   worked = worked;
   kept = record { added = []; entries = sym (append-nil view.entries) };
-  given = given-same view view refl;
+  given = KeepsGiven-same view view refl;
   takes = record { taken = []; places = sym (append-nil start); jobs_are = refl };
   works = ([], sym (append-nil start), tt);
   adds = record {
@@ -116,46 +116,46 @@ module _ (jobs : NumberedJobs) (start mid : List ℕ) (last : ℕ) (wait : Bool)
     (progress : Progress jobs start mid wait rows_first rows_old first old) (number : ℕ) (job : Job) (next : IsNextJob jobs mid last number job)
     (since : SawNoLess first old) (later : SawNoLess old new) (given : KeepsGiven old new) (room : room_of rows_new ≡ room_of rows_old) where
   -- one transfer more was run, and its row put
-  pub Progress-next : (row : Row) → HasRun number job wait row old new → rows_in rows_new ≡ rows_in rows_old ++ row ∷ []
+  pub Progress-push : (row : Row) → HasRun number job wait row old new → rows_in rows_new ≡ rows_in rows_old ++ row ∷ []
       → Progress jobs start (mid ++ last ∷ []) wait rows_first rows_new first new
-  Progress-next row has_run rows = record {
-    worked = HasWorked-next jobs mid last next.above [] old new run.inserted progress.worked next.within;
+  Progress-push row has_run rows = record {
+    worked = HasWorked-push jobs mid last next.above [] old new run.inserted progress.worked next.within;
     kept = still-kept _ _ [] first old new progress.kept run.inserted;
-    given = given-trans first old new progress.given given;
+    given = KeepsGiven-trans first old new progress.given given;
     takes = TakesJobs-next jobs start mid last [] first old new progress.takes run.inserted;
     works = (
       progress.works.0 ++ last ∷ [],
       longer start mid progress.works.0 last progress.works.1,
-      HaveEnded-next jobs mid last next.above wait row old new run progress.works.0 progress.works.2,
+      HaveEnded-push jobs mid last next.above wait row old new run progress.works.0 progress.works.2,
     );
     adds = AddsRows-push jobs start mid last wait rows_first rows_old rows_new first old new progress.adds room row run progress.worked.below
         since.tail since.durable later.durable given rows;
   }
     where
       run : HasRun (number_at jobs last) (job_at jobs last) wait row old new
-      run = at-place jobs mid last number job next (λ n j. HasRun n j wait row old new) has_run
+      run = IsNextJob-same_at_place jobs mid last number job next (λ n j. HasRun n j wait row old new) has_run
 
   -- one transfer more was taken, and cut off
-  pub Progress-cut : (cause : Cause) → HasCut number job wait cause old new → rows_in rows_new ≡ rows_in rows_old
+  pub Stopped-cut : (cause : Cause) → HasCut number job wait cause old new → rows_in rows_new ≡ rows_in rows_old
       → Stopped jobs start (mid ++ last ∷ []) wait rows_first rows_new first new (Cut cause)
-  Progress-cut cause has_cut rows = record {
-    worked = HasWorked-next jobs mid last next.above (inserted.0) old new inserted.1 progress.worked next.within;
+  Stopped-cut cause has_cut rows = record {
+    worked = HasWorked-push jobs mid last next.above (inserted.0) old new inserted.1 progress.worked next.within;
     kept = still-kept _ _ (inserted.0) first old new progress.kept inserted.1;
-    given = given-trans first old new progress.given given;
+    given = KeepsGiven-trans first old new progress.given given;
     takes = TakesJobs-next jobs start mid last (inserted.0) first old new progress.takes inserted.1;
     works = (
       progress.works.0,
       last,
       longer start mid progress.works.0 last progress.works.1,
-      HaveEnded-still jobs mid last next.above (inserted.0) old new inserted.1 progress.works.0 progress.works.2,
-      IsCutBy-next jobs mid last next.above wait cause old new progress.worked cut,
+      HaveEnded-more jobs mid last next.above (inserted.0) old new inserted.1 progress.works.0 progress.works.2,
+      HasCut-is_cut_by jobs mid last next.above wait cause old new progress.worked cut,
     );
     adds = AddsRows-cut jobs start mid last wait rows_first rows_old rows_new first old new progress.adds room cause
         record { added = inserted.1.added; entries = inserted.1.entries; durable = later.durable; given = given } rows;
   }
     where
       cut : HasCut (number_at jobs last) (job_at jobs last) wait cause old new
-      cut = at-place jobs mid last number job next (λ n j. HasCut n j wait cause old new) has_cut
+      cut = IsNextJob-same_at_place jobs mid last number job next (λ n j. HasCut n j wait cause old new) has_cut
 
       inserted : (rest : List Rec) × HasInserted (number_at jobs last) (job_at jobs last) rest old new
       inserted = inserted-in (number_at jobs last) (job_at jobs last) wait cause old new cut
@@ -164,7 +164,7 @@ module _ (jobs : NumberedJobs) (start mid : List ℕ) (last : ℕ) (wait : Bool)
   pub Progress-told : (made : Result Row Cause) (told : Option Worked) → IsTold made told (rows_in rows_old) (rows_in rows_new)
       → IfOk made (λ row. HasRun number job wait row old new)
       → IfNone told (Progress jobs start (mid ++ last ∷ []) wait rows_first rows_new first new)
-  Progress-told (Ok row) None put run = Progress-next row run put
+  Progress-told (Ok row) None put run = Progress-push row run put
   Progress-told (Ok row) (Some ended) put run = tt
   Progress-told (Err cause) None put run = absurd put
   Progress-told (Err cause) (Some ended) put run = tt
@@ -176,7 +176,7 @@ module _ (jobs : NumberedJobs) (start mid : List ℕ) (last : ℕ) (wait : Bool)
   Stopped-told (Ok row) (Some ended) put cut = absurd put
   Stopped-told (Err cause) None put cut = tt
   Stopped-told (Err cause) (Some ended) put cut = subst (Stopped jobs start (mid ++ last ∷ []) wait rows_first rows_new first new) (sym put.0)
-      (Progress-cut cause cut put.1)
+      (Stopped-cut cause cut put.1)
 
 -- a seat that had no job has just those that it took
 pub jobs-from_none : (jobs : NumberedJobs) (before taken : List ℕ) (old new : View) → before ≡ [] → old.books.jobs ≡ []
@@ -186,11 +186,11 @@ jobs-from_none jobs before taken old new none no_jobs takes = takes.jobs_are ∙
     ∙ (append-nil _ ∙ ap (jobs_taken jobs) (sym (takes.places ∙ ap (λ l. l ++ takes.taken) none))))
 
 -- there is room for the rows of the transfers that are left, as a row was put or none
-pub told-longer : (made : Result Row Cause) (told : Option Worked) (old new : List Row) → IsTold made told old new → length new ≤ length old + 1
-told-longer (Ok row) None old new put = omega (arith, ap length put, length-append old (row ∷ []))
-told-longer (Ok row) (Some ended) old new put = absurd put
-told-longer (Err cause) None old new put = absurd put
-told-longer (Err cause) (Some ended) old new put = omega (arith, ap length put.1)
+pub IsTold-one_row_at_most : (made : Result Row Cause) (told : Option Worked) (old new : List Row) → IsTold made told old new → length new ≤ length old + 1
+IsTold-one_row_at_most (Ok row) None old new put = omega (arith, ap length put, length-append old (row ∷ []))
+IsTold-one_row_at_most (Ok row) (Some ended) old new put = absurd put
+IsTold-one_row_at_most (Err cause) None old new put = absurd put
+IsTold-one_row_at_most (Err cause) (Some ended) old new put = omega (arith, ap length put.1)
 
 -- where a transfer was cut off, so was the worker, which may take its mark yet
 pub EndsByMark-told : (made : Result Row Cause) (worked : Worked) (rows : Rows) (old new : List Row) → IsTold made (Some worked) old new

@@ -1,7 +1,7 @@
 -- A worker's rows, and one more behind them. `old` and `new` are its seat's view before and after the transfer that it tells.
 use Rattle.std.proofs.Common.{◌≡◌, ◌∙◌, ℕ, ◌+◌, ◌<◌, ◌≤◌, Bool, List, [], ◌∷◌, ◌++◌, length, map, Contains, refl, sym, ap, subst, arith, length-append, append_assoc}
 use Rattle.std.proofs.lemmas.List.Elements.{Contains-append_left, Contains-append_right, Contains-push, All-contains, All-from_recursion, recursion_from_All}
-use Rattle.lsn_space.proofs.TilingLemmas.{all-weaker}
+use Rattle.lsn_space.proofs.TilingLemmas.{all-weaken}
 use Rattle.lock_core.specs.Alone.{end_record}
 use Rattle.log_rule.specs.declared.view.Entry.{Entry}
 use Rattle.log_rule.specs.declared.view.Given.{Given}
@@ -16,7 +16,7 @@ use Rattle.txn_runner.specs.Running.{outcome_of, LieInOrder, account_given, HasR
 use Rattle.txn_runner.specs.Places.{NumberedJobs, number_at, job_at}
 use Rattle.txn_runner.specs.Working.{rows_in, room_of, IsGivenAt, AreGivenAt, TellsEnd, AreRowsOf, AddsRows}
 use Rattle.txn_runner.proofs.EntryLemmas.{LieInOrder-ends}
-use Rattle.txn_making.proofs.Held.{account-given}
+use Rattle.txn_making.proofs.Held.{account_given-found}
 
 -- the view has more entries, has seen no smaller durable LSN, and has more accounts given back
 pub record Goes (old new : View) : Type 0 where
@@ -56,7 +56,7 @@ module _ (jobs : NumberedJobs) (wait : Bool) (old new : View) (goes : Goes old n
     end_is = tells.end_is;
     seen = omega (arith, tells.seen, goes.durable);
     waited = tells.waited;
-    gave = all-weaker (AreGivenAt row.txn row.seen old.books.given) (AreGivenAt row.txn row.seen new.books.given) (job_at jobs place).legs
+    gave = all-weaken (AreGivenAt row.txn row.seen old.books.given) (AreGivenAt row.txn row.seen new.books.given) (job_at jobs place).legs
         (λ leg both. (IsGivenAt-still row.txn row.seen leg.0 both.0, IsGivenAt-still row.txn row.seen leg.1 both.1)) tells.gave;
   }
 
@@ -110,7 +110,7 @@ TellsEnd-run jobs place wait row old new run = record {
 }
   where
     at : (account : ℕ) → Contains (map account_given run.given.back) account → IsGivenAt row.txn row.seen new.books.given account
-    at account has = let one = account-given run.given.back account has in record {
+    at account has = let one = account_given-found run.given.back account has in record {
       back = one.0;
       contains = subst (λ l. Contains l one.0) (sym run.given.given_are) (Contains-append_left run.given.back old.books.given one.0 one.1);
       txn = All-contains (λ (given : Given). given.txn ≡ number_at jobs place) run.given.back one.0 run.given.own one.1 ∙ sym run.txn;

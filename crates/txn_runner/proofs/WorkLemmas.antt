@@ -3,7 +3,7 @@
 use Rattle.std.proofs.Common.{◌≡◌, ◌≢◌, ◌⊎◌, inl, inr, ⊎_elim, ◌∙◌, ℕ, ◌+◌, ◌<◌, ◌≤◌, List, [], ◌∷◌, ◌++◌, length, All, Contains, sym, ap, subst, arith, refl, Bool, true, false, true≢false}
 use Rattle.std.proofs.lemmas.List.Elements.{All-contains, All-from_recursion, recursion_from_All, Contains-append_cases, Contains-append_left, Contains-append_right, Contains-push, Contains-push_cases}
 use Rattle.std.specs.List.{AllByRecursion}
-use Rattle.lsn_space.proofs.TilingLemmas.{all-weaker}
+use Rattle.lsn_space.proofs.TilingLemmas.{all-weaken}
 use Rattle.log_record.specs.declared.rec.Rec.{Rec}
 use Rattle.lock_core.specs.Records.{txn_of, ends}
 use Rattle.lock_core.proofs.ListLemmas.{all-append, all-split}
@@ -28,8 +28,8 @@ use Rattle.job_queue.specs.Passes.{jobs_of, places_in, TakesPlace}
 use Rattle.txn_runner.specs.Running.{outcome_of, LieInOrder, IsUncommittedAt, HasInserted, HasRun, HasCut}
 use Rattle.txn_runner.specs.Places.{NumberedJobs, number_at, job_at, taken_at, jobs_taken, IsOneOf}
 use Rattle.txn_runner.specs.Working.{LieInTurn, HasWorked, HasEnd, HaveEnded, own_records, IsCutBy, Works}
-use Rattle.txn_runner.proofs.EntryLemmas.{all-records, own_records-append, own_records-none, own_records-all, LieInOrder-append, LieInOrder-starts, LieInOrder-ends}
-use Rattle.txn_runner.proofs.PlanLemmas.{IsRecordOf, planned_records-own, planned_records-front, end_record-own, end_record-ends}
+use Rattle.txn_runner.proofs.EntryLemmas.{records_of-all, own_records-append, own_records-none, own_records-all, LieInOrder-append, LieInOrder-starts, LieInOrder-ends}
+use Rattle.txn_runner.proofs.PlanLemmas.{IsRecordOf, planned_records-all_of_txn, planned_records-front_no_end, end_record-txn, end_record-ends}
 use Rattle.txn_jobs.proofs.Rising.{Rises-push}
 use Rattle.txn_runner.proofs.PlaceLemmas.{jobs_taken-push, jobs_taken-below, taken_at-allowed}
 
@@ -61,8 +61,8 @@ HasEnd-append number entries added ended = record {
 
 module _ (jobs : NumberedJobs) (taken : List ℕ) (place number : ℕ) (job : Job) (next : IsNextJob jobs taken place number job) where
   -- what is said of the transfer, said of the one at the place
-  pub at-place : (P : ℕ → Job → Type 0) → P number job → P (number_at jobs place) (job_at jobs place)
-  at-place P said = subst (λ n. P n (job_at jobs place)) next.number_is (subst (P number) next.job_is said)
+  pub IsNextJob-same_at_place : (P : ℕ → Job → Type 0) → P number job → P (number_at jobs place) (job_at jobs place)
+  IsNextJob-same_at_place P said = subst (λ n. P n (job_at jobs place)) next.number_is (subst (P number) next.job_is said)
 
 -- the worker may take the next transfer of the queue
 pub MayTakeJob-next : (queue : Queue) (taken : List ℕ) (place number : ℕ) (job : Job) → IsNextJob (jobs_of queue) taken place number job
@@ -78,7 +78,7 @@ MayTakeJob-next queue taken place number job next accounts view ready none_held 
       (subst (AllByRecursion (IsBelow (number_at (jobs_of queue) place))) (sym worked.jobs_are)
       (all-append (IsBelow (number_at (jobs_of queue) place))
       (jobs_taken (jobs_of queue) taken) worked.earlier (jobs_taken-below (jobs_of queue) taken place next.above)
-      (all-weaker (IsBelow queue.first) (IsBelow (number_at (jobs_of queue) place)) worked.earlier
+      (all-weaken (IsBelow queue.first) (IsBelow (number_at (jobs_of queue) place)) worked.earlier
       (λ taken below. omega (arith, below)) worked.numbers)));
 }
   where
@@ -94,10 +94,10 @@ below-next taken place before above = All-contains (λ before. before < place) t
 module _ (jobs : NumberedJobs) (taken : List ℕ) (place : ℕ) (above : AllByRecursion (λ before. before < place) taken) (rest : List Rec) (old new : View)
     (inserted : HasInserted (number_at jobs place) (job_at jobs place) rest old new) where
   added-own : AllByRecursion (λ (entry : Entry). txn_of entry.rec ≡ number_at jobs place) inserted.added
-  added-own = all-records (IsRecordOf (number_at jobs place)) inserted.added
+  added-own = records_of-all (IsRecordOf (number_at jobs place)) inserted.added
       (all-split (IsRecordOf (number_at jobs place)) (records_of inserted.added) rest
       (subst (AllByRecursion (IsRecordOf (number_at jobs place))) (sym inserted.plan)
-      (planned_records-own (number_at jobs place) (transfer_of (job_at jobs place)) inserted.last_commits inserted.balances))).0
+      (planned_records-all_of_txn (number_at jobs place) (transfer_of (job_at jobs place)) inserted.last_commits inserted.balances))).0
 
   taken-next : (places : List ℕ) (earlier : List TakenJob) → old.books.jobs ≡ jobs_taken jobs places ++ earlier
       → new.books.jobs ≡ jobs_taken jobs (places ++ place ∷ []) ++ earlier
@@ -140,8 +140,8 @@ module _ (jobs : NumberedJobs) (taken : List ℕ) (place : ℕ) (above : AllByRe
       by_place (inr first) (inl second) = absurd (omega (arith, lower after j second is', last before first, is, less))
       by_place (inr first) (inr second) = absurd (omega (arith, less, last before first, last after second, is, is'))
 
-  pub HasWorked-next : HasWorked jobs taken old → place < length jobs.script → HasWorked jobs (taken ++ place ∷ []) new
-  HasWorked-next worked within = record {
+  pub HasWorked-push : HasWorked jobs taken old → place < length jobs.script → HasWorked jobs (taken ++ place ∷ []) new
+  HasWorked-push worked within = record {
     places = all-append (λ place. place < length jobs.script) taken (place ∷ []) worked.places (within, tt);
     rising = Rises-push taken place worked.rising above;
     earlier = worked.earlier;
@@ -149,8 +149,8 @@ module _ (jobs : NumberedJobs) (taken : List ℕ) (place : ℕ) (above : AllByRe
     numbers = worked.numbers;
     own = subst (AllByRecursion (IsOwnEntry jobs (taken ++ place ∷ []))) (sym inserted.entries)
         (all-append (IsOwnEntry jobs (taken ++ place ∷ [])) old.entries inserted.added
-        (all-weaker (IsOwnEntry jobs taken) (IsOwnEntry jobs (taken ++ place ∷ [])) old.entries still worked.own)
-        (all-weaker (λ (entry : Entry). txn_of entry.rec ≡ number_at jobs place) (IsOwnEntry jobs (taken ++ place ∷ [])) inserted.added
+        (all-weaken (IsOwnEntry jobs taken) (IsOwnEntry jobs (taken ++ place ∷ [])) old.entries still worked.own)
+        (all-weaken (λ (entry : Entry). txn_of entry.rec ≡ number_at jobs place) (IsOwnEntry jobs (taken ++ place ∷ [])) inserted.added
         (λ entry is. inr (place, Contains-push taken place, is)) added-own));
     below = subst (LieInOrder 0 new.seen.tail) (sym inserted.entries)
         (LieInOrder-append 0 old.seen.tail new.seen.tail old.entries inserted.added worked.below inserted.within);
@@ -161,15 +161,15 @@ module _ (jobs : NumberedJobs) (taken : List ℕ) (place : ℕ) (above : AllByRe
       still entry (inl earlier) = inl earlier
       still entry (inr own) = inr (own.0, Contains-append_left taken (place ∷ []) own.0 own.1, own.2)
 
-  pub HaveEnded-still : (places : List ℕ) → HaveEnded jobs places old → HaveEnded jobs places new
-  HaveEnded-still places ended = all-weaker (λ place. HasEnd (number_at jobs place) old.entries)
+  pub HaveEnded-more : (places : List ℕ) → HaveEnded jobs places old → HaveEnded jobs places new
+  HaveEnded-more places ended = all-weaken (λ place. HasEnd (number_at jobs place) old.entries)
       (λ place. HasEnd (number_at jobs place) new.entries) places
       (λ place ended. subst (HasEnd (number_at jobs place)) (sym inserted.entries)
       (HasEnd-append (number_at jobs place) old.entries inserted.added ended)) ended
 
   -- the records before are of other numbers
   before-other : HasWorked jobs taken old → AllByRecursion (λ (entry : Entry). txn_of entry.rec ≢ number_at jobs place) old.entries
-  before-other worked = all-weaker (IsOwnEntry jobs taken)
+  before-other worked = all-weaken (IsOwnEntry jobs taken)
       (λ (entry : Entry). txn_of entry.rec ≢ number_at jobs place) old.entries other worked.own
     where
       other : (entry : Entry) → IsOwnEntry jobs taken entry → txn_of entry.rec ≢ number_at jobs place
@@ -185,17 +185,17 @@ module _ (jobs : NumberedJobs) (taken : List ℕ) (place : ℕ) (above : AllByRe
 
   -- where a record of it is left, none that was inserted is an end record
   no-end-added : rest ≢ [] → AllByRecursion (λ (entry : Entry). ends entry.rec ≡ false) inserted.added
-  no-end-added some = all-records (λ rec. ends rec ≡ false) inserted.added
-      (planned_records-front (number_at jobs place) (transfer_of (job_at jobs place)) inserted.last_commits inserted.balances
+  no-end-added some = records_of-all (λ rec. ends rec ≡ false) inserted.added
+      (planned_records-front_no_end (number_at jobs place) (transfer_of (job_at jobs place)) inserted.last_commits inserted.balances
       (records_of inserted.added) rest inserted.plan some)
 
   -- and so its end record isn't there
   unended-next : HasWorked jobs taken old → rest ≢ [] → HasEnd (number_at jobs place) new.entries → ⊥
   unended-next worked some ended = All-contains IsNoEnd (old.entries ++ inserted.added) ended.end
       (All-from_recursion IsNoEnd (old.entries ++ inserted.added) (all-append IsNoEnd old.entries inserted.added
-      (all-weaker (λ (entry : Entry). txn_of entry.rec ≢ number_at jobs place) IsNoEnd old.entries (λ entry other is on. other is)
+      (all-weaken (λ (entry : Entry). txn_of entry.rec ≢ number_at jobs place) IsNoEnd old.entries (λ entry other is on. other is)
       (before-other worked))
-      (all-weaker (λ (entry : Entry). ends entry.rec ≡ false) IsNoEnd inserted.added (λ entry off is on. true≢false (sym on ∙ off))
+      (all-weaken (λ (entry : Entry). ends entry.rec ≡ false) IsNoEnd inserted.added (λ entry off is on. true≢false (sym on ∙ off))
       (no-end-added some))))
       (subst (λ l. Contains l ended.end) inserted.entries ended.contains) ended.number_is ended.is_end
     where
@@ -208,31 +208,31 @@ HasEnd-run number job wait row old new run = record {
   end = run.end;
   contains = subst (λ l. Contains l run.end) (sym (run.inserted.entries ∙ ap (λ l. old.entries ++ l) run.last))
       (Contains-append_right old.entries (run.before ++ run.end ∷ []) run.end (Contains-push run.before run.end));
-  number_is = ap txn_of run.rec ∙ end_record-own number (transfer_of job) (outcome_of row.answer);
+  number_is = ap txn_of run.rec ∙ end_record-txn number (transfer_of job) (outcome_of row.answer);
   is_end = ap ends run.rec ∙ end_record-ends number (transfer_of job) (outcome_of row.answer);
 }
 
-pub HaveEnded-next : (jobs : NumberedJobs) (taken : List ℕ) (place : ℕ) (above : AllByRecursion (λ before. before < place) taken) (wait : Bool)
+pub HaveEnded-push : (jobs : NumberedJobs) (taken : List ℕ) (place : ℕ) (above : AllByRecursion (λ before. before < place) taken) (wait : Bool)
     (row : Row) (old new : View)
     → HasRun (number_at jobs place) (job_at jobs place) wait row old new → (places : List ℕ) → HaveEnded jobs places old
     → HaveEnded jobs (places ++ place ∷ []) new
-HaveEnded-next jobs taken place above wait row old new run places ended = all-append
+HaveEnded-push jobs taken place above wait row old new run places ended = all-append
     (λ place. HasEnd (number_at jobs place) new.entries) places (place ∷ [])
-    (HaveEnded-still jobs taken place above [] old new run.inserted places ended)
+    (HaveEnded-more jobs taken place above [] old new run.inserted places ended)
     (HasEnd-run (number_at jobs place) (job_at jobs place) wait row old new run, tt)
 
 -- the transfer was cut off
-pub IsCutBy-next : (jobs : NumberedJobs) (taken : List ℕ) (place : ℕ) → AllByRecursion (λ before. before < place) taken → (wait : Bool) (cause : Cause)
+pub HasCut-is_cut_by : (jobs : NumberedJobs) (taken : List ℕ) (place : ℕ) → AllByRecursion (λ before. before < place) taken → (wait : Bool) (cause : Cause)
     (old new : View) → HasWorked jobs taken old → HasCut (number_at jobs place)
     (job_at jobs place) wait cause old new → IsCutBy jobs place wait cause new
-IsCutBy-next jobs taken place above wait (Stop word) old new worked cut = (waits cut.0 cut.1 cut.2, cut.3, cut.4)
+HasCut-is_cut_by jobs taken place above wait (Stop word) old new worked cut = (waits cut.0 cut.1 cut.2, cut.3, cut.4)
   where
     waits : (rest : List Rec) → HasInserted (number_at jobs place) (job_at jobs place) rest old new → (rest ≡ [] → wait ≡ true)
         → HasEnd (number_at jobs place) new.entries → wait ≡ true
     waits [] inserted none ended = none refl
     waits (rec ∷ rest) inserted none ended =
         absurd (unended-next jobs taken place above (rec ∷ rest) old new inserted worked (λ none. absurd (omega (arith, ap length none))) ended)
-IsCutBy-next jobs taken place above wait (LogEnd tail total) old new worked cut = record {
+HasCut-is_cut_by jobs taken place above wait (LogEnd tail total) old new worked cut = record {
   balances = cut.2.balances;
   last_commits = cut.2.last_commits;
   before = old.books.given;

@@ -4,7 +4,7 @@ use Rattle.std.specs.List.{AllByRecursion}
 use mathlib.Core.Logic.{dite}
 use native.Mathlib.Decide.{dec_lt}
 use Rattle.crossbeam_queue.specs.Passes.{Pass}
-use Rattle.lsn_space.proofs.TilingLemmas.{all-weaker}
+use Rattle.lsn_space.proofs.TilingLemmas.{all-weaken}
 use Rattle.txn_jobs.specs.Places.{Rises}
 use Rattle.job_queue.specs.declared.queue.Queue.{Queue}
 use Rattle.job_queue.specs.declared.rows.Rows.{Rows}
@@ -41,7 +41,7 @@ least-first low x xs above rises once = dite (dec_lt low x)
       arith,
       once,
       same-less low x less,
-      times-below low xs (all-weaker (λ y. x < y) (λ y. low < y) xs (λ y over. omega (arith, over, less)) rises),
+      times-below low xs (all-weaken (λ y. x < y) (λ y. low < y) xs (λ y over. omega (arith, over, less)) rises),
     )))
     (λ more. omega (arith, more, above))
 
@@ -54,8 +54,8 @@ counted-of low (suc n) [] rises above below each = absurd (let none : 0 ≡ 1 = 
 counted-of low (suc n) (x ∷ xs) rises above below each =
     let first : x ≡ low = least-first low x xs above.0 rises.0 (each low (omega arith) (omega arith)) in
     let rest : xs ≡ counted (suc low) n = counted-of (suc low) n xs rises.1
-    (all-weaker (λ y. x < y) (λ y. suc low ≤ y) xs (λ y over. omega (arith, over, first)) rises.0)
-    (all-weaker (λ y. y < low + suc n) (λ y. y < suc low + n) xs (λ y under. omega (arith, under)) below.1)
+    (all-weaken (λ y. x < y) (λ y. suc low ≤ y) xs (λ y over. omega (arith, over, first)) rises.0)
+    (all-weaken (λ y. y < low + suc n) (λ y. y < suc low + n) xs (λ y under. omega (arith, under)) below.1)
     (λ y from to. omega (arith, each y (omega (arith, from)) (omega (arith, to)), same-more y x (omega (arith, first, from)))) in
     λ i. first i ∷ rest i
 
@@ -66,7 +66,7 @@ once-placed count places marks behind taken some' x below = omega (
   arith,
   taken.once x,
   once-all x taken.next (omega (arith, below, taken.all some')),
-  times-below x marks (all-weaker (λ mark. count ≤ mark) (λ mark. x < mark) marks (λ mark over. omega (arith, over, below)) behind),
+  times-below x marks (all-weaken (λ mark. count ≤ mark) (λ mark. x < mark) marks (λ mark over. omega (arith, over, below)) behind),
 )
 
 at_least : (xs : List ℕ) → AllByRecursion (λ x. 0 ≤ x) xs
@@ -77,7 +77,7 @@ at_least (x ∷ xs) = (omega arith, at_least xs)
 all-counted : (count : ℕ) (places marks : List ℕ) → Rises places → ArePlaces count places → AreMarks count marks → AreAllTaken count places marks
     → 1 ≤ length marks → places ≡ counted 0 count
 all-counted count places marks rises are behind taken some' = counted-of 0 count places rises (at_least places)
-    (all-weaker (λ x. x < count) (λ x. x < 0 + count) places (λ x under. omega (arith, under)) are)
+    (all-weaken (λ x. x < count) (λ x. x < 0 + count) places (λ x under. omega (arith, under)) are)
     (λ x from to. once-placed count places marks behind taken some' x (omega (arith, to)))
 
 -- what a worker's pass took

@@ -65,14 +65,14 @@ none_left ns before (line ∷ more) some same not_less outside =
       length-map before number_text,
     )
 
-pub balances-or_bad : (bytes ns : List ℕ) (line : ℕ) → IsBalancesText bytes ns → IsFirstBadBalance bytes line → ⊥
-balances-or_bad bytes ns line all bad =
+pub balances_text-no_bad_line : (bytes ns : List ℕ) (line : ℕ) → IsBalancesText bytes ns → IsFirstBadBalance bytes line → ⊥
+balances_text-no_bad_line bytes ns line all bad =
     let whole : lines bytes ≡ map number_text ns ++ [] = all.text ∙ sym (append-nil (map number_text ns)) in
     let not_less = no_more bytes ns line [] bad all.each all.most whole in
     none_left ns bad.before bad.rest all.some (sym all.text ∙ bad.text) not_less bad.outside
 
 -- one more balance, read from the first of the lines that are left
-pub text-grows : (bytes read : List ℕ) (n : ℕ) (line rest after : List ℕ) → lines bytes ≡ map number_text read ++ lines rest
+pub lines_read-push : (bytes read : List ℕ) (n : ℕ) (line rest after : List ℕ) → lines bytes ≡ map number_text read ++ lines rest
     → lines rest ≡ line ∷ lines after → line ≡ number_text n → lines bytes ≡ map number_text (read ++ n ∷ []) ++ lines after
-text-grows bytes read n line rest after text first is =
+lines_read-push bytes read n line rest after text first is =
     text ∙ rw (first, is, map_push number_text read n) (sym (append_assoc (map number_text read) (number_text n ∷ []) (lines after)))

@@ -8,15 +8,15 @@ use Rattle.txn_script.specs.Generator.{number_after, leg_from, job_from, generat
 use Rattle.txn_script.specs.Script.{IsAllowedLeg, IsAllowedJob}
 
 -- what is made, and what is to come, is the whole
-pub generated-next : (made whole : List Job) (n i x : ℕ) → i < n → made ++ generated_jobs (n - i) x ≡ whole
+pub generated_jobs-step : (made whole : List Job) (n i x : ℕ) → i < n → made ++ generated_jobs (n - i) x ≡ whole
     → (made ++ job_from (number_after x) ∷ []) ++ generated_jobs (n - (i + 1)) (number_after x) ≡ whole
-generated-next made whole n i x within before =
+generated_jobs-step made whole n i x within before =
     let left : n - i ≡ suc (n - (i + 1)) = omega arith in
     append_assoc made (job_from (number_after x) ∷ []) (generated_jobs (n - (i + 1)) (number_after x))
     ∙ ap (λ k. made ++ generated_jobs k x) (sym left) ∙ before
 
-pub generated-done : (made whole : List Job) (n i x : ℕ) → n ≤ i → made ++ generated_jobs (n - i) x ≡ whole → made ≡ whole
-generated-done made whole n i x all before =
+pub generated_jobs-none_left : (made whole : List Job) (n i x : ℕ) → n ≤ i → made ++ generated_jobs (n - i) x ≡ whole → made ≡ whole
+generated_jobs-none_left made whole n i x all before =
     let left : n - i ≡ 0 = omega arith in sym (append-nil made) ∙ ap (λ k. made ++ generated_jobs k x) (sym left) ∙ before
 
 pub length-generated : (n seed : ℕ) → length (generated_jobs n seed) ≡ n

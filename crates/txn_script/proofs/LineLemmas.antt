@@ -57,9 +57,9 @@ lines-all (line ∷ each) rest all =
     ∙ lines-ended line (ended each ++ rest) (All-head IsOneLine line each all)
     ∙ ap (λ more. line ∷ more) (lines-all each rest (All-tail IsOneLine line each all))
 
-pub written-ended : (each : List (List ℕ)) → All IsOneLine each → lines (ended each) ≡ each
-written-ended each all = ap lines (sym (append-nil (ended each))) ∙ lines-all each [] all ∙ append-nil each
+pub lines-ended_each : (each : List (List ℕ)) → All IsOneLine each → lines (ended each) ≡ each
+lines-ended_each each all = ap lines (sym (append-nil (ended each))) ∙ lines-all each [] all ∙ append-nil each
 
-pub written-open : (each : List (List ℕ)) (last : List ℕ) → All IsOneLine each → IsOneLine last → 0 < length last
+pub lines-ended_and_last : (each : List (List ℕ)) (last : List ℕ) → All IsOneLine each → IsOneLine last → 0 < length last
     → lines (ended each ++ last) ≡ each ++ last ∷ []
-written-open each last all one some = lines-all each last all ∙ ap (λ more. each ++ more) (lines-open last one some)
+lines-ended_and_last each last all one some = lines-all each last all ∙ ap (λ more. each ++ more) (lines-open last one some)

@@ -9,9 +9,9 @@ use Rattle.lock_core.specs.Sums.{BaseState, balance_of, sum_below}
 use Rattle.lock_core.specs.Alone.{PlainTransfer, IsAllowedTransfer, Done, outcome_records}
 use Rattle.lock_core.specs.Serial.{numbered, IsSerialAfter}
 use Rattle.lock_core.specs.AnyOrder.{given, taken, legs_of, HasRoomFor, IsDoneIn, done_records, weight_of}
-use Rattle.lock_core.proofs.Conserving.{sum_below-none, sum_below-at, sum_below-add, sum_below-same}
+use Rattle.lock_core.proofs.Conserving.{sum_below-zeros, sum_below-single_amount, sum_below-add, sum_below-same}
 use Rattle.lock_core.proofs.Weighing.{weight_of-append}
-use Rattle.lock_core.proofs.Doing.{serial-done, balance-done, end-done, end_of-weight}
+use Rattle.lock_core.proofs.Doing.{serial-done, serial-balance_taken_given, serial-end_of_done_records, end_of-weight}
 use Rattle.lock_core.specs.Transfers.{transfer_of}
 use Rattle.txn_script.specs.Generator.{number_after, leg_from, job_from, generated_transfers, generated_legs, generated_balance, OpensGenerated}
 
@@ -67,7 +67,7 @@ module _ (n seed : ℕ) (base : BaseState) (few : n ≤ 100000) (opens : OpensGe
   pub generated-balance : (first : ℕ) (h : List Placed) (account : ℕ) → IsSerialAfter base (numbered first (generated_transfers n seed)) h → account < 64
       → balance_of base h account ≡ generated_balance n seed account
   generated-balance first h account serial below =
-      let after = balance-done base first (generated_transfers n seed) room-generated h account serial (omega (arith, below, opens.accounts)) in
+      let after = serial-balance_taken_given base first (generated_transfers n seed) room-generated h account serial (omega (arith, below, opens.accounts)) in
       let opening = opens.balance account below in
       let takes = ap (taken account) (legs_of-generated n seed) in
       let gives = ap (given account) (legs_of-generated n seed) in
@@ -85,7 +85,7 @@ end_of-generated first (suc n) seed =
 pub generated-end : (n seed first : ℕ) (base : BaseState) (records : List Rec) → n ≤ 100000 → OpensGenerated base
     → IsSerialAfter base (numbered first (generated_transfers n seed)) (history_from base.end [] records) → end_of records ≡ 5 * n
 generated-end n seed first base records few opens serial =
-    end-done base first (generated_transfers n seed) records (room-generated n seed base few opens) serial
+    serial-end_of_done_records base first (generated_transfers n seed) records (room-generated n seed base few opens) serial
     ∙ end_of-weight (done_records (numbered first (generated_transfers n seed))) ∙ end_of-generated first n seed
 
 -- what legs move between accounts in all
@@ -96,19 +96,19 @@ amounts (leg ∷ legs) = leg.2 + amounts legs
 module _ (accounts : ℕ) where
   pub sum_below-taken : (legs : List (ℕ × ℕ × ℕ)) → AllByRecursion (λ (leg : ℕ × ℕ × ℕ). leg.0 < accounts) legs
       → sum_below accounts (λ account. taken account legs) ≡ amounts legs
-  sum_below-taken [] known = sum_below-none accounts
+  sum_below-taken [] known = sum_below-zeros accounts
   sum_below-taken (leg ∷ legs) known =
       let more = sum_below-taken legs known.1 in
       let parts = sum_below-add accounts (λ account. cond (leg.0 == account) leg.2 0) (λ account. taken account legs) in
-      let here = sum_below-at accounts leg.0 leg.2 known.0 in omega arith
+      let here = sum_below-single_amount accounts leg.0 leg.2 known.0 in omega arith
 
   pub sum_below-given : (legs : List (ℕ × ℕ × ℕ)) → AllByRecursion (λ (leg : ℕ × ℕ × ℕ). leg.1 < accounts) legs
       → sum_below accounts (λ account. given account legs) ≡ amounts legs
-  sum_below-given [] known = sum_below-none accounts
+  sum_below-given [] known = sum_below-zeros accounts
   sum_below-given (leg ∷ legs) known =
       let more = sum_below-given legs known.1 in
       let parts = sum_below-add accounts (λ account. cond (leg.1 == account) leg.2 0) (λ account. given account legs) in
-      let here = sum_below-at accounts leg.1 leg.2 known.0 in omega arith
+      let here = sum_below-single_amount accounts leg.1 leg.2 known.0 in omega arith
 
 payers-known : (n seed : ℕ) → AllByRecursion (λ (leg : ℕ × ℕ × ℕ). leg.0 < 64) (generated_legs n seed)
 payers-known zero seed = tt
@@ -119,16 +119,16 @@ payees-known zero seed = tt
 payees-known (suc n) seed = (omega arith, payees-known n (number_after seed))
 
 -- with what is taken, a balance is that of the opening with what is given
-pub generated_balance-is : (n seed account : ℕ) → n ≤ 100000
+pub generated_balance-taken_given : (n seed account : ℕ) → n ≤ 100000
     → generated_balance n seed account + taken account (generated_legs n seed) ≡ 1000000 + given account (generated_legs n seed)
-generated_balance-is n seed account few = let most = taken-most account n seed in omega arith
+generated_balance-taken_given n seed account few = let most = taken-most account n seed in omega arith
 
 -- the balances have the sum that they had at first
 pub generated-sum : (n seed : ℕ) → n ≤ 100000 → sum_below 64 (generated_balance n seed) ≡ 64000000
 generated-sum n seed few =
     let legs : List (ℕ × ℕ × ℕ) = generated_legs n seed in
     let each = sum_below-same 64 (λ account. generated_balance n seed account + taken account legs) (λ account. 1000000 + given account legs)
-    (λ account below. generated_balance-is n seed account few) in
+    (λ account below. generated_balance-taken_given n seed account few) in
     let before = sum_below-add 64 (generated_balance n seed) (λ account. taken account legs) in
     let after = sum_below-add 64 (λ account. 1000000) (λ account. given account legs) in
     let takes = sum_below-taken 64 legs (payers-known n seed) in

@@ -6,7 +6,7 @@ use Rattle.std.proofs.lemmas.List.Elements.{All-nil, All-cons, All-head, All-tai
 use Rattle.lock_core.specs.declared.job.Job.{Job}
 use Rattle.txn_script.specs.Lines.{lines}
 use Rattle.txn_script.specs.Script.{job_text, filled, IsAllowedJob, IsScriptText, IsScriptLine, IsFirstBadLine}
-use Rattle.txn_script.proofs.JobLemmas.{job-same}
+use Rattle.txn_script.proofs.JobLemmas.{job_text-injective}
 
 filled-next : (line : List ℕ) (each : List (List ℕ)) → false ≡ (length line == 0) → filled (line ∷ each) ≡ line ∷ filled each
 filled-next line each some = rw (sym some) refl
@@ -15,21 +15,21 @@ filled-push : (before : List (List ℕ)) (line : List ℕ) → false ≡ (length
 filled-push before line some = filter-append _ before (line ∷ []) ∙ ap (λ more. filled before ++ more) (filled-next line [] some)
 
 -- an empty line adds no transfer
-pub jobs-kept : (before : List (List ℕ)) (line : List ℕ) (jobs : List Job) → line ≡ [] → filled before ≡ map job_text jobs
+pub filled-push_empty : (before : List (List ℕ)) (line : List ℕ) (jobs : List Job) → line ≡ [] → filled before ≡ map job_text jobs
     → filled (before ++ line ∷ []) ≡ map job_text jobs
-jobs-kept before line jobs none text =
+filled-push_empty before line jobs none text =
     ap (λ l. filled (before ++ l ∷ [])) none ∙ filter-append _ before ([] ∷ []) ∙ append-nil (filled before) ∙ text
 
 -- any other adds one
-pub jobs-grow : (before : List (List ℕ)) (line : List ℕ) (jobs : List Job) (job : Job) → false ≡ (length line == 0)
+pub filled-push_job : (before : List (List ℕ)) (line : List ℕ) (jobs : List Job) (job : Job) → false ≡ (length line == 0)
     → line ≡ job_text job → filled before ≡ map job_text jobs → filled (before ++ line ∷ []) ≡ map job_text (jobs ++ job ∷ [])
-jobs-grow before line jobs job some is text =
+filled-push_job before line jobs job some is text =
     filled-push before line some ∙ rw (text, is) (sym (map_push job_text jobs job))
 
 -- the text goes on behind the line that was read
-pub lines-grow : (bytes rest after line : List ℕ) (before : List (List ℕ)) → lines bytes ≡ before ++ lines rest
+pub lines-push : (bytes rest after line : List ℕ) (before : List (List ℕ)) → lines bytes ≡ before ++ lines rest
     → lines rest ≡ line ∷ lines after → lines bytes ≡ (before ++ line ∷ []) ++ lines after
-lines-grow bytes rest after line before text first = text ∙ ap (λ more. before ++ more) first ∙ sym (append_assoc before (line ∷ []) (lines after))
+lines-push bytes rest after line before text first = text ∙ ap (λ more. before ++ more) first ∙ sym (append_assoc before (line ∷ []) (lines after))
 
 -- all lines of a script are empty or transfers
 good-lines : (accounts : ℕ) (each : List (List ℕ)) (jobs : List Job) → All (IsAllowedJob accounts) jobs → filled each ≡ map job_text jobs
@@ -51,7 +51,7 @@ each-same accounts few [] [] allowed_j allowed_k same = refl
 each-same accounts few [] (k ∷ ks) allowed_j allowed_k same = absurd (omega (arith, ap length same))
 each-same accounts few (j ∷ js) [] allowed_j allowed_k same = absurd (omega (arith, ap length same))
 each-same accounts few (j ∷ js) (k ∷ ks) allowed_j allowed_k same =
-    let head : j ≡ k = job-same accounts few j k (All-head (IsAllowedJob accounts) j js allowed_j) (All-head (IsAllowedJob accounts) k ks allowed_k)
+    let head : j ≡ k = job_text-injective accounts few j k (All-head (IsAllowedJob accounts) j js allowed_j) (All-head (IsAllowedJob accounts) k ks allowed_k)
     (ap (λ ls. get_or ls 0 []) same) in
     let tail : js ≡ ks = each-same accounts few js ks (All-tail (IsAllowedJob accounts) j js allowed_j)
     (All-tail (IsAllowedJob accounts) k ks allowed_k) (ap (drop 1) same) in
@@ -83,15 +83,15 @@ one-of : (P : List ℕ → Type 0) (before : List (List ℕ)) (line : List ℕ) 
 one-of P [] line rest all = All-head P line rest all
 one-of P (first ∷ before) line rest all = one-of P before line rest (All-tail P first (before ++ line ∷ rest) all)
 
-pub jobs-or_bad : (accounts : ℕ) (bytes : List ℕ) (js : List Job) (line : ℕ) → IsScriptText accounts bytes js → IsFirstBadLine accounts bytes line → ⊥
-jobs-or_bad accounts bytes js line all bad =
+pub script_text-no_bad_line : (accounts : ℕ) (bytes : List ℕ) (js : List Job) (line : ℕ) → IsScriptText accounts bytes js → IsFirstBadLine accounts bytes line → ⊥
+script_text-no_bad_line accounts bytes js line all bad =
     let good = good-lines accounts (lines bytes) js all.each all.text in
     bad.bad (one-of (IsScriptLine accounts) bad.before bad.line bad.rest (subst (All (IsScriptLine accounts)) bad.text good))
 
 -- behind lines of the script, one that isn't empty and of which no transfer was read
-pub bad_line-first : (accounts : ℕ) (bytes : List ℕ) (before : List (List ℕ)) (line : List ℕ) (rest : List (List ℕ)) → All (IsScriptLine accounts) before
+pub bad_line-behind_script_lines : (accounts : ℕ) (bytes : List ℕ) (before : List (List ℕ)) (line : List ℕ) (rest : List (List ℕ)) → All (IsScriptLine accounts) before
     → lines bytes ≡ before ++ line ∷ rest → false ≡ (length line == 0) → ((job : Job) → IsAllowedJob accounts job → line ≡ job_text job → ⊥)
     → IsFirstBadLine accounts bytes (length before + 1)
-bad_line-first accounts bytes before line rest each text some none =
+bad_line-behind_script_lines accounts bytes before line rest each text some none =
     let bad : IsScriptLine accounts line → ⊥ = ⊎_elim (λ empty. eqb-false _ _ (sym some) (ap length empty)) (λ job. none job.0 job.1 job.2) in
     record { before = before; each = each; line = line; rest = rest; text = text; at = refl; bad = bad }

@@ -30,8 +30,8 @@ module _ (long more : List Job) where
       by_recursion (stored ∷ list) each = rw (job_stored-append stored each.0, by_recursion list each.1) refl
 
 -- one more long one stands behind the others
-pub job_stored-long : (long : List Job) (job : Job) → job_stored (long ++ job ∷ []) (Long (length long)) ≡ job
-job_stored-long long job = get_or-append_seam long job [] _
+pub job_stored-last_long : (long : List Job) (job : Job) → job_stored (long ++ job ∷ []) (Long (length long)) ≡ job
+job_stored-last_long long job = get_or-append_seam long job [] _
 
 -- with one more behind them
 pub jobs_stored-push : (long : List Job) (list : List Stored) (stored : Stored) (job : Job) → job_stored long stored ≡ job

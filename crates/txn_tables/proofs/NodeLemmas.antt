@@ -60,43 +60,43 @@ value-ended nodes places path txn at left = wherever txn
     (λ node nodes places path at left ended. ended) nodes places path at left
 
 -- the search comes to each node that it is led to
-pub comes-here : (nodes : List Node) (at path txn : ℕ) → at < length nodes → Comes nodes (suc at) path txn at path
-comes-here [] at path txn inside = absurd (omega arith)
-comes-here (node ∷ nodes) zero path txn inside = refl
-comes-here (node ∷ nodes) (suc at) path txn inside = comes-here nodes at path txn (omega arith)
+pub Comes-start : (nodes : List Node) (at path txn : ℕ) → at < length nodes → Comes nodes (suc at) path txn at path
+Comes-start [] at path txn inside = absurd (omega arith)
+Comes-start (node ∷ nodes) zero path txn inside = refl
+Comes-start (node ∷ nodes) (suc at) path txn inside = Comes-start nodes at path txn (omega arith)
 
 -- the search goes on from the first node
 comes-first : (node : Node) (nodes : List Node) (path txn next : ℕ) → node.txn ≢ txn → suc next ≡ ahead node path → next < length nodes
     → Comes (node ∷ nodes) 1 path txn (suc next) (path / WAYS)
 comes-first node nodes path txn next other led inside =
-    (other, subst (λ places. Comes nodes places (path / WAYS) txn next (path / WAYS)) led (comes-here nodes next (path / WAYS) txn inside))
+    (other, subst (λ places. Comes nodes places (path / WAYS) txn next (path / WAYS)) led (Comes-start nodes next (path / WAYS) txn inside))
 
 -- the search goes on from another node
-pub comes-on : (nodes : List Node) (places path txn at left next : ℕ) → Comes nodes places path txn at left
+pub Comes-step : (nodes : List Node) (places path txn at left next : ℕ) → Comes nodes places path txn at left
     → (get_or nodes at no_node).txn ≢ txn → next ≡ at + ahead (get_or nodes at no_node) left → at < next → next < length nodes
     → Comes nodes places path txn next (left / WAYS)
-comes-on [] places path txn at left next comes other is behind inside = absurd comes
-comes-on (node ∷ nodes) places path txn at left zero comes other is behind inside = absurd (omega arith)
-comes-on (node ∷ nodes) zero path txn at left (suc next) comes other is behind inside = absurd comes
-comes-on (node ∷ nodes) (suc zero) path txn zero left (suc next) comes other is behind inside =
+Comes-step [] places path txn at left next comes other is behind inside = absurd comes
+Comes-step (node ∷ nodes) places path txn at left zero comes other is behind inside = absurd (omega arith)
+Comes-step (node ∷ nodes) zero path txn at left (suc next) comes other is behind inside = absurd comes
+Comes-step (node ∷ nodes) (suc zero) path txn zero left (suc next) comes other is behind inside =
     subst (λ to. Comes (node ∷ nodes) 1 path txn (suc next) (to / WAYS)) comes
     (comes-first node nodes path txn next other (is ∙ (omega arith) ∙ ap (ahead node) (sym comes)) (omega arith))
-comes-on (node ∷ nodes) (suc zero) path txn (suc at) left (suc next) comes other is behind inside =
-    (comes.0, comes-on nodes (ahead node path) (path / WAYS) txn at left next comes.1 other (omega arith) (omega arith) (omega arith))
-comes-on (node ∷ nodes) (suc (suc places)) path txn zero left (suc next) comes other is behind inside = absurd comes
-comes-on (node ∷ nodes) (suc (suc places)) path txn (suc at) left (suc next) comes other is behind inside =
-    comes-on nodes (suc places) path txn at left next comes other (omega arith) (omega arith) (omega arith)
+Comes-step (node ∷ nodes) (suc zero) path txn (suc at) left (suc next) comes other is behind inside =
+    (comes.0, Comes-step nodes (ahead node path) (path / WAYS) txn at left next comes.1 other (omega arith) (omega arith) (omega arith))
+Comes-step (node ∷ nodes) (suc (suc places)) path txn zero left (suc next) comes other is behind inside = absurd comes
+Comes-step (node ∷ nodes) (suc (suc places)) path txn (suc at) left (suc next) comes other is behind inside =
+    Comes-step nodes (suc places) path txn at left next comes other (omega arith) (omega arith) (omega arith)
 
 -- no way leads behind the last node: the same, node by node
 abbrev pub Leads : List Node → Type 0
 Leads [] = Unit {0}
 Leads (node ∷ nodes) = ((path : ℕ) → ahead node path ≤ length nodes) × Leads nodes
 
-pub each-leads : (nodes : List Node) → LeadInside nodes → Leads nodes
-each-leads [] inside = tt
-each-leads (node ∷ nodes) inside = (
+pub LeadInside-leads : (nodes : List Node) → LeadInside nodes → Leads nodes
+LeadInside-leads [] inside = tt
+LeadInside-leads (node ∷ nodes) inside = (
   λ path. let first = inside 0 path (omega arith) in omega arith,
-  each-leads nodes (λ at path within. let behind = inside (suc at) path (omega arith) in omega arith),
+  LeadInside-leads nodes (λ at path within. let behind = inside (suc at) path (omega arith) in omega arith),
 )
 
 -- another value stands in the node at this place

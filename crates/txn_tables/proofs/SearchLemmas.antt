@@ -12,46 +12,46 @@ use Rattle.txn_tables.specs.Nodes.{ahead, Links, LeadInside, node_value, Comes, 
 use Rattle.txn_tables.specs.Rows.{number_at, PutsNumber}
 use Rattle.txn_tables.specs.Roots.{root_of, BeginInside}
 use Rattle.txn_tables.specs.Searches.{IsEnd}
-use Rattle.txn_tables.proofs.NodeLemmas.{value-nowhere, value-found, value-ended, comes-here, comes-on, each-leads, value-set-own, value-set-other, value-last, value-more, value-linked-own, value-linked-other, LinksLast, links-last}
+use Rattle.txn_tables.proofs.NodeLemmas.{value-nowhere, value-found, value-ended, Comes-start, Comes-step, LeadInside-leads, value-set-own, value-set-other, value-last, value-more, value-linked-own, value-linked-other, LinksLast, links-last}
 
 -- what is read at a place is the node there
-pub read-at : (nodes : List Node) (at : ℕ) (node : Node) → at < length nodes → node ≡ get_or nodes at node → get_or nodes at no_node ≡ node
-read-at nodes at node inside is = get_or_default nodes at no_node node inside ∙ sym is
+pub get_or-no_node : (nodes : List Node) (at : ℕ) (node : Node) → at < length nodes → node ≡ get_or nodes at node → get_or nodes at no_node ≡ node
+get_or-no_node nodes at node inside is = get_or_default nodes at no_node node inside ∙ sym is
 
-pub search-begins : (nodes : List Node) (roots : Row) (txn root : ℕ) → BeginInside roots nodes → root ≡ root_of roots txn → root ≢ 0
+pub BeginInside-comes : (nodes : List Node) (roots : Row) (txn root : ℕ) → BeginInside roots nodes → root ≡ root_of roots txn → root ≢ 0
     → (root - 1 < length nodes) × Comes nodes (root_of roots txn) (txn / ROOTS) txn (root - 1) (txn / ROOTS)
-search-begins nodes roots txn root begin is some =
+BeginInside-comes nodes roots txn root begin is some =
     let within = begin txn in
     let inside : root - 1 < length nodes = omega arith in
     let next : suc (root - 1) ≡ root_of roots txn = omega arith in
-    (inside, subst (λ n. Comes nodes n (txn / ROOTS) txn (root - 1) (txn / ROOTS)) next (comes-here nodes (root - 1) (txn / ROOTS) txn inside))
+    (inside, subst (λ n. Comes nodes n (txn / ROOTS) txn (root - 1) (txn / ROOTS)) next (Comes-start nodes (root - 1) (txn / ROOTS) txn inside))
 
-pub search-goes-on : (nodes : List Node) (root txn at path places : ℕ) (node : Node) → LeadInside nodes → at < length nodes → Comes nodes root (txn / ROOTS) txn at path
+pub LeadInside-comes : (nodes : List Node) (root txn at path places : ℕ) (node : Node) → LeadInside nodes → at < length nodes → Comes nodes root (txn / ROOTS) txn at path
     → node ≡ get_or nodes at node → node.txn ≢ txn → places ≡ ahead node path → 0 < places
     → (at + places < length nodes) × Comes nodes root (txn / ROOTS) txn (at + places) (path / WAYS)
-search-goes-on nodes root txn at path places node inside within comes is other led some =
-    let here = read-at nodes at node within is in
+LeadInside-comes nodes root txn at path places node inside within comes is other led some =
+    let here = get_or-no_node nodes at node within is in
     let way : places ≡ ahead (get_or nodes at no_node) path = led ∙ ap (λ (n : Node). ahead n path) (sym here) in
     let there : at + places < length nodes = subst (λ n. at + n < length nodes) (sym way) (inside at path within) in
-    (there, comes-on nodes root (txn / ROOTS) txn at path (at + places) comes (subst (λ (n : Node). n.txn ≢ txn) (sym here) other) (ap (λ n. at + n) way) (omega arith) there)
+    (there, Comes-step nodes root (txn / ROOTS) txn at path (at + places) comes (subst (λ (n : Node). n.txn ≢ txn) (sym here) other) (ap (λ n. at + n) way) (omega arith) there)
 
-pub search-ends : (nodes : List Node) (root txn : ℕ) (end : End) (node : Node) (places : ℕ) → end.at < length nodes → Comes nodes root (txn / ROOTS) txn end.at end.path
+pub Comes-is_end : (nodes : List Node) (root txn : ℕ) (end : End) (node : Node) (places : ℕ) → end.at < length nodes → Comes nodes root (txn / ROOTS) txn end.at end.path
     → node ≡ get_or nodes end.at node → places ≡ ahead node end.path → (node.txn ≢ txn → places ≡ 0) → IsEnd nodes root txn end
-search-ends nodes root txn end node places within comes is led last = record {
+Comes-is_end nodes root txn end node places within comes is led last = record {
   inside = within;
   comes = comes;
-  last = λ other. let here = read-at nodes end.at node within is in
+  last = λ other. let here = get_or-no_node nodes end.at node within is in
       ap (λ (n : Node). ahead n end.path) here ∙ sym led ∙ last (subst (λ (n : Node). n.txn ≢ txn) here other);
 }
 
-pub value-own : (nodes : List Node) (root txn : ℕ) (end : End) (node : Node) → IsEnd nodes root txn end → node ≡ get_or nodes end.at node → node.txn ≡ txn
+pub IsEnd-own_value : (nodes : List Node) (root txn : ℕ) (end : End) (node : Node) → IsEnd nodes root txn end → node ≡ get_or nodes end.at node → node.txn ≡ txn
     → Some node.value ≡ node_value nodes root (txn / ROOTS) txn
-value-own nodes root txn end node ends is own = let here = read-at nodes end.at node ends.inside is in
+IsEnd-own_value nodes root txn end node ends is own = let here = get_or-no_node nodes end.at node ends.inside is in
     sym (value-found nodes root (txn / ROOTS) txn end.at end.path ends.comes (ap (λ (n : Node). n.txn) here ∙ own) ∙ ap (λ (n : Node). Some n.value) here)
 
-pub value-none : (nodes : List Node) (root txn : ℕ) (end : End) (node : Node) → IsEnd nodes root txn end → node ≡ get_or nodes end.at node → node.txn ≢ txn
+pub IsEnd-no_value : (nodes : List Node) (root txn : ℕ) (end : End) (node : Node) → IsEnd nodes root txn end → node ≡ get_or nodes end.at node → node.txn ≢ txn
     → None ≡ node_value nodes root (txn / ROOTS) txn
-value-none nodes root txn end node ends is other = let here = read-at nodes end.at node ends.inside is in
+IsEnd-no_value nodes root txn end node ends is other = let here = get_or-no_node nodes end.at node ends.inside is in
     let apart = subst (λ (n : Node). n.txn ≢ txn) (sym here) other in
     sym (value-ended nodes root (txn / ROOTS) txn end.at end.path ends.comes apart (ends.last apart))
 
@@ -60,7 +60,7 @@ pub put-set : (nodes : List Node) (root : ℕ → ℕ) (txn : ℕ) (end : End) (
     → new.txn ≡ node.txn → new.ways ≡ node.ways
     → (other : ℕ) → node_value (set nodes end.at new) (root other) (other / ROOTS) other ≡ cond (txn == other) (Some new.value) (node_value nodes (root other) (other / ROOTS) other)
 put-set nodes root txn end node new ends is own txns ways other =
-    let here = read-at nodes end.at node ends.inside is in
+    let here = get_or-no_node nodes end.at node ends.inside is in
     dite (ℕ_discrete txn other)
     (λ same. subst (λ n. node_value (set nodes end.at new) (root n) (n / ROOTS) n ≡ cond (txn == n) (Some new.value) (node_value nodes (root n) (n / ROOTS) n)) same
     (value-set-own nodes (root txn) (txn / ROOTS) txn end.at end.path new ends.comes (txns ∙ own)
@@ -90,7 +90,7 @@ module _ (nodes : List Node) (root : ℕ → ℕ) (txn places : ℕ) (end : End)
       (λ same. other (ap (λ (n : Node). n.txn) (sym here) ∙ sym links.txn ∙ same)) (links.here end.path refl ∙ led) own
       ∙ sym (ap (λ b. cond b (Some last.value) (node_value nodes (root txn) (txn / ROOTS) txn)) (eq-eqb txn txn refl))))
       (λ apart. value-linked-other new last none number (λ same. apart (sym own ∙ same)) nodes end.at (root number) (number / ROOTS)
-      (each-leads nodes inside) (begin number) ends.inside
+      (LeadInside-leads nodes inside) (begin number) ends.inside
       (links.txn ∙ ap (λ (n : Node). n.txn) here) (links.value ∙ ap (λ (n : Node). n.value) here) to-last
       ∙ sym (ap (λ b. cond b (Some last.value) (node_value nodes (root number) (number / ROOTS) number)) (ne_eqb txn number apart)))
 
@@ -122,7 +122,7 @@ module _ (nodes : List Node) (old new : Row) (txn : ℕ) (last : Node) (inside :
   put-root-apart : txn % ROOTS ≢ number % ROOTS → new_value ≡ cond (txn == number) (Some last.value) old_value
   put-root-apart apart =
       ap (λ places. node_value (nodes ++ last ∷ []) places (number / ROOTS) number) (root-put _ (ne_eqb _ _ apart))
-      ∙ value-more nodes last (root_of old number) (number / ROOTS) number (each-leads nodes inside) (begin number)
+      ∙ value-more nodes last (root_of old number) (number / ROOTS) number (LeadInside-leads nodes inside) (begin number)
       ∙ sym (ap (λ b. cond b (Some last.value) old_value) (ne_eqb txn number (λ same. apart (ap (λ n. n % ROOTS) same))))
 
   pub put-root : new_value ≡ cond (txn == number) (Some last.value) old_value

@@ -1,7 +1,7 @@
 use Rattle.std.proofs.Common.{rules, ◌≡◌, ◌∙◌, ◌∷◌, sym}
 use Rattle.log_record.specs.Spelling.{header, spelling}
 use Rattle.log_record.proofs.Fronts.{parts_of}
-use Rattle.batch_lines.proofs.HeadLemmas.{spelling-at, size-told}
+use Rattle.batch_lines.proofs.HeadLemmas.{spelling-first_unit, header-tells_length}
 use Rattle.batch_lines.proofs.telling.end_at.Goals as goal
 
 pub returns : goal.returns
@@ -11,6 +11,6 @@ returns c =
     let h = c.of-head.result in
     let body = (parts_of rec).body in
     let spelled : spelling rec ≡ header h.kind h.units h.field h.txn ∷ body =
-    spelling-at rec c.args.batch.now.units c.args.at (header h.kind h.units h.field h.txn) begins (sym c.of-head.ensures ∙ c.at.ensures) in
-    let size = size-told rec h.kind h.units h.field h.txn body begins.0 (search rules) (search rules) (search rules) spelled in
+    spelling-first_unit rec c.args.batch.now.units c.args.at (header h.kind h.units h.field h.txn) begins (sym c.of-head.ensures ∙ c.at.ensures) in
+    let size = header-tells_length rec h.kind h.units h.field h.txn body begins.0 (search rules) (search rules) (search rules) spelled in
     (rec, begins, c.end_of.ensures rec body begins.0 spelled, sym size)

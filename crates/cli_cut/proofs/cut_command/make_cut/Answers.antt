@@ -1,7 +1,7 @@
 use Rattle.log_disk.specs.Costs.{Costs}
-use Rattle.log_disk.proofs.Counting.{Costs-then}
+use Rattle.log_disk.proofs.Counting.{Costs-trans}
 use Rattle.cli_cut.specs.Cutting.{AllHoldCut, GrowsByCut, MayBeCut, ReadsCut}
-use Rattle.cli_cut.proofs.CuttingLemmas.{all-cut, grows-cut, leaves-cut}
+use Rattle.cli_cut.proofs.CuttingLemmas.{LogStands-all_hold_cut, grows-cut, leaves-cut}
 use Rattle.cli_cut.proofs.TryingLemmas.{tries-failed, tries-fine}
 use Rattle.cli_cut.proofs.cut_command.make_cut.Goals as goal
 
@@ -22,10 +22,10 @@ returns-in-Ok-create_cut g c =
     _ _ mid _ _ _ found.closed found.honest found.attached (found.disk.fine (λ is. cc))
     (λ honest. leaves-cut _ _ _ reads g.D.LogDisk.moment g.D.LogDisk.images_since _ _ mid _ found.moments
     (rw c.in-Ok.ensures at (created.moments (found.honest.0 honest))))
-    (λ honest. Costs-then g.D.LogDisk 1 6 4 7 _ mid _ (found.count honest) (created.count (found.honest.0 honest)))
+    (λ honest. Costs-trans g.D.LogDisk 1 6 4 7 _ mid _ (found.count honest) (created.count (found.honest.0 honest)))
     (λ honest. grows-cut _ _ _ reads g.D.LogDisk _ mid _ (found.reads honest) (rw c.in-Ok.ensures at (created.length (found.honest.0 honest))))
     created.honest created.attached (c.in_ok-opening.ensures.read.fine (λ is. cc)) _ reads
-    (λ honest. all-cut _ _ _ reads _ _ (rw c.in-Ok.ensures at (created.created (found.honest.0 honest)))) created.cause.fine
+    (λ honest. LogStands-all_hold_cut _ _ _ reads _ _ (rw c.in-Ok.ensures at (created.created (found.honest.0 honest)))) created.cause.fine
 
 -- the disk failed while it was made
 pub returns-in-Err : goal.returns-in-Err
@@ -38,6 +38,6 @@ returns-in-Err g c =
     _ _ mid _ _ _ found.closed found.honest found.attached (found.disk.fine (λ is. cc))
     (λ honest. leaves-cut _ _ _ reads g.D.LogDisk.moment g.D.LogDisk.images_since _ _ mid _ found.moments
     (rw c.in-Ok.ensures at (created.moments (found.honest.0 honest))))
-    (λ honest. Costs-then g.D.LogDisk 1 6 4 7 _ mid _ (found.count honest) (created.count (found.honest.0 honest)))
+    (λ honest. Costs-trans g.D.LogDisk 1 6 4 7 _ mid _ (found.count honest) (created.count (found.honest.0 honest)))
     (λ honest. grows-cut _ _ _ reads g.D.LogDisk _ mid _ (found.reads honest) (rw c.in-Ok.ensures at (created.length (found.honest.0 honest))))
     created.honest created.attached (c.in_ok-opening.ensures.read.fine (λ is. cc)) created.cause.failed

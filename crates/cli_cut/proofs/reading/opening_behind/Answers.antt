@@ -5,14 +5,14 @@ use Rattle.lock_core.specs.AccountRows.{opening_of}
 use Rattle.log_recovery.specs.Opened.{log_of}
 use Rattle.log_recovery.specs.Recovery.{list_of}
 use Rattle.log_recovery.specs.declared.list_result.Listed.{Listed}
-use Rattle.log_recovery.proofs.RecoveryLemmas.{log-opening}
+use Rattle.log_recovery.proofs.RecoveryLemmas.{log_opening-none_or_snapshot}
 use Rattle.cli_cut.specs.Cutting.{IsCutOf}
-use Rattle.cli_cut.proofs.FrontLemmas.{front-records, split-snapshot}
+use Rattle.cli_cut.proofs.FrontLemmas.{front_units-genesis_records, split-snapshot}
 use Rattle.cli_cut.proofs.reading.opening_behind.Goals as goal
 
 pub judge_of_units-requires-clause-opening : goal.judge_of_units-requires-clause-opening
 judge_of_units-requires-clause-opening c =
-    let lawful = c.requires.lawful in log-opening lawful.0 (log_of (list_of c.args.listed.now lawful.1)) lawful.2.list.holds
+    let lawful = c.requires.lawful in log_opening-none_or_snapshot lawful.0 (log_of (list_of c.args.listed.now lawful.1)) lawful.2.list.holds
 
 pub judge_of_units-requires-clause-fits : goal.judge_of_units-requires-clause-fits
 judge_of_units-requires-clause-fits c = omega (arith, c.requires.fits, c.split_at.ensures.front_len)
@@ -39,7 +39,7 @@ returns-clause-cut c = λ genesis later whole place.
     omega (arith, c.new.ensures, lsn, ap length taken.list.units_are, c.split_at.ensures.front_len, c.requires.fits) in
     let opening : Opening = record { lsn = c.new.result; txn = c.greatest_txn.result; accounts = c.into_accounts.result.rows } in
     subst (λ records. IsCutOf (list_of c.args.listed.now records) opening)
-    (front-records c.args.listed.now.units _ genesis later taken.records c.args.front whole place own taken.list)
+    (front_units-genesis_records c.args.listed.now.units _ genesis later taken.records c.args.front whole place own taken.list)
     (record {
       lsn = end;
       txn = c.greatest_txn.ensures (opening_of c.args.listed.now.opening) _ taken.taken;

@@ -1,13 +1,13 @@
 use Rattle.std.proofs.Common.{sym, subst}
 use Rattle.log_record.specs.LogList.{AreUnitsOf}
-use Rattle.cli_shared.proofs.SourceLemmas.{source-fault}
-use Rattle.cli_cut.proofs.PartsLemmas.{are-parts, genesis-front}
+use Rattle.cli_shared.proofs.SourceLemmas.{HasSourceFault-is_source_fault}
+use Rattle.cli_cut.proofs.PartsLemmas.{ReadsAll-are_parts, genesis-front}
 use Rattle.cli_cut.proofs.reading.read_parts.Goals as goal
 
 pub returns-in-Err-clause-told : goal.returns-in-Err-clause-told
 returns-in-Err-clause-told g c =
     let fault = c.in-Err.ensures.fault in
-    rw c.detail_of.ensures (source-fault _ _ c.in-Err.fault (c.in-Ok.bytes.items, c.in-Ok.ensures.all, fault))
+    rw c.detail_of.ensures (HasSourceFault-is_source_fault _ _ c.in-Err.fault (c.in-Ok.bytes.items, c.in-Ok.ensures.all, fault))
 
 pub genesis_units-front-requires : goal.genesis_units-front-requires
 genesis_units-front-requires g c =
@@ -25,4 +25,4 @@ returns-clause-told g c =
     let recovers = c.in-Ok-recover_list.ensures.found in
     let found = c.in-Ok-recover_list.ensures.listed in
     let split = rw c.as_slice.ensures at c.genesis_units-front.ensures in
-    are-parts _ _ _ c.in-Ok.bytes.items recovers found split c.in-Ok-ask.ensures.head c.in-Ok.ensures.all c.in-Ok-ask.ensures.batch.0 c.in-Ok-ask.ensures.batch.1
+    ReadsAll-are_parts _ _ _ c.in-Ok.bytes.items recovers found split c.in-Ok-ask.ensures.head c.in-Ok.ensures.all c.in-Ok-ask.ensures.batch.0 c.in-Ok-ask.ensures.batch.1

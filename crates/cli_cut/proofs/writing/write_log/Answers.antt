@@ -7,7 +7,7 @@ use Rattle.log_recovery.specs.Opened.{log_of}
 use Rattle.segment_file.specs.PackedBatch.{BatchState}
 use Rattle.segment_file.specs.declared.layout.TheConstants.{MOST_UNITS}
 use Rattle.cli_cut.specs.Batches.{batches_of}
-use Rattle.cli_cut.proofs.ReadyLemmas.{IsGathered, IsReady, can-add, can-fit, can-open, can-place, failed-begun, failed-writes, gathered, gathered-none, gathered-underway, opened-count, opened-grows, opened-moments, ready-begun, ready-flushed, ready-last, ready-same, ready-taken, some-full}
+use Rattle.cli_cut.proofs.ReadyLemmas.{IsGathered, IsReady, ready-some_underway, waiting-within_last, gathered-some_underway, tail_at-within_bound, head_failed-writes_log, flush_failed-writes_log, ready-gathered, ready-gathered_none_waiting, gathered-underway, opened-costs, opened-grows, opened-leaves, ready-begun, ready-flushed, ready-flushed_last, ready-same, ready-taken, no_room-some_waiting}
 use Rattle.cli_cut.proofs.writing.write_log.Goals as goal
 use Rattle.cli_cut.proofs.writing.write_log.Goals.{then-count-size+in_ok-tail-2, else-count-size, then-count-gt0+in_ok-add_cut, else-count-gt0}
 
@@ -17,7 +17,7 @@ pub returns-in_err-tail : goal.returns-in_err-tail
 returns-in_err-tail g c =
     let failed = err_from_is_err_and c.from_residual.result c.from_residual.ensures.1 in
     let begun = c.in_err-tail.ensures in
-    rw failed.1 (failed-begun g.D.LogDisk _ c.args.head.now c.args.units.now failed.0 _ begun.moments begun.count begun.length begun.later begun.honest
+    rw failed.1 (head_failed-writes_log g.D.LogDisk _ c.args.head.now c.args.units.now failed.0 _ begun.moments begun.count begun.length begun.later begun.honest
     begun.attached begun.cause.later begun.cause.failed)
 
 -- ---- before each record
@@ -36,26 +36,26 @@ overflow_add-count g c = omega (arith, c.count.type_inv, c.in-Ok.ensures.found.1
 
 pub add_cut-requires-clause-some : goal.add_cut-requires-clause-some
 add_cut-requires-clause-some g c =
-    some-full _ c.in-Ok.field-0-0 c.in-Ok.ensures.found.0.0 (omega (arith, c.if-count-size.true, c.count.ensures, c.in-Ok.ensures.found.1))
+    no_room-some_waiting _ c.in-Ok.field-0-0 c.in-Ok.ensures.found.0.0 (omega (arith, c.if-count-size.true, c.count.ensures, c.in-Ok.ensures.found.1))
 
 pub add_cut-requires-clause-most : goal.add_cut-requires-clause-most
 add_cut-requires-clause-most g c = (c.records.invariant.writing c.requires.records.0 c.requires.records.1).few
 
 pub add_cut-requires-clause-fits : goal.add_cut-requires-clause-fits
-add_cut-requires-clause-fits g c = can-fit g.D.LogDisk _ c.args.head.now _ _ _ _ _ _ c.records.invariant c.requires.records c.requires.fits
+add_cut-requires-clause-fits g c = waiting-within_last g.D.LogDisk _ c.args.head.now _ _ _ _ _ _ c.records.invariant c.requires.records c.requires.fits
 
 pub add_cut-requires-clause-place : goal.add_cut-requires-clause-place
-add_cut-requires-clause-place g c = can-place g.D.LogDisk _ c.args.head.now _ _ _ _ _ _ c.records.invariant c.requires.records c.in_ok-tail.ensures.held
+add_cut-requires-clause-place g c = tail_at-within_bound g.D.LogDisk _ c.args.head.now _ _ _ _ _ _ c.records.invariant c.requires.records c.in_ok-tail.ensures.held
 
 pub add_cut-requires-clause-underway : goal.add_cut-requires-clause-underway
-add_cut-requires-clause-underway g c = can-add g.D.LogDisk _ c.args.head.now _ _ _ _ _ _ c.records.invariant c.requires.records
+add_cut-requires-clause-underway g c = ready-some_underway g.D.LogDisk _ c.args.head.now _ _ _ _ _ _ c.records.invariant c.requires.records
 
 pub returns-in_err-tail-2 : goal.returns-in_err-tail-2
 returns-in_err-tail-2 g c =
     let failed = err_from_is_err_and c.from_residual-in_err-tail-2.result c.from_residual-in_err-tail-2.ensures.1 in
-    let some = some-full _ c.in-Ok.field-0-0 c.in-Ok.ensures.found.0.0 (omega (arith, c.if-count-size.true, c.count.ensures, c.in-Ok.ensures.found.1)) in
+    let some = no_room-some_waiting _ c.in-Ok.field-0-0 c.in-Ok.ensures.found.0.0 (omega (arith, c.if-count-size.true, c.count.ensures, c.in-Ok.ensures.found.1)) in
     let added = c.in_err-tail-2.ensures in
-    rw failed.1 (failed-writes g.D.LogDisk _ c.args.head.now _ _ _ _ _ _ c.records.invariant failed.0 _ some added.moments added.count added.length added.later
+    rw failed.1 (flush_failed-writes_log g.D.LogDisk _ c.args.head.now _ _ _ _ _ _ c.records.invariant failed.0 _ some added.moments added.count added.length added.later
     added.honest added.attached added.cause.later added.cause.failed)
 
 -- ---- the record waits
@@ -97,7 +97,7 @@ records-preserved g c =
     elim c.if-count-size.branch [
       | then-count-size+in_ok-tail-2 w ↦
           (let full : MOST_UNITS < length c.records.batch.units + size_of c.in-Ok.field-0-0 = omega (arith, w.if-count-size.true, c.count.ensures, size) in
-          let some = some-full _ c.in-Ok.field-0-0 begins.0 full in
+          let some = no_room-some_waiting _ c.in-Ok.field-0-0 begins.0 full in
           let cleared = w.batch-is ∙ w.clear.ensures in
           let units = ap (λ (b : BatchState). b.units) cleared in
           let room = ap (λ (b : BatchState). b.room) (cleared ∙ ap (λ (b : BatchState). record b { units = [] }) w.in_ok-tail-2.ensures.batch) in
@@ -125,20 +125,20 @@ add_cut-requires-then-count-gt0-clause-most g c = (c.records.invariant.writing c
 
 pub add_cut-requires-then-count-gt0-clause-fits : goal.add_cut-requires-then-count-gt0-clause-fits
 add_cut-requires-then-count-gt0-clause-fits g c =
-    can-fit g.D.LogDisk _ c.args.head.now _ _ _ _ _ _ c.records.invariant c.requires.records c.requires.fits
+    waiting-within_last g.D.LogDisk _ c.args.head.now _ _ _ _ _ _ c.records.invariant c.requires.records c.requires.fits
 
 pub add_cut-requires-then-count-gt0-clause-place : goal.add_cut-requires-then-count-gt0-clause-place
 add_cut-requires-then-count-gt0-clause-place g c =
-    can-place g.D.LogDisk _ c.args.head.now _ _ _ _ _ _ c.records.invariant c.requires.records c.in_ok-tail.ensures.held
+    tail_at-within_bound g.D.LogDisk _ c.args.head.now _ _ _ _ _ _ c.records.invariant c.requires.records c.in_ok-tail.ensures.held
 
 pub add_cut-requires-then-count-gt0-clause-underway : goal.add_cut-requires-then-count-gt0-clause-underway
-add_cut-requires-then-count-gt0-clause-underway g c = can-add g.D.LogDisk _ c.args.head.now _ _ _ _ _ _ c.records.invariant c.requires.records
+add_cut-requires-then-count-gt0-clause-underway g c = ready-some_underway g.D.LogDisk _ c.args.head.now _ _ _ _ _ _ c.records.invariant c.requires.records
 
 pub returns-in_err-add_cut : goal.returns-in_err-add_cut
 returns-in_err-add_cut g c =
     let failed = err_from_is_err_and c.from_residual-in_err-add_cut.result c.from_residual-in_err-add_cut.ensures.1 in
     let added = c.in_err-add_cut.ensures in
-    rw failed.1 (failed-writes g.D.LogDisk _ c.args.head.now _ _ _ _ _ _ c.records.invariant failed.0 _ (omega (arith, c.if-count-gt0.true, c.count-2.ensures))
+    rw failed.1 (flush_failed-writes_log g.D.LogDisk _ c.args.head.now _ _ _ _ _ _ c.records.invariant failed.0 _ (omega (arith, c.if-count-gt0.true, c.count-2.ensures))
     added.moments added.count added.length added.later added.honest added.attached added.cause.later added.cause.failed)
 
 -- ---- the first gate is opened
@@ -150,15 +150,15 @@ open_cut-requires g c =
     elim c.if-count-gt0.branch [
       | then-count-gt0+in_ok-add_cut w ↦
           (let added = w.in_ok-add_cut.ensures in
-          gathered g.D.LogDisk _ c.args.head.now _ _ _ w.disk-is _ _ _
-          (ready-last g.D.LogDisk _ c.args.head.now _ _ _ _ _ _ c.records.invariant _ w.in_ok-add_cut.field-0 added.added added.moments added.place added.next
+          ready-gathered g.D.LogDisk _ c.args.head.now _ _ _ w.disk-is _ _ _
+          (ready-flushed_last g.D.LogDisk _ c.args.head.now _ _ _ _ _ _ c.records.invariant _ w.in_ok-add_cut.field-0 added.added added.moments added.place added.next
           added.length added.count added.later added.honest added.attached added.cause.fine (omega (arith, w.if-count-gt0.true, c.count-2.ensures)) none) none
           c.requires.records)
       | else-count-gt0 w ↦
-          gathered-none g.D.LogDisk _ c.args.head.now _ _ _ w.disk-is _ _ _ _ c.records.invariant (omega (arith, w.if-count-gt0.false, c.count-2.ensures)) none
+          ready-gathered_none_waiting g.D.LogDisk _ c.args.head.now _ _ _ w.disk-is _ _ _ _ c.records.invariant (omega (arith, w.if-count-gt0.false, c.count-2.ensures)) none
           c.requires.records
     ] in
-    record { underway = can-open g.D.LogDisk _ c.args.head.now _ _ all c.requires.records }
+    record { underway = gathered-some_underway g.D.LogDisk _ c.args.head.now _ _ all c.requires.records }
 
 pub returns : goal.returns
 returns g c =
@@ -167,21 +167,21 @@ returns g c =
     elim c.if-count-gt0.branch [
       | then-count-gt0+in_ok-add_cut w ↦
           (let added = w.in_ok-add_cut.ensures in
-          gathered g.D.LogDisk _ c.args.head.now _ _ _ w.disk-is _ _ _
-          (ready-last g.D.LogDisk _ c.args.head.now _ _ _ _ _ _ c.records.invariant _ w.in_ok-add_cut.field-0 added.added added.moments added.place added.next
+          ready-gathered g.D.LogDisk _ c.args.head.now _ _ _ w.disk-is _ _ _
+          (ready-flushed_last g.D.LogDisk _ c.args.head.now _ _ _ _ _ _ c.records.invariant _ w.in_ok-add_cut.field-0 added.added added.moments added.place added.next
           added.length added.count added.later added.honest added.attached added.cause.fine (omega (arith, w.if-count-gt0.true, c.count-2.ensures)) none) none
           c.requires.records)
       | else-count-gt0 w ↦
-          gathered-none g.D.LogDisk _ c.args.head.now _ _ _ w.disk-is _ _ _ _ c.records.invariant (omega (arith, w.if-count-gt0.false, c.count-2.ensures)) none
+          ready-gathered_none_waiting g.D.LogDisk _ c.args.head.now _ _ _ w.disk-is _ _ _ _ c.records.invariant (omega (arith, w.if-count-gt0.false, c.count-2.ensures)) none
           c.requires.records
     ] in
     let opened = c.open_cut.ensures in
     record {
-      moments = opened-moments g.D.LogDisk _ c.args.head.now _ _ all _ opened.moments;
+      moments = opened-leaves g.D.LogDisk _ c.args.head.now _ _ all _ opened.moments;
       made = λ honest. on_ok_weaker c.open_cut.result (λ stands made is are c' left.
           let held = stands all.tail (log_of made) (batches_of made.records) (gathered-underway g.D.LogDisk _ c.args.head.now _ _ all honest made is are) c' left in
           (held.0.held, held.1)) (opened.opened (all.honest.0 honest));
-      count = opened-count g.D.LogDisk _ c.args.head.now _ _ all _ opened.count;
+      count = opened-costs g.D.LogDisk _ c.args.head.now _ _ all _ opened.count;
       grows = opened-grows g.D.LogDisk _ c.args.head.now _ _ all _ opened.length;
       later = omega (arith, all.later, opened.later);
       honest = (λ first. opened.honest.0 (all.honest.0 first), λ last. all.honest.1 (opened.honest.1 last));

@@ -1,14 +1,14 @@
-use Rattle.cli_new.proofs.CreationLemmas.{each-opening, some-made, most-made, all-made, grows-made, leaves-made}
+use Rattle.cli_new.proofs.CreationLemmas.{opening-all_balances, made_units-some, made_units-within_most, AllStand-all_hold_new, grows-made, leaves-made}
 use Rattle.cli_new.proofs.new_command.make_log.Goals as goal
 
 pub genesis-requires-clause-each : goal.genesis-requires-clause-each
-genesis-requires-clause-each g c = each-opening _ _ c.in_ok-accounts.accounts c.in_ok-accounts.ensures.answer
+genesis-requires-clause-each g c = opening-all_balances _ _ c.in_ok-accounts.accounts c.in_ok-accounts.ensures.answer
 
 pub create-requires-clause-some : goal.create-requires-clause-some
-create-requires-clause-some g c = some-made _ _ c.in_ok-accounts.accounts c.in_ok-accounts.ensures.answer _ c.in-Ok.ensures
+create-requires-clause-some g c = made_units-some _ _ c.in_ok-accounts.accounts c.in_ok-accounts.ensures.answer _ c.in-Ok.ensures
 
 pub create-requires-clause-most : goal.create-requires-clause-most
-create-requires-clause-most g c = most-made _ _ c.in_ok-accounts.accounts c.in_ok-accounts.ensures.answer _ c.in-Ok.ensures
+create-requires-clause-most g c = made_units-within_most _ _ c.in_ok-accounts.accounts c.in_ok-accounts.ensures.answer _ c.in-Ok.ensures
 
 pub create-requires-clause-stable : goal.create-requires-clause-stable
 create-requires-clause-stable g c = λ honest. c.in_ok-finds_none.ensures.gate (c.in_ok-finds_none.ensures.honest.1 honest)
@@ -26,7 +26,7 @@ returns-in-Ok-create-clause-images g c = λ honest.
 
 pub returns-in-Ok-create-clause-made : goal.returns-in-Ok-create-clause-made
 returns-in-Ok-create-clause-made g c = λ honest.
-    all-made _ _ c.in_ok-accounts.accounts c.in_ok-accounts.ensures.answer _ c.in-Ok.ensures _ _
+    AllStand-all_hold_new _ _ c.in_ok-accounts.accounts c.in_ok-accounts.ensures.answer _ c.in-Ok.ensures _ _
     (c.in-Ok-create.ensures.created (c.in_ok-finds_none.ensures.honest.0 honest))
 
 pub returns-in-Err-clause-images : goal.returns-in-Err-clause-images

@@ -1,14 +1,14 @@
 use Rattle.std.proofs.Common.{◌*◌, ◌∙◌, ap, refl, subst, sym}
-use Rattle.cli_shared.proofs.FaultsTold.{told-before, told-fine, told-part}
+use Rattle.cli_shared.proofs.FaultsTold.{TellsFaults-not_write, TellsFaults-fine, TellsFaults-write}
 use Rattle.cli_shared.proofs.ToldLemmas.{TellsWrite}
-use Rattle.cli_new.proofs.AnswerLemmas.{answers_new-fine, answers_new-write, unmade-fault}
+use Rattle.cli_new.proofs.AnswerLemmas.{answers_new-fine, answers_new-write, making_fault-unmade}
 use Rattle.cli_new.proofs.new_command.new_command.Goals as goal
 
 -- no log is made
 pub returns-in-Err : goal.returns-in-Err
 returns-in-Err g c =
     let made = c.in-Err.ensures in
-    let told = unmade-fault _ _ _ c.in-Err.detail made.err in
+    let told = making_fault-unmade _ _ _ c.in-Err.detail made.err in
     record {
       done = record {
         answer = told.answer;
@@ -23,7 +23,7 @@ returns-in-Err g c =
         attached = made.attached;
         grows = made.grows;
       };
-      faults = told-before g.D.LogDisk g.S.Source g.K.Sink _ _ c.in-Err.detail (λ is. told.write (subst TellsWrite (sym is) tt)) made.read refl made.disk made.honest;
+      faults = TellsFaults-not_write g.D.LogDisk g.S.Source g.K.Sink _ _ c.in-Err.detail (λ is. told.write (subst TellsWrite (sym is) tt)) made.read refl made.disk made.honest;
     }
 
 -- the log is made, and its text written
@@ -43,7 +43,7 @@ returns-in-Ok-put_accounts g c = record {
     attached = c.in-Ok.ensures.attached;
     grows = c.in-Ok.ensures.grows;
   };
-  faults = told-fine g.D.LogDisk g.S.Source g.K.Sink _ _ (c.in-Ok.ensures.read.fine (λ is. cc)) c.in-Ok-put_accounts.ensures.cause.fine
+  faults = TellsFaults-fine g.D.LogDisk g.S.Source g.K.Sink _ _ (c.in-Ok.ensures.read.fine (λ is. cc)) c.in-Ok-put_accounts.ensures.cause.fine
       (c.in-Ok.ensures.disk.fine (λ is. cc)) c.in-Ok.ensures.honest;
 }
 
@@ -64,6 +64,6 @@ returns g c = record {
     attached = c.in-Ok.ensures.attached;
     grows = c.in-Ok.ensures.grows;
   };
-  faults = told-part g.D.LogDisk g.S.Source g.K.Sink _ _ (c.in-Ok.ensures.read.fine (λ is. cc)) c.in-Err-put_accounts.ensures.cause.failed
+  faults = TellsFaults-write g.D.LogDisk g.S.Source g.K.Sink _ _ (c.in-Ok.ensures.read.fine (λ is. cc)) c.in-Err-put_accounts.ensures.cause.failed
       (c.in-Ok.ensures.disk.fine (λ is. cc)) c.in-Ok.ensures.honest;
 }

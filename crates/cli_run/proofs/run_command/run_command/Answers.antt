@@ -1,11 +1,11 @@
 use Rattle.std.proofs.Common.{inl, inr, rules, ◌∙◌, refl}
-use Rattle.log_disk.proofs.Counting.{CountsWhere-after}
+use Rattle.log_disk.proofs.Counting.{CountsWhere-same_before}
 use Rattle.log_recovery.specs.Opened.{log_of}
 use Rattle.cli_shared.proofs.AttachedLemmas.{leaves-attached}
-use Rattle.cli_shared.proofs.FaultsTold.{told-before}
-use Rattle.cli_threads.proofs.EndingLemmas.{attached-ended, disk-concluded, honest-ended, write-concluded}
-use Rattle.cli_run.proofs.ReadyLemmas.{only-reads, ready-settled, settles}
-use Rattle.cli_run.proofs.RunAnswerLemmas.{answers-concluded, range-before, range-concluded, read-concluded, silent-before, silent-concluded, write-before}
+use Rattle.cli_shared.proofs.FaultsTold.{TellsFaults-not_write}
+use Rattle.cli_threads.proofs.EndingLemmas.{ended-same_attached, Concludes-counts_disk, ended-same_honest, Concludes-counts_write}
+use Rattle.cli_run.proofs.ReadyLemmas.{OnlyLooks-only_reads, ready-settled, opens-only_settles}
+use Rattle.cli_run.proofs.RunAnswerLemmas.{Concludes-answers_run, IsBeforeRun-answer_to_run, Concludes-answer_to_run, Concludes-not_read, RunStaysSilent-refl, Concludes-stays_silent, IsBeforeRun-not_write}
 use Rattle.cli_run.specs.RunReady.{IsReadyFor}
 use Rattle.cli_run.proofs.run_command.run_command.Goals as goal
 use Rattle.cli_run.proofs.run_command.run_command.Goals.{In-Ok-settle}
@@ -16,11 +16,11 @@ returns-in-Err g c =
     record {
       done = record {
         answer = λ honest. said.none honest c.args.options.now (g.K.Sink.held_bytes c.args.out.now);
-        silent = silent-before _ c.in-Err.detail;
-        range = range-before c.in-Err.detail said.range;
+        silent = RunStaysSilent-refl _ c.in-Err.detail;
+        range = IsBeforeRun-answer_to_run c.in-Err.detail said.range;
         attached = said.attached;
       };
-      faults = told-before g.D.LogDisk g.S.Source g.K.Sink _ _ c.in-Err.detail (write-before c.in-Err.detail said.range) said.read refl
+      faults = TellsFaults-not_write g.D.LogDisk g.S.Source g.K.Sink _ _ c.in-Err.detail (IsBeforeRun-not_write c.in-Err.detail said.range) said.read refl
           said.disk said.honest;
     }
 
@@ -29,7 +29,7 @@ returns-in_default g c =
     let said = c.in-Ok.ensures in
     record {
       done = record {
-        answer = λ honest. only-reads g.D.LogDisk c.args.disk.now c.open_and_read.new.disk (said.opened.looks honest) _ _ _;
+        answer = λ honest. OnlyLooks-only_reads g.D.LogDisk c.args.disk.now c.open_and_read.new.disk (said.opened.looks honest) _ _ _;
         silent = search rules;
         range = tt;
         attached = λ honest. inr (said.attached honest);
@@ -50,7 +50,7 @@ returns-in_default-settle g c =
     record {
       done = record {
         answer = λ honest. let honest_mid = said.honest.0 honest in let log = log_of opens.recovers.list in
-            inl (settles g.D.LogDisk c.args.disk.now c.open_and_read.new.disk c.in-Ok.read.0 opens c.settle.new.disk
+            inl (opens-only_settles g.D.LogDisk c.args.disk.now c.open_and_read.new.disk c.in-Ok.read.0 opens c.settle.new.disk
             (said.opened.looks honest) (settled.moments honest_mid log (opens.stand honest)) (settled.count honest_mid) honest
             (g.met.D.LogDisk.read_is_image _ honest_mid) (settled.length honest_mid) _ _ _);
         silent = tt;
@@ -94,23 +94,23 @@ returns g c =
     let settled = c.in-Ok-settle.ensures in
     record {
       done = record {
-        answer = λ honest. answers-concluded g.D.LogDisk g.K.Sink _
+        answer = λ honest. Concludes-answers_run g.D.LogDisk g.K.Sink _
             (record { prepared = c.in-Ok-prepare_run.prepared; tail = c.in-Ok-settle.tail }) _ _ _ _ _ _ _ _ _ is done.has honest
             (settled.honest.0 (said.honest.0 honest)) c.finish.result done.concludes;
-        silent = silent-concluded g.K.Sink done.ended _ _ _ _ _ c.finish.result done.concludes;
-        range = range-concluded g.K.Sink done.ended _ _ _ c.finish.result done.concludes;
+        silent = Concludes-stays_silent g.K.Sink done.ended _ _ _ _ _ c.finish.result done.concludes;
+        range = Concludes-answer_to_run g.K.Sink done.ended _ _ _ c.finish.result done.concludes;
         attached = λ honest. leaves-attached _ _ _ c.finish.result
-            (attached-ended g.D.LogDisk g.K.Sink _ is.opened _ _ _ _ _ _ done.has ∙ (settled.attached ∙ said.attached honest));
+            (ended-same_attached g.D.LogDisk g.K.Sink _ is.opened _ _ _ _ _ _ done.has ∙ (settled.attached ∙ said.attached honest));
       };
       faults = record {
         read = record {
-          counted = λ is. absurd (read-concluded g.K.Sink done.ended _ _ _ c.finish.result done.concludes is);
+          counted = λ is. absurd (Concludes-not_read g.K.Sink done.ended _ _ _ c.finish.result done.concludes is);
           fine = λ other. said.read.fine (λ is. cc);
         };
-        write = write-concluded g.D.LogDisk g.K.Sink _ is.opened _ _ _ _ _ _ done.has _ _ c.finish.result done.concludes done.write;
-        disk = CountsWhere-after _ _ _ _ (settled.cause.fine ∙ said.disk.fine (λ is. cc))
-            (disk-concluded g.D.LogDisk g.K.Sink _ is.opened _ _ _ _ _ _ done.has _ _ c.finish.result done.concludes);
-        honest = let same = honest-ended g.D.LogDisk g.K.Sink _ is.opened _ _ _ _ _ _ done.has in
+        write = Concludes-counts_write g.D.LogDisk g.K.Sink _ is.opened _ _ _ _ _ _ done.has _ _ c.finish.result done.concludes done.write;
+        disk = CountsWhere-same_before _ _ _ _ (settled.cause.fine ∙ said.disk.fine (λ is. cc))
+            (Concludes-counts_disk g.D.LogDisk g.K.Sink _ is.opened _ _ _ _ _ _ done.has _ _ c.finish.result done.concludes);
+        honest = let same = ended-same_honest g.D.LogDisk g.K.Sink _ is.opened _ _ _ _ _ _ done.has in
             (λ honest. same.0 (settled.honest.0 (said.honest.0 honest)), λ honest. said.honest.1 (settled.honest.1 (same.1 honest)));
       };
     }

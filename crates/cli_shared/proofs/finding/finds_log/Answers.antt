@@ -1,5 +1,5 @@
 use Rattle.std.proofs.Common.{◌∙◌, rules}
-use Rattle.cli_shared.proofs.AttachedLemmas.{attached-then}
+use Rattle.cli_shared.proofs.AttachedLemmas.{attached-whatever_result}
 use Rattle.cli_shared.proofs.FindingLemmas.{HasCause-after}
 use Rattle.cli_shared.proofs.finding.finds_log.Goals as goal
 
@@ -20,10 +20,10 @@ returns-clause-settled g c = search rules steps 1000000
 
 pub returns-in_err-sync-clause-attached : goal.returns-in_err-sync-clause-attached
 returns-in_err-sync-clause-attached g c = λ honest.
-    attached-then _ _ _ _ _ (c.in_ok-attach.ensures.attached honest) c.sync.ensures.attached
+    attached-whatever_result _ _ _ _ _ (c.in_ok-attach.ensures.attached honest) c.sync.ensures.attached
 
 pub returns-clause-attached : goal.returns-clause-attached
-returns-clause-attached g c = λ honest. attached-then _ _ _ _ c.has_open_gate.result (c.in_ok-attach.ensures.attached honest)
+returns-clause-attached g c = λ honest. attached-whatever_result _ _ _ _ c.has_open_gate.result (c.in_ok-attach.ensures.attached honest)
     (c.has_open_gate.ensures.attached ∙ c.sync.ensures.attached)
 
 pub returns-clause-cause : goal.returns-clause-cause

@@ -1,6 +1,6 @@
 use Rattle.std.proofs.Common.{rules, subst}
 use Rattle.segment_file.specs.File.{BeginsOpen}
-use Rattle.cli_shared.proofs.FindingLemmas.{gate-settled}
+use Rattle.cli_shared.proofs.FindingLemmas.{IsOnlyImage-stable_gate}
 use Rattle.cli_shared.proofs.finding.finds_none.Goals as goal
 
 -- no log is there
@@ -10,7 +10,7 @@ returns-in-Ok-false g c =
     record {
       looks = found.looks;
       closed = λ honest opened. let yes = (found.opens honest).1 opened in let no = c.in-Ok-false.field-0-test in cc;
-      gate = λ honest. gate-settled (g.D.LogDisk.reads c.finds_log.new.disk) _ (found.settled honest) (λ opened.
+      gate = λ honest. IsOnlyImage-stable_gate (g.D.LogDisk.reads c.finds_log.new.disk) _ (found.settled honest) (λ opened.
           let yes = (found.opens honest).1 (subst BeginsOpen (found.looks.reads honest) opened) in
           let no = c.in-Ok-false.field-0-test in cc);
       fault = tt;

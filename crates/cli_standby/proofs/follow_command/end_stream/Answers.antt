@@ -1,12 +1,12 @@
 use Rattle.std.proofs.Common.{◌∙◌, ap, sym, subst}
 use Rattle.standby.specs.declared.standby.Standby.{Standby}
 use Rattle.cli_standby.specs.Feeding.{HasFedEnd, StopsFeeding}
-use Rattle.cli_standby.proofs.FedLemmas.{counts-no-read, ends-failed, ends-no-further, stops-early}
+use Rattle.cli_standby.proofs.FedLemmas.{counts-no-read, feed_ends_err-any_made, stops_feeding-feed_ends, stops-early}
 use Rattle.cli_standby.proofs.follow_command.end_stream.Goals as goal
 
 -- not all of the input was fed
 pub returns-in-Err : goal.returns-in-Err
-returns-in-Err g c = ends-failed g.D.LogDisk g.S.Source _ _ _ _ _ _ _ c.in-Err.ensures
+returns-in-Err g c = feed_ends_err-any_made g.D.LogDisk g.S.Source _ _ _ _ _ _ _ c.in-Err.ensures
 
 pub end-requires : goal.end-requires
 end-requires g c =
@@ -35,7 +35,7 @@ returns-in-Err-end g c =
     let left = g.S.Source.left c.args.input.now in
     let left_new = g.S.Source.left c.feed_all.new.input in
     let said = c.in_default.ensures in
-    rw c.detail_of_stream.ensures (ends-no-further g.D.LogDisk g.S.Source
+    rw c.detail_of_stream.ensures (stops_feeding-feed_ends g.D.LogDisk g.S.Source
     (λ base lsn. HasFedEnd g.D.LogDisk base left left_new lsn c.end.new.self) c.args.standby.now c.end.new.self c.args.input.now
     c.feed_all.new.input c.in-Err-end.fault (λ base follows.
     let all = said.ok base follows in

@@ -1,7 +1,7 @@
 use Rattle.std.proofs.Common.{rules, ◌∙◌, inl, refl, [], take}
 use Rattle.std.proofs.KnownBytes.{Consumes-nil}
-use Rattle.log_disk.proofs.Counting.{CountsWhere-after}
-use Rattle.cli_standby.proofs.FedLemmas.{counts-no-read, ends-no-further, fed-end, fed-kept, fed-more, fed-none, fed-stopped, stops-unread}
+use Rattle.log_disk.proofs.Counting.{CountsWhere-same_before}
+use Rattle.cli_standby.proofs.FedLemmas.{counts-no-read, stops_feeding-feed_ends, fed-end, fed-failed_read, fed-more, fed-none, fed-stopped, read_failed-stops_feeding}
 use Rattle.cli_standby.proofs.follow_command.feed_all.Goals as goal
 
 pub pieces-init : goal.pieces-init
@@ -35,11 +35,11 @@ returns-in-Err g c =
     record {
       ok = tt;
       stops = λ base follows.
-          stops-unread g.D.LogDisk base left (g.S.Source.left c.read.new.self) c.pieces.standby
-          (fed-kept g.D.LogDisk base left (g.S.Source.left c.pieces.input) (g.S.Source.left c.read.new.self) c.pieces.standby
+          read_failed-stops_feeding g.D.LogDisk base left (g.S.Source.left c.read.new.self) c.pieces.standby
+          (fed-failed_read g.D.LogDisk base left (g.S.Source.left c.pieces.input) (g.S.Source.left c.read.new.self) c.pieces.standby
           (c.pieces.invariant.fed base follows) c.in-Err.ensures.bytes);
       range = inl refl;
-      read = CountsWhere-after _ _ _ _ c.pieces.invariant.no_fault
+      read = CountsWhere-same_before _ _ _ _ c.pieces.invariant.no_fault
           (record { counted = λ is. c.in-Err.ensures.cause.failed; fine = λ other. absurd (other refl) });
       same = c.pieces.invariant.same;
     }
@@ -64,7 +64,7 @@ pieces-preserved g c = record {
 -- the standby goes no further
 pub returns-in-Err-feed : goal.returns-in-Err-feed
 returns-in-Err-feed g c =
-    rw c.detail_of_stream.ensures (ends-no-further g.D.LogDisk g.S.Source _ _ _ _ _ c.in-Err-feed.fault (λ base follows.
+    rw c.detail_of_stream.ensures (stops_feeding-feed_ends g.D.LogDisk g.S.Source _ _ _ _ _ c.in-Err-feed.fault (λ base follows.
     let has = c.pieces.invariant.fed base follows in
     fed-stopped g.D.LogDisk base (g.S.Source.left c.args.input.now) (g.S.Source.left c.pieces.input)
     (g.S.Source.left c.read.new.self) c.pieces.standby (take c.in-Ok.count c.read.new.buf) has c.in-Ok.ensures.bytes.0 c.in-Err-feed.fault

@@ -1,8 +1,8 @@
 use Rattle.std.proofs.Common.{refl}
 use Rattle.std.specs.Io.KnownBytes.{Appends}
 use Rattle.log_disk.specs.Streams.{AppendsPart}
-use Rattle.cli_shared.proofs.FaultsTold.{told-before, told-fine, told-part}
-use Rattle.cli_standby.proofs.FollowLemmas.{followed-whole, range-unsaid, silent-unsaid, write-unsaid}
+use Rattle.cli_shared.proofs.FaultsTold.{TellsFaults-not_write, TellsFaults-fine, TellsFaults-write}
+use Rattle.cli_standby.proofs.FollowLemmas.{followed-whole, unsaid-is_answer_to_follow, silent-unsaid, unsaid-not_write}
 use Rattle.cli_standby.proofs.follow_command.follow_command.Goals as goal
 
 -- the stream wasn't followed to its end
@@ -13,10 +13,10 @@ returns-in-Err g c =
       done = record {
         answer = λ honest. said.none honest (g.K.Sink.held_bytes c.args.out.now);
         silent = silent-unsaid (g.K.Sink.held_bytes c.args.out.now) c.in-Err.detail said.range;
-        range = range-unsaid c.in-Err.detail said.range;
+        range = unsaid-is_answer_to_follow c.in-Err.detail said.range;
         attached = said.attached;
       };
-      faults = told-before g.D.LogDisk g.S.Source g.K.Sink _ _ c.in-Err.detail (write-unsaid c.in-Err.detail said.range) said.read refl said.disk said.honest;
+      faults = TellsFaults-not_write g.D.LogDisk g.S.Source g.K.Sink _ _ c.in-Err.detail (unsaid-not_write c.in-Err.detail said.range) said.read refl said.disk said.honest;
     }
 
 -- it was, and the accounts are written
@@ -30,7 +30,7 @@ returns-in-Ok-put_accounts g c =
         range = tt;
         attached = said.attached;
       };
-      faults = told-fine g.D.LogDisk g.S.Source g.K.Sink _ _ (said.read.fine (λ is. cc)) c.in-Ok-put_accounts.ensures.cause.fine (said.disk.fine (λ is. cc)) said.honest;
+      faults = TellsFaults-fine g.D.LogDisk g.S.Source g.K.Sink _ _ (said.read.fine (λ is. cc)) c.in-Ok-put_accounts.ensures.cause.fine (said.disk.fine (λ is. cc)) said.honest;
     }
 
 -- it was, and the writing failed
@@ -44,5 +44,5 @@ returns g c =
         range = tt;
         attached = said.attached;
       };
-      faults = told-part g.D.LogDisk g.S.Source g.K.Sink _ _ (said.read.fine (λ is. cc)) c.in-Err-put_accounts.ensures.cause.failed (said.disk.fine (λ is. cc)) said.honest;
+      faults = TellsFaults-write g.D.LogDisk g.S.Source g.K.Sink _ _ (said.read.fine (λ is. cc)) c.in-Err-put_accounts.ensures.cause.failed (said.disk.fine (λ is. cc)) said.honest;
     }

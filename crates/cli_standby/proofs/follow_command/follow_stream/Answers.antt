@@ -1,7 +1,7 @@
 use Rattle.std.proofs.Common.{inr, refl}
 use Rattle.standby.specs.declared.fault.StandbyFault.TheVariants as stream
 use Rattle.cli_standby.specs.Feeding.{begun}
-use Rattle.cli_standby.proofs.FedLemmas.{stops-unmade}
+use Rattle.cli_standby.proofs.FedLemmas.{no_memory-stops_feeding}
 use Rattle.cli_standby.proofs.FollowLemmas.{fed-whole}
 use Rattle.cli_standby.proofs.follow_command.follow_stream.Goals as goal
 
@@ -9,7 +9,7 @@ use Rattle.cli_standby.proofs.follow_command.follow_stream.Goals as goal
 pub returns-in-Err-clause-stops : goal.returns-in-Err-clause-stops
 returns-in-Err-clause-stops g c = λ list keeps.
     let left = g.S.Source.left c.args.input.now in
-    rw c.in-Err.ensures.disk (stops-unmade g.D.LogDisk list c.args.judge c.args.tail c.args.kept.disk.now left left keeps)
+    rw c.in-Err.ensures.disk (no_memory-stops_feeding g.D.LogDisk list c.args.judge c.args.tail c.args.kept.disk.now left left keeps)
 
 pub returns-in-Err-clause-range : goal.returns-in-Err-clause-range
 returns-in-Err-clause-range g c = inr (stream.NoMemory, refl)

@@ -1,7 +1,7 @@
 use Rattle.std.proofs.Common.{inr, subst, sym, arith}
 use Rattle.log_recovery.specs.Opened.{log_of}
 use Rattle.log_recovery.specs.Recovery.{IsFaultOf}
-use Rattle.cli_standby.proofs.SettledLemmas.{gate-read, is-opened, place-read, stand-read, unsaid-fault, unsettled}
+use Rattle.cli_standby.proofs.SettledLemmas.{read_tail-stable_gate, is-opened, read_tail-place_within_2_63, read_tail-log_stands, unsaid-fault, settling_failed-answers_unsaid}
 use Rattle.cli_standby.proofs.opening.open_standby.Goals as goal
 
 -- the bytes are no lawful log, or there was no memory
@@ -20,7 +20,7 @@ pub settle-requires-clause-stable : goal.settle-requires-clause-stable
 settle-requires-clause-stable g c = λ honest.
     let said = c.in-Ok.ensures in
     let found = rw c.as_slice.ensures.value at c.in-Ok-judged.ensures.found in
-    gate-read g.D.LogDisk c.args.disk.now c.image_of.new.disk c.in-Ok.bytes.items said.bytes c.in-Ok-judged.both.1 c.in-Ok-judged.both.0
+    read_tail-stable_gate g.D.LogDisk c.args.disk.now c.image_of.new.disk c.in-Ok.bytes.items said.bytes c.in-Ok-judged.both.1 c.in-Ok-judged.both.0
     found said.reads said.settled (said.honest.1 honest)
 
 pub returns-in-Ok-settle-clause-opened : goal.returns-in-Ok-settle-clause-opened
@@ -28,7 +28,7 @@ returns-in-Ok-settle-clause-opened g c =
     let said = c.in-Ok.ensures in
     let settled = c.in-Ok-settle.ensures in
     let found = rw c.as_slice.ensures.value at c.in-Ok-judged.ensures.found in
-    let stand = stand-read g.D.LogDisk c.args.disk.now c.image_of.new.disk c.in-Ok.bytes.items said.bytes c.in-Ok-judged.both.1
+    let stand = read_tail-log_stands g.D.LogDisk c.args.disk.now c.image_of.new.disk c.in-Ok.bytes.items said.bytes c.in-Ok-judged.both.1
     c.in-Ok-judged.both.0 found said.reads said.settled in
     is-opened g.D.LogDisk c.args.disk.now c.image_of.new.disk c.in-Ok.bytes.items said.bytes c.in-Ok-judged.both.1 c.in-Ok-judged.both.0
     found said.reads said.settled c.settle.new.disk
@@ -36,7 +36,7 @@ returns-in-Ok-settle-clause-opened g c =
     (λ honest. settled.moments (said.honest.0 honest) (log_of found.list) (stand honest)) (λ honest. settled.count (said.honest.0 honest))
     (λ honest. settled.length (said.honest.0 honest)) (λ honest. settled.stand (said.honest.0 honest) (log_of found.list) (stand honest))
     c.in-Ok-settle.tail settled.tail
-    (place-read g.D.LogDisk c.args.disk.now c.image_of.new.disk c.in-Ok.bytes.items said.bytes c.in-Ok-judged.both.1 c.in-Ok-judged.both.0
+    (read_tail-place_within_2_63 g.D.LogDisk c.args.disk.now c.image_of.new.disk c.in-Ok.bytes.items said.bytes c.in-Ok-judged.both.1 c.in-Ok-judged.both.0
     found said.reads said.settled (omega arith))
     (λ honest. said.honest.1 (settled.honest.1 honest)) (λ honest. settled.shut (said.honest.0 honest))
 
@@ -45,9 +45,9 @@ returns-in-Err-settle-clause-none g c = λ honest left left_new.
     let said = c.in-Ok.ensures in
     let settled = c.in-Err-settle.ensures in
     let found = rw c.as_slice.ensures.value at c.in-Ok-judged.ensures.found in
-    let stand = stand-read g.D.LogDisk c.args.disk.now c.image_of.new.disk c.in-Ok.bytes.items said.bytes c.in-Ok-judged.both.1
+    let stand = read_tail-log_stands g.D.LogDisk c.args.disk.now c.image_of.new.disk c.in-Ok.bytes.items said.bytes c.in-Ok-judged.both.1
     c.in-Ok-judged.both.0 found said.reads said.settled in
-    unsettled g.D.LogDisk c.args.disk.now c.image_of.new.disk c.in-Ok.bytes.items said.bytes c.in-Ok-judged.both.1 c.in-Ok-judged.both.0
+    settling_failed-answers_unsaid g.D.LogDisk c.args.disk.now c.image_of.new.disk c.in-Ok.bytes.items said.bytes c.in-Ok-judged.both.1 c.in-Ok-judged.both.0
     found said.reads said.settled c.settle.new.disk
     (λ honest. record { images = said.moments; reads = said.reads honest; count = said.count honest })
     (λ honest. settled.moments (said.honest.0 honest) (log_of found.list) (stand honest)) (λ honest. settled.count (said.honest.0 honest))

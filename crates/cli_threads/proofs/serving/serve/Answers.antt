@@ -6,7 +6,7 @@ use Rattle.txn_runner.specs.Working.{HasWorked, jobs_of, places_in}
 use Rattle.txn_runner.proofs.WorkLemmas.{HasWorked-none}
 use Rattle.cli_threads.specs.Waiting.{HaveWaited, made_of}
 use Rattle.cli_threads.proofs.WaitedLemmas.{HaveWaited-worked}
-use Rattle.cli_threads.proofs.ServedLemmas.{HasDone, HasDone-left, IsOf-left, ended-left, view-left}
+use Rattle.cli_threads.proofs.ServedLemmas.{HasDone, HasDone-left, IsOf-left, left-role_ended, left-view_retired}
 use Rattle.cli_threads.proofs.serving.serve.Goals as goal
 
 pub work-worked-requires-clause-worker : goal.work-worked-requires-clause-worker
@@ -40,7 +40,7 @@ returns g c =
     let new = view_of c.work-worked.new.seat in
     let none = ap (λ (books : Books). books.jobs) hired.books in
     let leaves = c.leave.ensures.view in
-    let left = view-left c.work-worked.new.seat c.leave.new.seat leaves in
+    let left = left-view_retired c.work-worked.new.seat c.leave.new.seat leaves in
     let done = HasDone-left jobs start taken c.waits-wait.result worked
     (view_of c.args.worker.seat) new first none did.worked did.jobs did.works in
     let all = subst (HasDone jobs taken worked) (sym left) done in
@@ -49,7 +49,7 @@ returns g c =
       done = record {
         seat = IsOf-left c.work-worked.new.seat c.leave.new.seat leaves c.args.run.now.table.now
             c.work-worked.ensures.worker.seat;
-        ended = ended-left c.work-worked.new.seat c.leave.new.seat leaves;
+        ended = left-role_ended c.work-worked.new.seat c.leave.new.seat leaves;
         pass = did.pass;
         jobs_are = all.jobs_are;
         has = all.has;

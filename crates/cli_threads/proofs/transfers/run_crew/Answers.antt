@@ -4,7 +4,7 @@ use Rattle.log_rule.specs.May.{MayClose}
 use Rattle.log_table.specs.HiredWorkers.{HasHired, KnowsHired}
 use Rattle.log_table.specs.Seats.{key_of, view_of}
 use Rattle.cli_threads.specs.Prepared.{HasTurned, IsLeftOf, MayBeTakenApart}
-use Rattle.cli_threads.proofs.TransferredLemmas.{MayClose-gathered, some-then}
+use Rattle.cli_threads.proofs.TransferredLemmas.{MayClose-gathered, IsSomeAnd-weaken}
 use Rattle.cli_threads.proofs.transfers.run_crew.Goals as goal
 
 pub relief_of-relief-requires-clause-seat : goal.relief_of-relief-requires-clause-seat
@@ -37,7 +37,7 @@ returns-clause-turned g c =
     → IsSomeAnd c.take_apart.new.served (HasTurned g.D.LogDisk g.K.Sink c.args.table.now c.args.jobs.now.queue (length c.args.refused.now)
     c.args.wait c.args.tail c.args.voice c.args.crew.flusher_seat c.args.outside.disk.now c.take_apart.result.disk.now c.args.outside.out.now
     c.take_apart.result.out.now) =
-    λ relief left disk out same. some-then (IsLeftOf g.D.LogDisk g.K.Sink relief.daemon c.in-Some.ends.items)
+    λ relief left disk out same. IsSomeAnd-weaken (IsLeftOf g.D.LogDisk g.K.Sink relief.daemon c.in-Some.ends.items)
     (HasTurned g.D.LogDisk g.K.Sink c.args.table.now c.args.jobs.now.queue (length c.args.refused.now) c.args.wait c.args.tail c.args.voice
     c.args.crew.flusher_seat c.args.outside.disk.now c.take_apart.result.disk.now c.args.outside.out.now c.take_apart.result.out.now)
     c.take_apart.new.served left (λ place is_left. record {

@@ -14,7 +14,7 @@ use Rattle.cli_threads.specs.Gathering.{share_of}
 use Rattle.cli_threads.specs.Prepared.{HasTurned, IsEndOf, IsOver}
 use Rattle.cli_threads.specs.Shares.{Share}
 use Rattle.cli_threads.specs.Waiting.{HaveWaited, made_of}
-use Rattle.cli_threads.proofs.TransferredLemmas.{HasTransferred-gathered, both-some, ends-of_shares, some-then}
+use Rattle.cli_threads.proofs.TransferredLemmas.{HasTransferred-gathered, IsSomeAnd-both, share_of-worked_of, IsSomeAnd-weaken}
 use Rattle.cli_threads.proofs.WaitedLemmas.{HaveWaited-all}
 use Rattle.cli_threads.proofs.transfers.run_transfers.Goals as goal
 
@@ -33,7 +33,7 @@ run_crew-outside-requires-clause-log g c = λ κs within. let log = c.requires.o
 
 pub close-requires : goal.close-requires
 close-requires g c = record {
-  served = some-then (HasTurned g.D.LogDisk g.K.Sink c.args.prepared.table c.args.prepared.jobs.queue (length c.as_slice.result.now) c.args.wait c.args.tail
+  served = IsSomeAnd-weaken (HasTurned g.D.LogDisk g.K.Sink c.args.prepared.table c.args.prepared.jobs.queue (length c.as_slice.result.now) c.args.wait c.args.tail
       c.args.voice c.args.prepared.crew.flusher_seat c.args.disk.now c.run_crew-outside.result.disk.now c.args.out.now c.run_crew-outside.result.out.now)
       (IsOver c.args.prepared.table) _ c.run_crew-outside.ensures.turned (λ served turned. record {
         seat = subst (IsOf c.args.prepared.table) (sym turned.rest.flusher_seat) turned.crew.seat;
@@ -46,7 +46,7 @@ returns g c =
     let prepared = c.args.prepared in
     let key = key_of prepared.table in
     let queue = prepared.jobs.queue in
-    let came = both-some
+    let came = IsSomeAnd-both
     (HasTurned g.D.LogDisk g.K.Sink prepared.table queue (length c.as_slice.result.now) c.args.wait c.args.tail c.args.voice prepared.crew.flusher_seat
     c.args.disk.now c.run_crew-outside.result.disk.now c.args.out.now c.run_crew-outside.result.out.now) (IsEndOf prepared.table c.close.result)
     c.run_crew-outside.new.served c.run_crew-outside.ensures.turned c.close.ensures in
@@ -71,7 +71,7 @@ returns g c =
             (subst (λ (s : Seat). IsGathered c.close.result.closed.tail (view_of s)) turned.rest.flusher_seat over.gathered)
             (subst (λ (s : Seat). HasLedger (base_of key) (view_of s) c.close.result.closed.accounts.rows) turned.rest.flusher_seat over.accounts)
             (subst (λ (s : Seat). HasHeardOfWorkers (view_of s)) turned.rest.flusher_seat over.heard);
-        ends = ends-of_shares served.workers ∙ sym served.ends_are ∙ sym turned.rest.ends_are ∙ over.ends_are;
+        ends = share_of-worked_of served.workers ∙ sym served.ends_are ∙ sym turned.rest.ends_are ∙ over.ends_are;
         waited = λ waits. subst (λ (v : View). (worker : ℕ) (share : Share) → get_elem? (map share_of served.workers) worker ≡ some share
             → HaveWaited (jobs_of queue) (made_of share.taken share.worked) v.entries v.books.given) (sym served.view)
             (HaveWaited-all prepared.table queue c.args.wait 0 served.workers served.done (view_of served.last.flusher.seat) waits);

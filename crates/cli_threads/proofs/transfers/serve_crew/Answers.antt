@@ -6,8 +6,8 @@ use Rattle.log_table.specs.Seats.{view_of}
 use Rattle.flusher.proofs.Keeps.{KeepsLog-same}
 use Rattle.commit_pipeline.proofs.ToldSoFar.{HasTold-step}
 use Rattle.cli_threads.specs.Gathering.{all_marks, all_places, view_in}
-use Rattle.cli_threads.proofs.TakenPlaces.{front-back}
-use Rattle.cli_threads.proofs.TransferredLemmas.{AreDone-here, HasLeft-all, takes_all-constants, takes_all-sending}
+use Rattle.cli_threads.proofs.TakenPlaces.{places_back-are_front}
+use Rattle.cli_threads.proofs.TransferredLemmas.{AreDone-same, HasLeft-all, takes_all-constants, takes_all-sending}
 use Rattle.cli_threads.proofs.transfers.serve_crew.Goals as goal
 
 pub serve_all-relief-requires-clause-hands : goal.serve_all-relief-requires-clause-hands
@@ -31,7 +31,7 @@ serve_all-relief-requires-clause-told g c = λ κs within. c.requires.flusher_se
 pub gather-worked-requires-clause-workers : goal.gather-worked-requires-clause-workers
 gather-worked-requires-clause-workers g c =
     let workers = c.serve_all-relief.result.1 in
-    let done = AreDone-here workers.items c.make-run.ensures.table (c.make-run.ensures.queue ∙ c.queue-queue.ensures) c.make-run.ensures.wait
+    let done = AreDone-same workers.items c.make-run.ensures.table (c.make-run.ensures.queue ∙ c.queue-queue.ensures) c.make-run.ensures.wait
     c.serve_all-relief.ensures.served.done in
     HasLeft-all c.args.table.now c.args.jobs.now.queue c.args.wait 0 workers.items done
 
@@ -70,7 +70,7 @@ invariant_of-daemon g c =
 pub returns-clause-turned : goal.returns-clause-turned
 returns-clause-turned g c =
     let workers = c.serve_all-relief.result.1 in
-    let done = AreDone-here workers.items c.make-run.ensures.table (c.make-run.ensures.queue ∙ c.queue-queue.ensures) c.make-run.ensures.wait
+    let done = AreDone-same workers.items c.make-run.ensures.table (c.make-run.ensures.queue ∙ c.queue-queue.ensures) c.make-run.ensures.wait
     c.serve_all-relief.ensures.served.done in
     let gathered = c.gather-worked.ensures in
     let counted = c.count_taken.ensures in
@@ -80,7 +80,7 @@ returns-clause-turned g c =
       later = c.serve_all-relief.ensures.served.later;
       done = done;
       count = sym workers.ok.0 ∙ (c.serve_all-relief.ensures.served.count ∙ c.requires.hands.count);
-      front = front-back c.args.jobs.now c.gather-worked.new.jobs c.count_taken.new.self (all_places workers.items) (all_marks workers.items)
+      front = places_back-are_front c.args.jobs.now c.gather-worked.new.jobs c.count_taken.new.self (all_places workers.items) (all_marks workers.items)
           c.requires.jobs.enlisted.none_back gathered.same gathered.places gathered.marks counted.jobs counted.same counted.back counted.taken;
       stops = gathered.stops;
       drained = c.serve_all-relief.ensures.served.drained;

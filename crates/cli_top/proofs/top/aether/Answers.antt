@@ -4,7 +4,7 @@ use Rattle.cli_shared.specs.Answers.{status_of}
 use Rattle.cli_shared.specs.World.{World, world}
 use Rattle.cli_top.specs.Answered.{Answered}
 use Rattle.cli_standby.proofs.Completeness.{follow-complete}
-use Rattle.cli_top.proofs.AnsweredLemmas.{count-of, done-of, faults-of, refused-of, same-of, silent-of, untouched-of, usage-of}
+use Rattle.cli_top.proofs.AnsweredLemmas.{Answered-costs, Answered-does_command, Answered-tells_faults, Answered-not_taken_detail, Answered-not_taken_same, Answered-stays_silent, Answered-disk_same, Answered-usage_not_taken}
 use Rattle.cli_top.proofs.CompletenessLemmas.{account-complete, boundary-complete, cut-complete, dump-complete, new-complete, recover-complete}
 use Rattle.cli_top.proofs.DemoCompleteness.{demo-complete}
 use Rattle.cli_top.proofs.RunCompleteness.{run-complete}
@@ -18,15 +18,15 @@ returns g c =
     let detail = c.of.result.detail in
     let came : Answered g.D.LogDisk g.S.Source g.K.Sink words old new detail =
     subst (Answered g.D.LogDisk g.S.Source g.K.Sink words old new) (sym c.of.ensures.detail) c.answer.ensures in
-    let faults = faults-of _ _ _ words old new detail came in
-    let done = done-of _ _ _ words old new detail came in
+    let faults = Answered-tells_faults _ _ _ words old new detail came in
+    let done = Answered-does_command _ _ _ words old new detail came in
     record {
       status = c.of.ensures.status ∙ ap status_of (sym c.of.ensures.detail);
-      usage = usage-of _ _ _ words old new detail came;
-      refused = refused-of _ _ _ words old new detail came;
-      unread = λ none. ap (λ (w : World _ _ _). w.input) (same-of _ _ _ words old new detail came none);
-      unwritten = λ none. ap (λ (w : World _ _ _). w.out) (same-of _ _ _ words old new detail came none);
-      untouched = untouched-of _ _ _ words old new detail came;
+      usage = Answered-usage_not_taken _ _ _ words old new detail came;
+      refused = Answered-not_taken_detail _ _ _ words old new detail came;
+      unread = λ none. ap (λ (w : World _ _ _). w.input) (Answered-not_taken_same _ _ _ words old new detail came none);
+      unwritten = λ none. ap (λ (w : World _ _ _). w.out) (Answered-not_taken_same _ _ _ words old new detail came none);
+      untouched = Answered-disk_same _ _ _ words old new detail came;
       recover = λ asked. (done Recover asked).report.answer;
       of_recover = λ asked. (done Recover asked).report.range;
       complete_recover = λ asked.
@@ -41,7 +41,7 @@ returns g c =
       kept = λ asked. (done (New asked.0) asked.1).kept;
       unchanged = λ asked. (done (New asked.0) asked.1).unchanged;
       exists = λ asked. (done (New asked.0) asked.1).exists;
-      count = count-of _ _ _ words old new detail came;
+      count = Answered-costs _ _ _ words old new detail came;
       attached_new = λ log asked. (done (New log) asked).attached;
       grows = λ asked. (done (New asked.0) asked.1).grows;
       complete = λ asked honest closed. new-complete _ _ _ _ _ _ _ _ detail (done (New asked.0) asked.1).answer
@@ -79,7 +79,7 @@ returns g c =
       follow = λ log asked. done (Follow log) asked;
       complete_follow = λ asked honest. follow-complete g.D.LogDisk _ _ _ _ _ _ _ _ _ detail ((done (Follow asked.0) asked.1).answer honest)
           faults.read.counted faults.write.counted faults.disk.counted;
-      silent = silent-of _ _ _ words old new detail came;
+      silent = Answered-stays_silent _ _ _ words old new detail came;
       honest = faults.honest;
       read = faults.read;
       write = faults.write;

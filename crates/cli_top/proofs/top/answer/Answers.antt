@@ -1,6 +1,6 @@
 use Rattle.cli_world.specs.Alone.{command_of}
 use Rattle.cli_shared.specs.World.{world}
-use Rattle.cli_top.proofs.AnsweredLemmas.{answered-alone, answered-then}
+use Rattle.cli_top.proofs.AnsweredLemmas.{answered-alone, Obeys-answered}
 use Rattle.cli_top.proofs.top.answer.Goals as goal
 
 pub returns-in-Done : goal.returns-in-Done
@@ -9,7 +9,7 @@ returns-in-Done g c = answered-alone g.D.LogDisk g.S.Source g.K.Sink c.args.word
     (world c.answer_alone.new.disk c.answer_alone.new.input c.answer_alone.new.out) c.in-Done.detail c.in-Done.ensures
 
 pub returns-in-Asked : goal.returns-in-Asked
-returns-in-Asked g c = answered-then g.D.LogDisk g.S.Source g.K.Sink c.args.words.now
+returns-in-Asked g c = Obeys-answered g.D.LogDisk g.S.Source g.K.Sink c.args.words.now
     (world c.args.disk.now c.args.script.now c.args.out.now)
     (world c.answer_alone.new.disk c.answer_alone.new.input c.answer_alone.new.out)
     (world c.obey.new.disk c.obey.new.script c.obey.new.out)

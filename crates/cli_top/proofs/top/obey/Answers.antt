@@ -4,16 +4,16 @@ use Rattle.command_line.specs.CommandLine.{IsCommandLine}
 use Rattle.cli_world.specs.Alone.{command_of}
 use Rattle.cli_shared.specs.World.{world}
 use Rattle.cli_top.specs.Answered.{Obeys}
-use Rattle.command_line.proofs.AskedOptions.{demo-options, run-options}
+use Rattle.command_line.proofs.AskedOptions.{demo_options-in_range, run_options-in_range}
 use Rattle.cli_top.proofs.top.obey.Goals as goal
 
 pub run_command-requires-after_bounds : goal.run_command-requires-after_bounds
 run_command-requires-after_bounds g c _ _ =
-    run-options c.requires.0 _ _ (subst (λ asked. IsCommandLine c.requires.0 (command_of asked)) c.in-Run.is c.requires.1)
+    run_options-in_range c.requires.0 _ _ (subst (λ asked. IsCommandLine c.requires.0 (command_of asked)) c.in-Run.is c.requires.1)
 
 pub demo_command-requires-clause-options : goal.demo_command-requires-clause-options
 demo_command-requires-clause-options g c _ _ =
-    demo-options c.requires.0 _ _ _ _ (subst (λ asked. IsCommandLine c.requires.0 (command_of asked)) c.in-Demo.is c.requires.1)
+    demo_options-in_range c.requires.0 _ _ _ _ (subst (λ asked. IsCommandLine c.requires.0 (command_of asked)) c.in-Demo.is c.requires.1)
 
 pub returns-in-Run : goal.returns-in-Run
 returns-in-Run g c =

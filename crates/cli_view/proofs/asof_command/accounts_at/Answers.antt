@@ -2,25 +2,25 @@ use Rattle.std.proofs.Common.{◌∙◌, ◌∷◌, [], ap, length, sym, subst, 
 use Rattle.lsn_space.specs.Accounts.{Accounts}
 use Rattle.cli_view.specs.Balances.{AreBalances}
 use Rattle.ledger_view.specs.Entries.{balance_up_to}
-use Rattle.cli_view.proofs.BalanceLemmas.{account-below, balances-more}
+use Rattle.cli_view.proofs.BalanceLemmas.{balance_up_to-account_below, AreBalances-push}
 use Rattle.cli_view.proofs.asof_command.accounts_at.Goals as goal
 
 pub push-requires : goal.push-requires
 push-requires c =
     let viewed = c.requires.viewed in
-    let below = account-below viewed.0 viewed.1 _ _ _ (sym (c.balance_at.ensures.balance viewed.0 viewed.1 viewed.2) ∙ c.in-Some.is) in
+    let below = balance_up_to-account_below viewed.0 viewed.1 _ _ _ (sym (c.balance_at.ensures.balance viewed.0 viewed.1 viewed.2) ∙ c.in-Some.is) in
     omega (arith, below, c.accounts-2.ensures viewed.0 viewed.1 viewed.2, c.in_ok-rows.ensures.room, c.accounts.invariant.room, c.accounts.invariant.count)
 
 pub overflow_add-account : goal.overflow_add-account
 overflow_add-account c =
     let viewed = c.requires.viewed in
-    let below = account-below viewed.0 viewed.1 _ _ _ (sym (c.balance_at.ensures.balance viewed.0 viewed.1 viewed.2) ∙ c.in-Some.is) in
+    let below = balance_up_to-account_below viewed.0 viewed.1 _ _ _ (sym (c.balance_at.ensures.balance viewed.0 viewed.1 viewed.2) ∙ c.in-Some.is) in
     omega (arith, below, c.accounts-2.ensures viewed.0 viewed.1 viewed.2)
 
 pub accounts-smaller : goal.accounts-smaller
 accounts-smaller c =
     let viewed = c.requires.viewed in
-    let below = account-below viewed.0 viewed.1 _ _ _ (sym (c.balance_at.ensures.balance viewed.0 viewed.1 viewed.2) ∙ c.in-Some.is) in
+    let below = balance_up_to-account_below viewed.0 viewed.1 _ _ _ (sym (c.balance_at.ensures.balance viewed.0 viewed.1 viewed.2) ∙ c.in-Some.is) in
     let room = ap (λ (a : Accounts). a.room) c.push.ensures in
     omega (arith, below, room, c.accounts-2.ensures viewed.0 viewed.1 viewed.2, c.in_ok-rows.ensures.room, c.accounts.invariant.room)
 
@@ -31,7 +31,7 @@ accounts-preserved c =
       count = omega (arith, ap length rows, length-append c.accounts.rows.rows ((c.in-Some.balance, 0) ∷ []), c.accounts.invariant.count);
       room = ap (λ (a : Accounts). a.room) c.push.ensures ∙ c.accounts.invariant.room;
       each = λ opening h viewed. subst (AreBalances opening h c.args.lsn) (sym rows)
-          (balances-more opening h _ _ _ _ c.accounts.invariant.count (sym (c.balance_at.ensures.balance opening h viewed) ∙ c.in-Some.is)
+          (AreBalances-push opening h _ _ _ _ c.accounts.invariant.count (sym (c.balance_at.ensures.balance opening h viewed) ∙ c.in-Some.is)
           (c.accounts.invariant.each opening h viewed));
     }
 

@@ -1,21 +1,21 @@
 use Rattle.cli_reports.specs.Reports.{AnswersReport, IsAnswerOnAccount}
-use Rattle.cli_reports.proofs.ReportLemmas.{report-fault}
-use Rattle.cli_reports.proofs.ReportedLemmas.{read-as, reported-none, reported-part}
+use Rattle.cli_reports.proofs.ReportLemmas.{source_fault-unsaid}
+use Rattle.cli_reports.proofs.ReportedLemmas.{counts_read-err, reported-none_written, reported-write}
 use Rattle.cli_view.specs.Reports.{RefusesAccount, SaysStatement}
-use Rattle.cli_view.proofs.ReadLemmas.{statement-cut}
+use Rattle.cli_view.proofs.ReadLemmas.{statement-write}
 use Rattle.cli_view.proofs.statement_command.statement_command.Goals as goal
 
 -- the input is no log, or could not be read
 pub returns-in-Err : goal.returns-in-Err
 returns-in-Err g c =
-    let said = report-fault (SaysStatement c.args.account) (RefusesAccount c.args.account) _ _ (g.K.Sink.held_bytes c.args.out.now) c.in-Err.detail
+    let said = source_fault-unsaid (SaysStatement c.args.account) (RefusesAccount c.args.account) _ _ (g.K.Sink.held_bytes c.args.out.now) c.in-Err.detail
     c.in-Err.ensures.err in
-    reported-none g.S.Source g.K.Sink (AnswersReport (SaysStatement c.args.account) (RefusesAccount c.args.account)) IsAnswerOnAccount _ _ _ _ said.account (read-as _ _ _ c.in-Err.ensures.read) said.silent said.write said.answer
+    reported-none_written g.S.Source g.K.Sink (AnswersReport (SaysStatement c.args.account) (RefusesAccount c.args.account)) IsAnswerOnAccount _ _ _ _ said.account (counts_read-err _ _ _ c.in-Err.ensures.read) said.silent said.write said.answer
 
 -- the writing failed
 pub returns : goal.returns
 returns g c =
-    reported-part g.S.Source g.K.Sink (AnswersReport (SaysStatement c.args.account) (RefusesAccount c.args.account)) IsAnswerOnAccount _ _ _ _ tt
+    reported-write g.S.Source g.K.Sink (AnswersReport (SaysStatement c.args.account) (RefusesAccount c.args.account)) IsAnswerOnAccount _ _ _ _ tt
     (c.in-Ok.ensures.read.fine (λ is. cc)) c.in-Err-put_statement.ensures.cause.failed
-    (statement-cut _ _ _ _ c.in-Ok.ensures.ok c.args.account c.in-Some.balance c.in-Some-entries.entries.now c.in-Some.ensures.some
+    (statement-write _ _ _ _ c.in-Ok.ensures.ok c.args.account c.in-Some.balance c.in-Some-entries.entries.now c.in-Some.ensures.some
     c.in-Some-entries.ensures.some _ _ c.in-Err-put_statement.ensures.prefix)

@@ -1,5 +1,5 @@
-use Rattle.command_line.proofs.Asking.{asks-one, asks-some}
+use Rattle.command_line.proofs.Asking.{IsCommandLine-same, AreKnown-taken_or_numbers}
 use Rattle.command_line.proofs.laws.one_command.Goals as goal
 
 pub returns : goal.returns
-returns c = record { one = asks-one; some = asks-some }
+returns c = record { one = IsCommandLine-same; some = AreKnown-taken_or_numbers }

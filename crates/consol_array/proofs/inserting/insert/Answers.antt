@@ -1,6 +1,6 @@
 use Rattle.std.proofs.Common.{rules, arith, ℕ, ◌+◌, length, ap}
 use Rattle.log_table.specs.Seats.{view_of}
-use Rattle.consol_array.proofs.Inserts.{JoinsNext-way, IsOf-since, same-heard, same-filled, HasEntries-freed, HasEntries-left, WasRefused-left, same-refused}
+use Rattle.consol_array.proofs.Inserts.{HasComeTo-JoinsNext, IsOf-since, IsSameWorker-heard, IsSameWorker-filled, HasEntries-freed, HasEntries-left, WasRefused-left, IsSameWorker-refused}
 use Rattle.consol_array.proofs.inserting.insert.Goals as goal
 
 pub fill_member-filled-requires-clause-seat : goal.fill_member-filled-requires-clause-seat
@@ -10,10 +10,10 @@ fill_member-filled-requires-clause-seat g c =
     let n : ℕ = length c.as_slice.result.now in
     let joined = c.in-InGroup.joined in
     let way = c.in_ok-range.ensures.way in
-    let has = JoinsNext-way _ first joins n _ joined c.in-InGroup.is way in
+    let has = HasComeTo-JoinsNext _ first joins n _ joined c.in-InGroup.is way in
     let heard = c.in-Base.ensures.heard has.piece (c.lead_first.ensures.waits has.piece has.call) in
     IsOf-since c.args.table.now first c.hear.new.seat c.requires.seat
-    (same-heard c.args.table.now first joins c.lead_first.new.seat n c.args.units.now joined has c.lead_first.ensures.stays c.requires.units
+    (IsSameWorker-heard c.args.table.now first joins c.lead_first.new.seat n c.args.units.now joined has c.lead_first.ensures.stays c.requires.units
     (ap length c.as_slice.ensures.units) c.hear.new.seat c.in-Base.member heard)
 
 pub release-requires-clause-seat : goal.release-requires-clause-seat
@@ -23,10 +23,10 @@ release-requires-clause-seat g c =
     let n : ℕ = length c.as_slice.result.now in
     let joined = c.in-InGroup.joined in
     let way = c.in_ok-range.ensures.way in
-    let has = JoinsNext-way _ first joins n _ joined c.in-InGroup.is way in
+    let has = HasComeTo-JoinsNext _ first joins n _ joined c.in-InGroup.is way in
     let heard = c.in-Base.ensures.heard has.piece (c.lead_first.ensures.waits has.piece has.call) in
     IsOf-since c.args.table.now first c.fill_member-filled.new.seat c.requires.seat
-    (same-filled c.args.table.now first joins c.lead_first.new.seat n c.args.units.now joined has c.lead_first.ensures.stays c.requires.units
+    (IsSameWorker-filled c.args.table.now first joins c.lead_first.new.seat n c.args.units.now joined has c.lead_first.ensures.stays c.requires.units
     (ap length c.as_slice.ensures.units) c.hear.new.seat c.in-Base.member heard c.fill_member-filled.new.seat c.fill_member-filled.result
     ((view_of c.hear.new.seat).seen.steps + c.in-Base.member.n) c.fill_member-filled.ensures.piece c.fill_member-filled.ensures.becomes (omega arith))
 
@@ -37,10 +37,10 @@ leave_group-requires-clause-seat g c =
     let n : ℕ = length c.as_slice.result.now in
     let joined = c.in-InGroup.joined in
     let way = c.in_ok-range.ensures.way in
-    let has = JoinsNext-way _ first joins n _ joined c.in-InGroup.is way in
+    let has = HasComeTo-JoinsNext _ first joins n _ joined c.in-InGroup.is way in
     let heard = c.in-Refused.ensures.heard has.piece (c.lead_first.ensures.waits has.piece has.call) in
     IsOf-since c.args.table.now first c.hear.new.seat c.requires.seat
-    (same-refused c.args.table.now first joins c.lead_first.new.seat n c.args.units.now joined has c.lead_first.ensures.stays c.requires.units
+    (IsSameWorker-refused c.args.table.now first joins c.lead_first.new.seat n c.args.units.now joined has c.lead_first.ensures.stays c.requires.units
     (ap length c.as_slice.ensures.units) c.requires.seat c.hear.new.seat c.in-Refused.refused c.in-Refused.leaver heard)
 
 pub returns-in-Base : goal.returns-in-Base
@@ -50,7 +50,7 @@ returns-in-Base g c =
     let n : ℕ = length c.as_slice.result.now in
     let joined = c.in-InGroup.joined in
     let way = c.in_ok-range.ensures.way in
-    let has = JoinsNext-way _ first joins n _ joined c.in-InGroup.is way in
+    let has = HasComeTo-JoinsNext _ first joins n _ joined c.in-InGroup.is way in
     let heard = c.in-Base.ensures.heard has.piece (c.lead_first.ensures.waits has.piece has.call) in record {
       inserted = HasEntries-freed c.args.table.now first joins c.lead_first.new.seat n c.args.units.now joined has c.lead_first.ensures.stays
           c.requires.units (ap length c.as_slice.ensures.units) c.hear.new.seat c.in-Base.member heard c.fill_member-filled.new.seat
@@ -72,7 +72,7 @@ returns-in-Refused g c =
     let n : ℕ = length c.as_slice.result.now in
     let joined = c.in-InGroup.joined in
     let way = c.in_ok-range.ensures.way in
-    let has = JoinsNext-way _ first joins n _ joined c.in-InGroup.is way in
+    let has = HasComeTo-JoinsNext _ first joins n _ joined c.in-InGroup.is way in
     let heard = c.in-Refused.ensures.heard has.piece (c.lead_first.ensures.waits has.piece has.call) in record {
       inserted = tt;
       behind = tt;

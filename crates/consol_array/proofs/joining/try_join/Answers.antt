@@ -3,8 +3,8 @@ use Rattle.slot_word.specs.SlotWord.{word_of}
 use Rattle.log_table.specs.Seats.{Becomes, view_of}
 use Rattle.log_rule.specs.SlotViews.{own_slot_of, saw_slot, lost_join}
 use Rattle.consol_array.specs.Joining.{HasSlotRoom, IsStateJoined, LacksSlotRoom}
-use Rattle.consol_array.proofs.Joins.{MayJoinSlot-looked, Becomes-joined, alone-turned_away}
-use Rattle.consol_array.proofs.Keeping.{Becomes-then}
+use Rattle.consol_array.proofs.Joins.{MayJoinSlot-looked, Becomes-looked_and_joined, LacksSlotRoom-uncontended}
+use Rattle.consol_array.proofs.Keeping.{Becomes-trans}
 use Rattle.consol_array.proofs.joining.try_join.Goals as goal
 
 pub returns-in_default : goal.returns-in_default
@@ -21,7 +21,7 @@ returns-in_default c =
             c.load_slot-loaded.ensures.view;
       };
       back = search rules steps 1200000;
-      alone = alone-turned_away c.args.table.now c.args.seat.now c.load_slot-loaded.new.seat c.args.n slot loaded c.requires.seat
+      alone = LacksSlotRoom-uncontended c.args.table.now c.args.seat.now c.load_slot-loaded.new.seat c.args.n slot loaded c.requires.seat
           c.load_slot-loaded.ensures.view own c.requires.next full;
       stop = search rules steps 1200000;
     }
@@ -44,7 +44,7 @@ returns-in-Ok c =
         loaded = c.load_slot-loaded.result;
         room = subst (λ ring. HasSlotRoom ring c.args.n c.load_slot-loaded.result) c.ring.ensures c.in-Some.ensures.room.room;
         offset_is = c.total.ensures.total;
-        becomes = Becomes-joined c.args.table.now c.args.seat.now c.load_slot-loaded.new.seat c.args.n slot c.load_slot-loaded.result c.requires.seat
+        becomes = Becomes-looked_and_joined c.args.table.now c.args.seat.now c.load_slot-loaded.new.seat c.args.n slot c.load_slot-loaded.result c.requires.seat
             c.load_slot-loaded.ensures.view c.join_slot.new.seat c.total.result c.total.ensures.total c.in-Ok.ensures.ok;
       };
       not_joined = tt;
@@ -66,7 +66,7 @@ returns-in-Err c =
         room = subst (λ ring. HasSlotRoom ring c.args.n c.load_slot-loaded.result) c.ring.ensures c.in-Some.ensures.room.room;
         other = c.in-Err.ensures.err.0;
         becomes = subst (λ (own : ℕ). Becomes old new (lost_join own found (saw_slot own loaded (view_of old)))) own
-            (Becomes-then old c.load_slot-loaded.new.seat new (saw_slot slot loaded (view_of old)) (lost_join slot found) c.load_slot-loaded.ensures.view
+            (Becomes-trans old c.load_slot-loaded.new.seat new (saw_slot slot loaded (view_of old)) (lost_join slot found) c.load_slot-loaded.ensures.view
             c.in-Err.ensures.err.1);
       };
       back = search rules steps 1200000;

@@ -1,6 +1,6 @@
 use Rattle.std.proofs.Common.{refl, subst, arith}
 use Rattle.flusher.specs.Flushing.{Flushes}
-use Rattle.daemon_turn.proofs.TurnLemmas.{FindsAll-found, SendsAndTells-told, CannotSend-stop, CannotTell-stop, MayGoOn-found, MayGoOn-sent, IsSame-stop, counted-sent, sent-lost, sent-stop, keeps-stop, StandsInAll-sent}
+use Rattle.daemon_turn.proofs.TurnLemmas.{FindsAll-found, SendsAndTells-told, CannotSend-stop, CannotTell-stop, MayGoOn-found, MayGoOn-sent, IsSame-stop, Sends-counted_le_sent, sent-lost, sent-stop, KeepsLog-has_stopped, StandsInAll-sent}
 use Rattle.daemon_turn.proofs.one_turn.make_turn.Goals as goal
 
 -- each image holds the batch before a line of it is written
@@ -11,11 +11,11 @@ tell-told-requires-clause-held g c =
     c.in-Ok.ensures.ready sends
 
 pub invariant_of-flusher : goal.invariant_of-flusher
-invariant_of-flusher g c = record { keeps = keeps-stop c.flush.new.self c.tell_fault.new.seat _ c.tell_fault.ensures.stops }
+invariant_of-flusher g c = record { keeps = KeepsLog-has_stopped c.flush.new.self c.tell_fault.new.seat _ c.tell_fault.ensures.stops }
 
 pub invariant_of-flusher-in-Err : goal.invariant_of-flusher-in-Err
 invariant_of-flusher-in-Err g c =
-    record { keeps = keeps-stop c.flush.new.self c.tell_fault-in-Err.new.seat _ c.tell_fault-in-Err.ensures.stops }
+    record { keeps = KeepsLog-has_stopped c.flush.new.self c.tell_fault-in-Err.new.seat _ c.tell_fault-in-Err.ensures.stops }
 
 pub returns-in_default-clause-failed : goal.returns-in_default-clause-failed
 returns-in_default-clause-failed g c =
@@ -74,7 +74,7 @@ returns-in-Ok-told-clause-counted g c = (returns-in-Ok-told-clause-ready g c).co
 pub returns-in-Err-clause-counted : goal.returns-in-Err-clause-counted
 returns-in-Err-clause-counted g c =
     let sends = subst (Flushes g.D.LogDisk c.args.flusher.now c.flush.new.self) c.in-To.is c.in-Ok.ensures.flushed in
-    let sent = counted-sent g.D.LogDisk c.args.flusher.now c.flush.new.self c.args.tally.now c.tell-told.new.tally c.in-To.from c.in-To.to
+    let sent = Sends-counted_le_sent g.D.LogDisk c.args.flusher.now c.flush.new.self c.args.tally.now c.tell-told.new.tally c.in-To.from c.in-To.to
     sends c.requires.ready.counted c.tell-told.ensures.few in
     omega (arith, sent, sent-stop c.flush.new.self.seat c.tell_fault-in-Err.new.seat _ c.tell_fault-in-Err.ensures.stops)
 

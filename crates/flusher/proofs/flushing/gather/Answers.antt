@@ -1,6 +1,6 @@
 use Rattle.std.proofs.Common.{rules, arith, refl, sym, ap, subst}
 use Rattle.log_rule.specs.Sends.{ReadsWholeEntries}
-use Rattle.flusher.proofs.Flushes.{Becomes-then}
+use Rattle.flusher.proofs.Flushes.{Becomes-trans}
 use Rattle.flusher.proofs.flushing.gather.Goals as goal
 
 pub loop-at-init : goal.loop-at-init
@@ -20,7 +20,7 @@ returns c =
     let done = c.loop-at-test.false in record {
       units = c.loop-at.batch.units;
       whole = omega (arith, was.next, was.end, was.below, done);
-      seat = Becomes-then _ _ _ _ (λ view. view) was.seat c.look.ensures.view;
+      seat = Becomes-trans _ _ _ _ (λ view. view) was.seat c.look.ensures.view;
       batch = search rules steps 400000;
       entries = λ some. subst ReadsWholeEntries (sym (ap (λ m. m.0) c.look.ensures.view.me))
           (was.entries (omega (arith, was.end, was.below, done, some)));

@@ -8,7 +8,7 @@ use Rattle.ledger_view.specs.declared.accounts.Account.{Account}
 use Rattle.ledger_view.specs.Entries.{net_of, balance_after}
 use Rattle.ledger_view.specs.ViewedAccounts.{account_at}
 use Rattle.ledger_view.specs.Entering.{with_entry, LeadsOn, Enters}
-use Rattle.ledger_view.proofs.EnteringLemmas.{enters-none, enters-again, enters-more}
+use Rattle.ledger_view.proofs.EnteringLemmas.{enters-none, enters-push_touched, enters-push_untouched}
 use Rattle.ledger_view.proofs.view.enter_commit.Goals as goal
 use Rattle.ledger_view.proofs.view.enter_commit.Goals.{then-not-touches+in_ok-enter, else-not-touches}
 
@@ -48,7 +48,7 @@ loop-i-preserved c =
                 ∙ length-set c.loop-i.accounts change.account (with_entry (account_at c.loop-i.accounts change.account) entry) ∙ c.loop-i.invariant.count;
             enters = λ opening h judged. subst (λ (a : List Account). Enters opening h c.args.txn c.args.end changes (take (c.loop-i.i + 1) changes) old a) (sym w.accounts-is)
                 (subst (λ (l : List Change). Enters opening h c.args.txn c.args.end changes l old w.enter.new.self) (sym grown)
-                (enters-more opening h c.args.txn c.args.end changes some change old c.loop-i.accounts (c.loop-i.invariant.enters opening h judged)
+                (enters-push_untouched opening h c.args.txn c.args.end changes some change old c.loop-i.accounts (c.loop-i.invariant.enters opening h judged)
                 w.enter.new.self entry (sym c.touches.ensures ∙ w.if-not-touches.true) inside w.in_ok-enter.ensures
                 (λ i. record { end = c.args.end; txn = c.args.txn; net = net_of change.account changes; balance = w.balance-balance.ensures opening h judged i })));
           }
@@ -56,7 +56,7 @@ loop-i-preserved c =
         count = ap length w.accounts-is ∙ c.loop-i.invariant.count;
         enters = λ opening h judged. subst (λ (a : List Account). Enters opening h c.args.txn c.args.end changes (take (c.loop-i.i + 1) changes) old a) (sym w.accounts-is)
             (subst (λ (l : List Change). Enters opening h c.args.txn c.args.end changes l old c.loop-i.accounts) (sym grown)
-            (enters-again opening h c.args.txn c.args.end changes some change old c.loop-i.accounts (c.loop-i.invariant.enters opening h judged) (sym c.touches.ensures ∙ w.if-not-touches.false)));
+            (enters-push_touched opening h c.args.txn c.args.end changes some change old c.loop-i.accounts (c.loop-i.invariant.enters opening h judged) (sym c.touches.ensures ∙ w.if-not-touches.false)));
       }
     ]
 

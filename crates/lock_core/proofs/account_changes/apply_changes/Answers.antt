@@ -7,7 +7,7 @@ use Rattle.std.specs.Prelude.{List}
 use Rattle.lock_core.specs.Transactions.{touches}
 use Rattle.lock_core.specs.AccountRows.{LeavesRange}
 use Rattle.lock_core.proofs.ListLemmas.{all-at}
-use Rattle.lock_core.proofs.ChangesLemmas.{AppliesToTouched, applied-again, applied-more, applied-all, touches-at}
+use Rattle.lock_core.proofs.ChangesLemmas.{AppliesToTouched, applies_touched-push_touched, applies_touched-push_untouched, applies_touched-applies_changes, touches-at}
 use Rattle.lock_core.proofs.account_changes.apply_changes.Goals as goal
 use Rattle.lock_core.proofs.account_changes.apply_changes.Goals.{else-not-touches-via-then-not-touches+else-not-apply_to_account, else-not-touches-via-else-not-touches}
 
@@ -23,7 +23,7 @@ returns-then-not-apply_to_account-clause-leaves c =
 pub returns-clause-applied : goal.returns-clause-applied
 returns-clause-applied c =
     let whole : take c.loop-i.i c.args.changes.now ≡ c.args.changes.now = grind (arith, common_steps) in
-    applied-all c.args.changes.now c.args.end c.args.accounts.now.rows c.loop-i.accounts.rows c.requires.range
+    applies_touched-applies_changes c.args.changes.now c.args.end c.args.accounts.now.rows c.loop-i.accounts.rows c.requires.range
     (subst (λ (some : List Change). AppliesToTouched some c.args.changes.now c.args.end c.args.accounts.now.rows c.loop-i.accounts.rows) whole c.loop-i.invariant.rows)
 
 pub loop-i-preserved : goal.loop-i-preserved
@@ -37,7 +37,7 @@ loop-i-preserved c =
         room = ap (λ (a : Accounts). a.room) w.accounts-is ∙ w.apply_to_account.ensures.room ∙ c.loop-i.invariant.room;
         rows = subst (λ (a : Accounts). AppliesToTouched (take (c.loop-i.i + 1) changes) changes c.args.end rows a.rows) (sym w.accounts-is)
             (subst (λ (some : List Change). AppliesToTouched some changes c.args.end rows w.apply_to_account.new.accounts.rows) (sym grown)
-            (applied-more (take c.loop-i.i changes) changes change c.args.end rows c.loop-i.accounts.rows w.apply_to_account.new.accounts.rows
+            (applies_touched-push_untouched (take c.loop-i.i changes) changes change c.args.end rows c.loop-i.accounts.rows w.apply_to_account.new.accounts.rows
             (sym c.touches.ensures ∙ w.if-not-touches.true) on
             (all-at (λ (each : Change). each.account < length rows) changes c.loop-i.i change c.requires.known c.loop-i-test.true c.index-changes-i.is)
             c.loop-i.invariant.rows w.if-not-apply_to_account.ensures.applied));
@@ -46,7 +46,7 @@ loop-i-preserved c =
         room = ap (λ (a : Accounts). a.room) w.accounts-is ∙ c.loop-i.invariant.room;
         rows = subst (λ (a : Accounts). AppliesToTouched (take (c.loop-i.i + 1) changes) changes c.args.end rows a.rows) (sym w.accounts-is)
             (subst (λ (some : List Change). AppliesToTouched some changes c.args.end rows c.loop-i.accounts.rows) (sym grown)
-            (applied-again (take c.loop-i.i changes) changes change c.args.end rows c.loop-i.accounts.rows
+            (applies_touched-push_touched (take c.loop-i.i changes) changes change c.args.end rows c.loop-i.accounts.rows
             (sym c.touches.ensures ∙ w.if-not-touches.false) c.loop-i.invariant.rows));
       }
     ]

@@ -1,5 +1,5 @@
-use Rattle.lock_core.proofs.SoundLemmas.{base_state-past}
+use Rattle.lock_core.proofs.SoundLemmas.{base_state_of-past_accounts_same}
 use Rattle.lock_core.proofs.laws.no_more_accounts.Goals as goal
 
 pub returns : goal.returns
-returns c = base_state-past
+returns c = base_state_of-past_accounts_same

@@ -1,4 +1,4 @@
-use Rattle.lock_core.proofs.Witnessing.{transfer-lawful, transfer-serial, transfer-apart, transfer-allowed, transfer-room}
+use Rattle.lock_core.proofs.Witnessing.{transfer-lawful, transfer-serial, transfer_history-share_none, transfer-allowed, transfer-room}
 use Rattle.lock_core.proofs.laws.one_transfer_is_serial.Goals as goal
 
 pub returns-clause-lawful : goal.returns-clause-lawful
@@ -8,7 +8,7 @@ pub returns-clause-serial : goal.returns-clause-serial
 returns-clause-serial c = transfer-serial
 
 pub returns-clause-apart : goal.returns-clause-apart
-returns-clause-apart c = transfer-apart
+returns-clause-apart c = transfer_history-share_none
 
 pub returns-clause-allowed : goal.returns-clause-allowed
 returns-clause-allowed c = transfer-allowed

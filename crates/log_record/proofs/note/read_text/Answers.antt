@@ -4,7 +4,7 @@ use Rattle.std.proofs.lemmas.List.Elements.{All-from_get_or}
 use Rattle.std.specs.List.{flat_map}
 use Rattle.lsn_space.specs.Unit.{unit_bytes}
 use Rattle.log_record.specs.Spelling.{IsPrintable}
-use Rattle.log_record.proofs.TextLemmas.{text-front, text_units-front}
+use Rattle.log_record.proofs.TextLemmas.{unit_bytes-text_and_zeros, text_and_zeros-text_units}
 use Rattle.log_record.proofs.note.read_text.Goals as goal
 use Rattle.log_record.proofs.note.read_text.Goals.{else-is_printable-via-then-is_printable+else-is_zero, else-is_printable-via-else-is_printable}
 
@@ -16,13 +16,13 @@ returns-then-is_zero-clause-found c =
     let whole : bytes ≡ c.from_bytes.result ++ c.split_at.result.1.now = cc in
     let below = All-from_get_or (λ unit. unit < 2 ^ 64) c.args.units.now 0 (λ i _. omega (arith, c.type_inv.units i)) in (
       len,
-      text_units-front c.args.units.now c.from_bytes.result c.split_at.result.1.now
+      text_and_zeros-text_units c.args.units.now c.from_bytes.result c.split_at.result.1.now
           below (rw len c.requires.count) whole (search rules steps 500000) (search rules steps 500000),
     )
 
 pub returns-else-is_printable-clause-bad : goal.returns-else-is_printable-clause-bad
 returns-else-is_printable-clause-bad c = λ text is len units.
-    let front = text-front c.args.units.now text is.2 units in
+    let front = unit_bytes-text_and_zeros c.args.units.now text is.2 units in
     let same : c.split_at.result.0.now ≡ text = cc in
     let zeros : c.split_at.result.1.now ≡ drop (length text) (flat_map unit_bytes c.args.units.now) = cc in
     elim c.else-is_printable.branch [

@@ -1,7 +1,7 @@
 use Rattle.std.proofs.Common.{rules, ◌∙◌, ◌++◌, ◌∷◌, ap, ap₂, sym, length, drop, arith, length-append}
 use Rattle.std.proofs.lemmas.List.{take-append-drop}
 use Rattle.log_record.specs.Spelling.{spelling}
-use Rattle.log_record.proofs.Fronts.{parts_of-front}
+use Rattle.log_record.proofs.Fronts.{front_header-kind_and_length}
 use Rattle.log_record.proofs.reading.split.Goals as goal
 
 pub returns-in_err-body-clause-cut : goal.returns-in_err-body-clause-cut
@@ -9,7 +9,7 @@ returns-in_err-body-clause-cut c = rw c.from_residual-in_err-body.ensures (λ r 
     let h = c.of-header.result in
     let first = c.in_ok-first.first.now in
     let is = sym c.in_ok-first.ensures.cases.0 ∙ begins.2 in
-    let found = parts_of-front r h.kind h.units h.field h.txn first c.in_ok-first.rest.now begins.1 begins.0
+    let found = front_header-kind_and_length r h.kind h.units h.field h.txn first c.in_ok-first.rest.now begins.1 begins.0
     (search rules) (search rules) (search rules) c.of-header.ensures is in
     absurd (omega (arith, ap length is, length-append (spelling r) begins.1, c.in_err-body.ensures.cases, c.in_ok-count.ensures)))
 

@@ -1,6 +1,6 @@
 use Rattle.std.proofs.Common.{refl, subst, arith}
 use Rattle.log_recovery.specs.ListedRecords.{IsBadRecAt}
-use Rattle.log_recovery.proofs.RecoveryLemmas.{scan-holds, scan-fits, lists}
+use Rattle.log_recovery.proofs.RecoveryLemmas.{scan-holds, scan_end-within_last, scan-ListsBytes}
 use Rattle.log_recovery.proofs.listing.listed.Goals as goal
 
 pub returns-in-Err-clause-fault : goal.returns-in-Err-clause-fault
@@ -8,7 +8,7 @@ returns-in-Err-clause-fault c = c.scan_fault.ensures.listed c.args.bytes.now c.i
 
 pub first_bad-requires-clause-fits : goal.first_bad-requires-clause-fits
 first_bad-requires-clause-fits c =
-    omega (arith, c.begin_of-begin.ensures, scan-fits c.in-Ok.scan c.args.bytes.now c.as_slice.result.now c.in-Ok.ensures.found c.as_slice.ensures)
+    omega (arith, c.begin_of-begin.ensures, scan_end-within_last c.in-Ok.scan c.args.bytes.now c.as_slice.result.now c.in-Ok.ensures.found c.as_slice.ensures)
 
 pub returns-in-Some-clause-fault : goal.returns-in-Some-clause-fault
 returns-in-Some-clause-fault c =
@@ -20,4 +20,4 @@ returns-in-Some-clause-fault c =
 
 pub returns-in-None-clause-found : goal.returns-in-None-clause-found
 returns-in-None-clause-found c =
-    lists _ c.in-Ok.scan c.args.bytes.now c.as_slice-2.result.now c.in-None.ensures.none c.in-Ok.ensures.found c.as_slice-2.ensures refl refl refl
+    scan-ListsBytes _ c.in-Ok.scan c.args.bytes.now c.as_slice-2.result.now c.in-None.ensures.none c.in-Ok.ensures.found c.as_slice-2.ensures refl refl refl

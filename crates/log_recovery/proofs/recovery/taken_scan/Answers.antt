@@ -1,12 +1,12 @@
 use Rattle.std.proofs.Common.{refl}
-use Rattle.log_recovery.proofs.RecoveryLemmas.{scan-holds, scan-opening, scan-fits, takes}
+use Rattle.log_recovery.proofs.RecoveryLemmas.{scan-holds, scan_opening-none_or_snapshot, scan_end-within_last, takes}
 use Rattle.log_recovery.proofs.recovery.taken_scan.Goals as goal
 
 pub taken_units-requires-clause-opening : goal.taken_units-requires-clause-opening
-taken_units-requires-clause-opening g c = scan-opening c.args.scan c.requires.scanned.0 c.requires.scanned.1
+taken_units-requires-clause-opening g c = scan_opening-none_or_snapshot c.args.scan c.requires.scanned.0 c.requires.scanned.1
 
 pub taken_units-requires-clause-fits : goal.taken_units-requires-clause-fits
-taken_units-requires-clause-fits g c = scan-fits c.args.scan c.requires.scanned.0 c.as_slice.result.now c.requires.scanned.1 c.as_slice.ensures
+taken_units-requires-clause-fits g c = scan_end-within_last c.args.scan c.requires.scanned.0 c.as_slice.result.now c.requires.scanned.1 c.as_slice.ensures
 
 pub returns-in-Err-clause-fault : goal.returns-in-Err-clause-fault
 returns-in-Err-clause-fault g c bytes scans =

@@ -1,6 +1,6 @@
 use Rattle.std.proofs.Common.{◌∙◌}
-use Rattle.log_recovery.proofs.PuttingLemmas.{puts-piece}
+use Rattle.log_recovery.proofs.PuttingLemmas.{puts-same_text}
 use Rattle.log_recovery.proofs.texts.put_balance.Goals as goal
 
 pub returns : goal.returns
-returns g c = puts-piece g.K.Sink _ _ _ _ _ _ _ (c.as_slice.ensures.value ∙ c.balance_line.ensures) c.put.ensures.all c.put.ensures.prefix c.put.ensures.cause
+returns g c = puts-same_text g.K.Sink _ _ _ _ _ _ _ (c.as_slice.ensures.value ∙ c.balance_line.ensures) c.put.ensures.all c.put.ensures.prefix c.put.ensures.cause

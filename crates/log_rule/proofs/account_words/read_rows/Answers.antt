@@ -4,7 +4,7 @@ use Rattle.lsn_space.specs.Accounts.{Accounts}
 use Rattle.slot_word.specs.AccountWord.{balance_in, last_commit_in}
 use Rattle.log_rule.specs.ClosedLog.{ReadsRows}
 use Rattle.log_rule.specs.Layout.{Account, index_of}
-use Rattle.log_rule.proofs.Gathering.{at-index}
+use Rattle.log_rule.proofs.Gathering.{get_elem-get_or}
 use Rattle.log_rule.proofs.Rows.{reads-more}
 use Rattle.log_rule.proofs.account_words.read_rows.Goals as goal
 
@@ -12,7 +12,7 @@ pub loop-account-preserved : goal.loop-account-preserved
 loop-account-preserved c =
     let words : List ℕ = slots_items c.args.closed.now.words in
     let word-is : c.word.result ≡ get_or words (index_of c.args.ring c.args.slots (Account c.loop-account.account)) 0 =
-    sym (at-index words c.account_place.result c.word.result c.word.ensures) ∙ ap (λ place. get_or words place 0) c.account_place.ensures in
+    sym (get_elem-get_or words c.account_place.result c.word.result c.word.ensures) ∙ ap (λ place. get_or words place 0) c.account_place.ensures in
     let below : c.loop-account.account < length c.args.rows.now.rows = omega arith in
     record {
       room = ap (λ (a : Accounts). a.room) c.set.ensures ∙ c.loop-account.invariant.room;

@@ -9,8 +9,8 @@ use Rattle.log_rule.specs.declared.view.Entry.{Entry}
 use Rattle.log_table.specs.Seats.{view_of}
 use Rattle.ring_buffer.specs.Calls.{HasFilled, filled_with, entry_of}
 use Rattle.ring_buffer.specs.declared.call.Range.{Range}
-use Rattle.ring_buffer.proofs.Exposing.{HasMarked-call}
-use Rattle.ring_buffer.proofs.Inserted.{same-inserted, entries-inserted, idle-inserted, books-inserted, stop-inserted, contended-inserted}
+use Rattle.ring_buffer.proofs.Exposing.{HasMarked-marked_call}
+use Rattle.ring_buffer.proofs.Inserted.{IsSameWorker-inserted, entries-inserted, idle-inserted, books_inserted-unchanged, stop_inserted-unchanged, contended_inserted-unchanged}
 use Rattle.ring_buffer.proofs.TwoCalls.{IsSameWorker-trans}
 use Rattle.ring_buffer.proofs.inserting.insert_alone.Goals as goal
 
@@ -29,7 +29,7 @@ pub expose-requires-clause-marked : goal.expose-requires-clause-marked
 expose-requires-clause-marked g c =
     let filling : (view_of c.fill-filled.new.seat).call ≡ filled_with c.args.units.now (view_of c.place_among.new.seat).call =
     ap (λ m. m.0.call) c.fill-filled.ensures.becomes.me in
-    HasMarked-call (view_of c.finish.new.seat) Nothing (ap (λ m. m.0.call) c.finish.ensures.becomes.me
+    HasMarked-marked_call (view_of c.finish.new.seat) Nothing (ap (λ m. m.0.call) c.finish.ensures.becomes.me
     ∙ ap (λ (call : Call). Marked (follow_up call)) (filling ∙ ap (filled_with c.args.units.now) c.in_ok-range.ensures.placed.call))
 
 pub returns : goal.returns
@@ -45,18 +45,18 @@ returns g c =
     let start : c.in_ok-range.range.start ≡ c.start-at.result = sym c.start-at.ensures in
     let call : filled_with c.args.units.now mid.call ≡ Filling entry =
     ap (filled_with c.args.units.now) placed.call ∙ (λ i. Filling (record { start = start i; size = size i; units = c.requires.units i; rec = rec })) in
-    let same = same-inserted c.place_among.new.seat c.fill-filled.new.seat c.finish.new.seat c.expose.new.seat c.args.units.now steps
+    let same = IsSameWorker-inserted c.place_among.new.seat c.fill-filled.new.seat c.finish.new.seat c.expose.new.seat c.args.units.now steps
     c.fill-filled.ensures.becomes c.finish.ensures.becomes c.expose.result c.expose.ensures.stays c.expose.ensures.over (omega arith) in record {
       inserted = record {
         same = IsSameWorker-trans c.args.seat.now c.place_among.new.seat c.expose.new.seat c.in_ok-range.ensures.same same;
         idle = idle-inserted c.place_among.new.seat c.fill-filled.new.seat c.finish.new.seat c.expose.new.seat c.args.units.now steps
             c.fill-filled.ensures.becomes c.finish.ensures.becomes c.expose.result c.expose.ensures.stays c.expose.ensures.over entry call;
-        contended = contended-inserted c.place_among.new.seat c.fill-filled.new.seat c.finish.new.seat c.expose.new.seat c.args.units.now steps
+        contended = contended_inserted-unchanged c.place_among.new.seat c.fill-filled.new.seat c.finish.new.seat c.expose.new.seat c.args.units.now steps
             c.fill-filled.ensures.becomes c.finish.ensures.becomes c.expose.result c.expose.ensures.stays c.expose.ensures.over ∙ placed.contended;
         entries_are = entries-inserted c.place_among.new.seat c.fill-filled.new.seat c.finish.new.seat c.expose.new.seat c.args.units.now steps
             c.fill-filled.ensures.becomes c.finish.ensures.becomes c.expose.result c.expose.ensures.stays c.expose.ensures.over entry call
             ∙ ap (λ (entries : List Entry). entries ++ entry ∷ []) placed.entries;
-        books_are = books-inserted c.place_among.new.seat c.fill-filled.new.seat c.finish.new.seat c.expose.new.seat c.args.units.now steps
+        books_are = books_inserted-unchanged c.place_among.new.seat c.fill-filled.new.seat c.finish.new.seat c.expose.new.seat c.args.units.now steps
             c.fill-filled.ensures.becomes c.finish.ensures.becomes c.expose.result c.expose.ensures.stays c.expose.ensures.over
             ∙ (placed.books ∙ (λ i. placing (start i + length-is i) rec old.books));
       };
@@ -65,7 +65,7 @@ returns g c =
       fits = search rules;
       kept = tt;
       refused = tt;
-      stop = stop-inserted c.place_among.new.seat c.fill-filled.new.seat c.finish.new.seat c.expose.new.seat c.args.units.now steps
+      stop = stop_inserted-unchanged c.place_among.new.seat c.fill-filled.new.seat c.finish.new.seat c.expose.new.seat c.args.units.now steps
           c.fill-filled.ensures.becomes c.finish.ensures.becomes c.expose.result c.expose.ensures.stays c.expose.ensures.over
           ∙ c.place_among.ensures.stop;
     }

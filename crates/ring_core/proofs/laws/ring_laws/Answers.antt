@@ -1,6 +1,6 @@
 use Rattle.ring_core.specs.Machine.{start_state}
 use Rattle.ring_core.proofs.Deciding.{run-exists, run-unique}
-use Rattle.ring_core.proofs.Keeping.{start-sound, last-look}
+use Rattle.ring_core.proofs.Keeping.{start-sound, holds_unmarked-at_exposed}
 use Rattle.ring_core.proofs.Runs.{run-sound}
 use Rattle.ring_core.proofs.laws.ring_laws.Goals as goal
 
@@ -14,4 +14,4 @@ pub returns-clause-sound : goal.returns-clause-sound
 returns-clause-sound c = λ start ring events s within. run-sound (start_state start ring) events s (start-sound start ring within)
 
 pub returns-clause-last_look : goal.returns-clause-last_look
-returns-clause-last_look c = λ s sound actor at. last-look s actor at sound
+returns-clause-last_look c = λ s sound actor at. holds_unmarked-at_exposed s actor at sound

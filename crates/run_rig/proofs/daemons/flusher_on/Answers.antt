@@ -5,14 +5,14 @@ use Rattle.log_rule.specs.declared.view.Constants.{Constants}
 use Rattle.log_table.specs.Seats.{key_of, view_of}
 use Rattle.log_rule.specs.Views.{sent_to}
 use Rattle.segment_file.specs.StandingLog.{IsShut}
-use Rattle.segment_file.proofs.FirstFormat.{all-log}
+use Rattle.segment_file.proofs.FirstFormat.{AllStand-LogStands}
 use Rattle.run_rig.proofs.FlusherOver.{MayFlush-over}
 use Rattle.run_rig.proofs.daemons.flusher_on.Goals as goal
 
 -- the log of the two accounts stands in each image
 pub make-requires-2 : goal.make-requires-2
 make-requires-2 g c = record {
-  log = λ honest. (_, all-log _ _ _ (c.in-Ok.ensures.created (c.create.ensures.honest.1 honest)));
+  log = λ honest. (_, AllStand-LogStands _ _ _ (c.in-Ok.ensures.created (c.create.ensures.honest.1 honest)));
   unsent = ap (λ (sending : Sending). sending.sent) c.requires.flusher_seat.1.knows.sending;
   unread = ap (λ (sending : Sending). sending.read) c.requires.flusher_seat.1.knows.sending;
 }

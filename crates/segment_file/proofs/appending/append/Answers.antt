@@ -1,6 +1,6 @@
 use Rattle.std.proofs.Common.{◌≡◌, Ok, arith}
 use Rattle.segment_file.specs.StandingLog.{tail_after}
-use Rattle.segment_file.proofs.LogGrows.{appends-failed, appends-then}
+use Rattle.segment_file.proofs.LogGrows.{appends-failed, appends-succeeded}
 use Rattle.segment_file.proofs.appending.append.Goals as goal
 
 pub returns-in_err-append_sealed : goal.returns-in_err-append_sealed
@@ -13,5 +13,5 @@ returns g c =
     let end = tail_after c.args.tail c.args.batch.now.units in
     let at : c.after-after.result.at ≡ end.at = omega arith in
     let next : c.after-after.result.next ≡ end.next = omega arith in
-    appends-then g.D.LogDisk _ _ _ _ _ _ c.append_sealed.ensures done.appended done.shut done.settled done.cause.fine _
+    appends-succeeded g.D.LogDisk _ _ _ _ _ _ c.append_sealed.ensures done.appended done.shut done.settled done.cause.fine _
     (λ i. Ok (record { at = at i; next = next i }))

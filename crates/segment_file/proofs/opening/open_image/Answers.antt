@@ -1,6 +1,6 @@
 use Rattle.std.proofs.Common.{◌≡◌, ◌≤◌, ◌∙◌, ◌+◌, sym, subst, ap, length, Err, IfOk, arith}
 use Rattle.std.proofs.lemmas.Result.{err_from_is_err_and}
-use Rattle.log_disk.proofs.Counting.{Costs-more, CountsWhere-after}
+use Rattle.log_disk.proofs.Counting.{Costs-weaken, CountsWhere-same_before}
 use Rattle.log_disk.proofs.Moments.{Leaves-trans, Leaves-weaken}
 use Rattle.segment_file.specs.MostReads.{most_reads}
 use Rattle.segment_file.proofs.Results.{IfOk-each}
@@ -16,7 +16,7 @@ returns-in_err-len g c =
       reads = synced.settles.reads;
       images = synced.settles.images;
       moments = synced.settles.moments;
-      count = λ honest. Costs-more g.D.LogDisk 1 1 2 _ _ _ (omega arith) (omega arith) (synced.uses.count honest);
+      count = λ honest. Costs-weaken g.D.LogDisk 1 1 2 _ _ _ (omega arith) (omega arith) (synced.uses.count honest);
       honest = synced.uses.honest;
       attached = synced.uses.attached;
       faults = record { counted = λ is. c.in_err-len.ensures.uses.cause.failed; fine = λ other. absurd (other (ap (λ fault. Err fault) failed.2)) };
@@ -48,5 +48,5 @@ returns g c =
           record { successes = omega (arith, before.successes, read.keeps.count mid); calls = omega (arith, before.calls, calls) };
       honest = (λ honest. read.honest.0 (synced.uses.honest.0 honest), λ honest. synced.uses.honest.1 (read.honest.1 honest));
       attached = read.attached ∙ synced.uses.attached;
-      faults = CountsWhere-after _ _ _ _ synced.uses.cause.fine read.faults;
+      faults = CountsWhere-same_before _ _ _ _ synced.uses.cause.fine read.faults;
     }

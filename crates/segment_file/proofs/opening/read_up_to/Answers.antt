@@ -1,7 +1,7 @@
 use Rattle.std.proofs.Common.{◌∙◌, ◌+◌, ap, arith, subst, sym, length, length-append, refl, rules, take}
 use Rattle.std.proofs.lemmas.List.{length-take-le}
 use Rattle.log_disk.specs.Faults.{raised}
-use Rattle.segment_file.proofs.OpeningLemmas.{HasSpent, HasSpent-more, bytes-more}
+use Rattle.segment_file.proofs.OpeningLemmas.{HasSpent, HasSpent-more, file_front-append}
 use Rattle.segment_file.proofs.opening.read_up_to.Goals as goal
 
 pub returns-in-Err-clause-faults : goal.returns-in-Err-clause-faults
@@ -32,7 +32,7 @@ reading-preserved g c =
       bytes = λ honest.
           let told = c.in-Ok.ensures.bytes (was.honest.0 honest) in
           let file = was.keeps.file honest in
-          bytes-more (g.D.LogDisk.reads c.args.disk.now) c.reading.bytes.items c.add_front.new.bytes.items
+          file_front-append (g.D.LogDisk.reads c.args.disk.now) c.reading.bytes.items c.add_front.new.bytes.items
           (take c.in-Ok.count c.read_at.new.buf) c.in-Ok.count c.in_ok-add_front.ensures.items counted (was.bytes honest)
           (search rules);
     }

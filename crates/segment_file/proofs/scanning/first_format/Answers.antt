@@ -1,5 +1,5 @@
-use Rattle.segment_file.proofs.FirstFormat.{units-log, log-units}
+use Rattle.segment_file.proofs.FirstFormat.{HoldsUnits-HoldsLog, HoldsLog-HoldsUnits}
 use Rattle.segment_file.proofs.scanning.first_format.Goals as goal
 
 pub returns : goal.returns
-returns c = λ bytes units. (units-log bytes units, log-units bytes units)
+returns c = λ bytes units. (HoldsUnits-HoldsLog bytes units, HoldsLog-HoldsUnits bytes units)

@@ -1,12 +1,12 @@
-use Rattle.segment_file.proofs.OneReading.{one_reading-log, one_reading-begins, one_reading-snapshot, one_reading-bad, one_reading-one, one_reading-place}
+use Rattle.segment_file.proofs.OneReading.{one_reading-log, HoldsLog-begins_as_log, HoldsLog-no_bad_snapshot, HoldsLog-no_bad_batch, bad_snapshot-no_bad_batch, bad_batch-unique}
 use Rattle.segment_file.proofs.scanning.one_reading.Goals as goal
 
 pub returns : goal.returns
 returns c = record {
   log = one_reading-log;
-  begins = one_reading-begins;
-  snapshot = one_reading-snapshot;
-  bad = one_reading-bad;
-  one = one_reading-one;
-  place = one_reading-place;
+  begins = HoldsLog-begins_as_log;
+  snapshot = HoldsLog-no_bad_snapshot;
+  bad = HoldsLog-no_bad_batch;
+  one = bad_snapshot-no_bad_batch;
+  place = bad_batch-unique;
 }

@@ -4,7 +4,7 @@ use Rattle.lsn_space.specs.Opening.{Opening}
 use Rattle.segment_file.specs.File.{gated}
 use Rattle.segment_file.specs.Log.{later_batch, IsFront}
 use Rattle.segment_file.proofs.FileLemmas.{counted-more}
-use Rattle.segment_file.proofs.ScanLemmas.{reads-to, rest-shorter, whole-next, units-next}
+use Rattle.segment_file.proofs.ScanLemmas.{front_and_batches-ReadsTo, rest-shorter, read_bytes-push, read_units-push}
 use Rattle.segment_file.proofs.scanning.scan.Goals as goal
 
 pub batches-preserved : goal.batches-preserved
@@ -18,8 +18,8 @@ batches-preserved c =
       begins = before.begins;
       read = before.read ++ taken.units ∷ [];
       each = counted-more _ _ before.each taken.counted;
-      whole = whole-next _ before.front before.read _ _ taken.units _ before.whole gate.0 taken.front;
-      units = units-next before.first before.read _ taken.units _ before.units taken.added;
+      whole = read_bytes-push _ before.front before.read _ _ taken.units _ before.whole gate.0 taken.front;
+      units = read_units-push before.first before.read _ taken.units _ before.units taken.added;
       begin = before.begin;
       total = taken.total;
     }
@@ -33,7 +33,7 @@ returns-in-Err-Bad-clause-fault c =
     later_batch (record { opening = opening; units = c.batches.units.items }) (record {
       body = c.in-Some.body.now;
       some = gate.1;
-      reads = reads-to _ before.front before.first opening before.read _ _ before.begins before.each (before.whole ∙ ap (λ rest. recorded ++ rest) gate.0)
+      reads = front_and_batches-ReadsTo _ before.front before.first opening before.read _ _ before.begins before.each (before.whole ∙ ap (λ rest. recorded ++ rest) gate.0)
           before.units before.total;
       place = omega (arith, ap length gate.0, rest-shorter c.args.bytes.now recorded c.batches.rest.now before.whole);
       none = c.in-Err-Bad.ensures.bad (cc);
@@ -49,7 +49,7 @@ returns-clause-found c =
     record {
       held = record {
         rest = c.batches.rest.now;
-        reads = reads-to _ before.front before.first _ before.read _ _ begins before.each before.whole (c.new-2.ensures ∙ before.units)
+        reads = front_and_batches-ReadsTo _ before.front before.first _ before.read _ _ begins before.each before.whole (c.new-2.ensures ∙ before.units)
             (omega (arith, before.total, same, begin));
         closed = c.in_default.ensures.none;
       };

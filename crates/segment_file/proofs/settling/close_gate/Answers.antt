@@ -1,11 +1,11 @@
 use Rattle.std.proofs.Common.{◌≡◌, ◌≤◌, ◌∷◌, [], length, true≢false, sym, subst, ◌∙◌, ap, ⊎_elim, OnOk, arith}
 use Rattle.log_disk.specs.Disk.{put}
 use Rattle.log_disk.proofs.Moments.{Leaves-call, Leaves-trans, Leaves-weaken}
-use Rattle.log_disk.proofs.Uses.{HasCause-then}
+use Rattle.log_disk.proofs.Uses.{HasCause-same_before}
 use Rattle.segment_file.specs.StandingLog.{LacksGate}
 use Rattle.segment_file.specs.declared.layout.TheConstants.{CLOSED}
-use Rattle.segment_file.proofs.Results.{OnOk-both}
-use Rattle.segment_file.proofs.StableGates.{stays-closed, stays-closed-torn, stable-shut, put-shut}
+use Rattle.segment_file.proofs.Results.{OnOk-map_both}
+use Rattle.segment_file.proofs.StableGates.{image-stays_closed, lacks_gate-torn_stays_closed, stable_gate-shut, put-shut}
 use Rattle.segment_file.proofs.settling.close_gate.Goals as goal
 
 pub returns-then-branch : goal.returns-then-branch
@@ -24,12 +24,12 @@ returns-then-branch g c =
       moments = λ honest.
           Leaves-trans g.D.LogDisk.moment g.D.LogDisk.images_since _ _ c.lacks_gate.new.disk _
           (Leaves-call g.D.LogDisk.moment g.D.LogDisk.images_since g.D.LogDisk.images _ _ _ looks.time
-          (λ crash left. stays-closed c.args.at _ _ (image honest) (c.requires.stable honest) crash ((looks.keeps.image crash).0 left)))
+          (λ crash left. image-stays_closed c.args.at _ _ (image honest) (c.requires.stable honest) crash ((looks.keeps.image crash).0 left)))
           (Leaves-weaken g.D.LogDisk.moment g.D.LogDisk.images_since _ _ _ _
-          (λ crash torn. stays-closed-torn c.args.at _ _ (image honest) (c.requires.stable honest) (lacks honest) crash
+          (λ crash torn. lacks_gate-torn_stays_closed c.args.at _ _ (image honest) (c.requires.stable honest) (lacks honest) crash
           (torn.0, (looks.keeps.image torn.0).0 torn.1, torn.2)) wrote.moments);
       shut = λ honest.
-          OnOk-both c.write_synced.result (put-shut c.args.at _ _ _ (c.requires.within honest)) (written honest)
+          OnOk-map_both c.write_synced.result (put-shut c.args.at _ _ _ (c.requires.within honest)) (written honest)
           (wrote.settled (looks.honest.0 honest));
       closed = λ honest lacks. written honest;
       keeps = λ honest has. absurd (has (lacks honest));
@@ -41,7 +41,7 @@ returns-then-branch g c =
       later = omega (arith, looks.time.later, wrote.moments.later);
       honest = (λ honest. wrote.honest.0 (looks.honest.0 honest), λ honest. looks.honest.1 (wrote.honest.1 honest));
       attached = wrote.attached ∙ looks.attached;
-      cause = HasCause-then _ _ _ c.write_synced.result looks.cause.fine wrote.cause;
+      cause = HasCause-same_before _ _ _ c.write_synced.result looks.cause.fine wrote.cause;
       length = λ honest. omega (arith, (wrote.torn (looks.honest.0 honest)).no_longer, ap length (looks.keeps.file honest));
     }
 
@@ -54,9 +54,9 @@ returns-else-branch g c =
     record {
       moments = λ honest.
           Leaves-call g.D.LogDisk.moment g.D.LogDisk.images_since g.D.LogDisk.images _ _ _ looks.time
-          (λ crash left. stays-closed c.args.at _ _ (image honest) (c.requires.stable honest) crash ((looks.keeps.image crash).0 left));
+          (λ crash left. image-stays_closed c.args.at _ _ (image honest) (c.requires.stable honest) crash ((looks.keeps.image crash).0 left));
       shut = λ honest.
-          stable-shut c.args.at _ _ (image honest) (c.requires.stable honest) (stays honest) _
+          stable_gate-shut c.args.at _ _ (image honest) (c.requires.stable honest) (stays honest) _
           (λ crash left. (looks.keeps.image crash).0 left);
       closed = λ honest lacks. absurd (stays honest lacks);
       keeps = λ honest has. looks.keeps;

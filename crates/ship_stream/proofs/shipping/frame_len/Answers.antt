@@ -1,5 +1,5 @@
 use Rattle.std.proofs.Common.{arith}
-use Rattle.ship_stream.proofs.ShippingLemmas.{gathering-none, gathering-more, gathering-full, gathering-last, size-bounds}
+use Rattle.ship_stream.proofs.ShippingLemmas.{gathering-none, gathering-more, gathering_full-begins_frame, gathering_last-begins_frame, size-bounds}
 use Rattle.ship_stream.proofs.shipping.frame_len.Goals as goal
 
 pub records-init : goal.records-init
@@ -25,8 +25,8 @@ records-preserved c =
 
 pub returns-then-len-size-gt-SHIPPED_UNITS : goal.returns-then-len-size-gt-SHIPPED_UNITS
 returns-then-len-size-gt-SHIPPED_UNITS c =
-    gathering-full _ _ _ c.records.invariant _ _ c.in-Some.ensures.cases.0 _ c.record_len-size.ensures
+    gathering_full-begins_frame _ _ _ c.records.invariant _ _ c.in-Some.ensures.cases.0 _ c.record_len-size.ensures
     (omega (arith, c.if-len-size-gt-SHIPPED_UNITS.true))
 
 pub returns-in_default : goal.returns-in_default
-returns-in_default c = gathering-last _ _ _ c.records.invariant c.requires.some (c.in_default.ensures.cases)
+returns-in_default c = gathering_last-begins_frame _ _ _ c.records.invariant c.requires.some (c.in_default.ensures.cases)

@@ -2,9 +2,9 @@ use Rattle.std.proofs.Common.{◌∙◌, ◌++◌, sym, subst, append_assoc, ari
 use Rattle.std.proofs.lemmas.Bool.{eqb-true}
 use Rattle.std.proofs.lemmas.Result.{err_from_is_err_and, on_ok_weaker, on_err_weaker}
 use Rattle.log_disk.specs.Streams.{AppendsPart, AppendsBut}
-use Rattle.log_disk.proofs.Blocks.{AppendsBut-all, AppendsBut-cut, AppendsPart-first}
+use Rattle.log_disk.proofs.Blocks.{AppendsBut-trans_Appends, AppendsBut-trans_AppendsPart, AppendsPart-append}
 use Rattle.ship_stream.specs.Stream.{head_bytes, end_bytes}
-use Rattle.ship_stream.proofs.PuttingLemmas.{cause-since}
+use Rattle.ship_stream.proofs.PuttingLemmas.{has_cause-same_start}
 use Rattle.ship_stream.proofs.ShippingLemmas.{shipping-none, shipping-more, shipping-cut, shipping-end, shipping-end_cut}
 use Rattle.ship_stream.proofs.shipping.put_stream.Goals as goal
 
@@ -14,7 +14,7 @@ returns-in_err-put_head-clause-prefix g c = λ records are.
     let cut = subst (λ waiting. AppendsPart (g.K.Sink.held_bytes c.args.sink.now) (g.K.Sink.held_bytes c.put_head.new.sink)
     (waiting ++ head_bytes c.args.from))
     c.new-block.ensures c.in_err-put_head.ensures.prefix in
-    rw failed.1 (AppendsPart-first _ _ _ _ _ cut (append_assoc (head_bytes c.args.from) _ end_bytes))
+    rw failed.1 (AppendsPart-append _ _ _ _ _ cut (append_assoc (head_bytes c.args.from) _ end_bytes))
 
 pub frames-init : goal.frames-init
 frames-init g c = record {
@@ -50,7 +50,7 @@ returns-in_err-put_counted-clause-prefix g c = λ records are.
 pub returns-in_err-put_counted-clause-cause : goal.returns-in_err-put_counted-clause-cause
 returns-in_err-put_counted-clause-cause g c =
     let failed = err_from_is_err_and c.from_residual-in_err-put_counted.result c.from_residual-in_err-put_counted.ensures.1 in
-    rw failed.1 (cause-since _ _ _ _ c.frames.invariant.same c.in_err-put_counted.ensures.cause)
+    rw failed.1 (has_cause-same_start _ _ _ _ c.frames.invariant.same c.in_err-put_counted.ensures.cause)
 
 pub returns-in_err-put_number-clause-prefix : goal.returns-in_err-put_number-clause-prefix
 returns-in_err-put_number-clause-prefix g c = λ records are.
@@ -61,20 +61,20 @@ returns-in_err-put_number-clause-prefix g c = λ records are.
 pub returns-in_err-put_number-clause-cause : goal.returns-in_err-put_number-clause-cause
 returns-in_err-put_number-clause-cause g c =
     let failed = err_from_is_err_and c.from_residual-in_err-put_number.result c.from_residual-in_err-put_number.ensures.1 in
-    rw failed.1 (cause-since _ _ _ _ c.frames.invariant.same c.in_err-put_number.ensures.cause)
+    rw failed.1 (has_cause-same_start _ _ _ _ c.frames.invariant.same c.in_err-put_number.ensures.cause)
 
 pub returns-clause-all : goal.returns-clause-all
 returns-clause-all g c = λ records are.
     let empty = eqb-true _ _ (sym c.is_empty.ensures ∙ c.frames-test.false) in
     let end = shipping-end _ _ _ _ _ _ c.frames.invariant.shipping empty records are _ _ c.in_ok-put_number.ensures.all in
-    on_ok_weaker c.write_out.result (AppendsBut-all _ _ _ _ _ end) c.write_out.ensures.all
+    on_ok_weaker c.write_out.result (AppendsBut-trans_Appends _ _ _ _ _ end) c.write_out.ensures.all
 
 pub returns-clause-prefix : goal.returns-clause-prefix
 returns-clause-prefix g c = λ records are.
     let empty = eqb-true _ _ (sym c.is_empty.ensures ∙ c.frames-test.false) in
     let end = shipping-end _ _ _ _ _ _ c.frames.invariant.shipping empty records are _ _ c.in_ok-put_number.ensures.all in
-    on_err_weaker c.write_out.result (AppendsBut-cut _ _ _ _ _ end) c.write_out.ensures.prefix
+    on_err_weaker c.write_out.result (AppendsBut-trans_AppendsPart _ _ _ _ _ end) c.write_out.ensures.prefix
 
 pub returns-clause-cause : goal.returns-clause-cause
 returns-clause-cause g c =
-    cause-since _ _ _ _ (c.in_ok-put_number.ensures.cause.fine ∙ c.frames.invariant.same) c.write_out.ensures.cause
+    has_cause-same_start _ _ _ _ (c.in_ok-put_number.ensures.cause.fine ∙ c.frames.invariant.same) c.write_out.ensures.cause

@@ -4,13 +4,13 @@ use Rattle.std.proofs.lemmas.List.{take_all}
 use Rattle.std.proofs.lemmas.Result.{err_from_is_err_and}
 use Rattle.log_disk.specs.Streams.{AppendsPart, AppendsBut}
 use Rattle.lsn_space.specs.Unit.{unit_bytes}
-use Rattle.ship_stream.proofs.PuttingLemmas.{cause-none, cause-since}
-use Rattle.ship_stream.proofs.ShippingLemmas.{units-more, units-cut}
+use Rattle.ship_stream.proofs.PuttingLemmas.{has_cause-ok, has_cause-same_start}
+use Rattle.ship_stream.proofs.ShippingLemmas.{appends_unit_bytes-push, appends_unit_bytes-cut}
 use Rattle.ship_stream.proofs.shipping.put_units.Goals as goal
 
 pub units-preserved : goal.units-preserved
 units-preserved g c = record {
-  written = units-more c.args.block.now c.args.units.now _ c.units.unit-index (get_or c.args.units.now c.units.unit-index 0) _ _
+  written = appends_unit_bytes-push c.args.block.now c.args.units.now _ c.units.unit-index (get_or c.args.units.now c.units.unit-index 0) _ _
       (search rules) refl c.units.invariant.written _ _
       (subst (λ piece. AppendsBut (g.K.Sink.held_bytes c.units.sink) (g.K.Sink.held_bytes c.put.new.sink) (c.units.block ++ piece)
       c.put.new.self) c.bytes_of.ensures c.in_ok-put.ensures.all);
@@ -22,11 +22,11 @@ returns-in_err-put g c =
     let failed = err_from_is_err_and c.from_residual.result c.from_residual.ensures.1 in
     rw failed.1 record {
       all = tt;
-      prefix = units-cut c.args.block.now c.args.units.now _ c.units.unit-index (get_or c.args.units.now c.units.unit-index 0) _ _
+      prefix = appends_unit_bytes-cut c.args.block.now c.args.units.now _ c.units.unit-index (get_or c.args.units.now c.units.unit-index 0) _ _
           (search rules) refl c.units.invariant.written _
           (subst (λ piece. AppendsPart (g.K.Sink.held_bytes c.units.sink) (g.K.Sink.held_bytes c.put.new.sink) (c.units.block ++ piece))
           c.bytes_of.ensures c.in_err-put.ensures.prefix);
-      cause = cause-since _ _ _ _ c.units.invariant.same c.in_err-put.ensures.cause;
+      cause = has_cause-same_start _ _ _ _ c.units.invariant.same c.in_err-put.ensures.cause;
     }
 
 pub returns : goal.returns
@@ -35,5 +35,5 @@ returns g c = record {
       (c.args.block.now ++ flat_map unit_bytes list) c.units.block)
       (take_all c.units.unit-index c.args.units.now (omega arith)) c.units.invariant.written;
   prefix = tt;
-  cause = cause-none _ _ _ c.units.invariant.same;
+  cause = has_cause-ok _ _ _ c.units.invariant.same;
 }

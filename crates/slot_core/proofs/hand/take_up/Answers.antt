@@ -2,12 +2,12 @@ use Rattle.std.proofs.Common.{◌≡◌, ◌∷◌, [], ◌++◌, None, sym, ap,
 use Rattle.std.specs.List.{position}
 use Rattle.ring_core.proofs.LookupLemmas.{position-none}
 use Rattle.slot_core.specs.Rows.{is_row_of}
-use Rattle.slot_core.proofs.RowLemmas.{row-written, with_task-absent}
+use Rattle.slot_core.proofs.RowLemmas.{set_row-with_task, with_task-absent}
 use Rattle.slot_core.proofs.hand.take_up.Goals as goal
 
 pub returns-in-Some : goal.returns-in-Some
 returns-in-Some c =
-    row-written c.args.actor c.args.task c.args.hands.now.items c.in-Some.at _ c.new.ensures
+    set_row-with_task c.args.actor c.args.task c.args.hands.now.items c.in-Some.at _ c.new.ensures
     (ap (position (is_row_of c.args.actor)) (sym c.deref.ensures.value) ∙ sym c.index_of.ensures ∙ c.in-Some.is)
 
 pub returns-in-None : goal.returns-in-None

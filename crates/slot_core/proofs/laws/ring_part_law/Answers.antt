@@ -1,5 +1,5 @@
-use Rattle.slot_core.proofs.RingParts.{same-log}
+use Rattle.slot_core.proofs.RingParts.{no_join-same_log}
 use Rattle.slot_core.proofs.laws.ring_part_law.Goals as goal
 
 pub returns : goal.returns
-returns c = same-log
+returns c = no_join-same_log

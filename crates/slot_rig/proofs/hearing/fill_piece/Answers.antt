@@ -4,7 +4,7 @@ use Rattle.log_table.specs.Seats.{Becomes, view_of}
 use Rattle.log_rule.specs.Views.{filled}
 use Rattle.log_rule.specs.May.{MayFillPiece}
 use Rattle.slot_rig.specs.Shares.{IsMember}
-use Rattle.slot_rig.proofs.Hears.{may-fill, member-fills}
+use Rattle.slot_rig.proofs.Hears.{fills-may_fill_piece, filled-fills_more}
 use Rattle.slot_rig.proofs.hearing.fill_piece.Goals as goal
 
 pub store_ring-requires-clause-next : goal.store_ring-requires-clause-next
@@ -14,7 +14,7 @@ store_ring-requires-clause-next c =
     let member : IsMember c.args.table.now c.args.share.now (Fills c.args.base (take c.loop-i.i c.args.share.now.units)) c.loop-i.seat =
     subst (λ units. IsMember c.args.table.now c.args.share.now (Fills c.args.base (take c.loop-i.i units)) c.loop-i.seat) list c.loop-i.invariant in
     inr (subst (λ units. MayFillPiece c.args.table.now.slots c.new-at.result (get_or units c.loop-i.i 0) (view_of c.loop-i.seat)) (sym list)
-    (may-fill c.args.table.now c.args.share.now c.args.base c.loop-i.i c.loop-i.seat c.loop-i.seat member within c.new-at.result
+    (fills-may_fill_piece c.args.table.now c.args.share.now c.args.base c.loop-i.i c.loop-i.seat c.loop-i.seat member within c.new-at.result
     (omega (arith, c.new-at.ensures, c.units.ensures, c.in_ok-start.ensures.sum))))
 
 pub loop-i-preserved : goal.loop-i-preserved
@@ -24,5 +24,5 @@ loop-i-preserved c =
     let member : IsMember c.args.table.now c.args.share.now (Fills c.args.base (take c.loop-i.i c.args.share.now.units)) c.loop-i.seat =
     subst (λ units. IsMember c.args.table.now c.args.share.now (Fills c.args.base (take c.loop-i.i units)) c.loop-i.seat) list c.loop-i.invariant in
     subst (λ units. IsMember c.args.table.now c.args.share.now (Fills c.args.base (take (c.loop-i.i + 1) units)) c.store_ring.new.seat) (sym list)
-    (member-fills c.args.table.now c.args.share.now c.args.base c.loop-i.i c.loop-i.seat c.store_ring.new.seat member within
+    (filled-fills_more c.args.table.now c.args.share.now c.args.base c.loop-i.i c.loop-i.seat c.store_ring.new.seat member within
     (subst (λ units. Becomes c.loop-i.seat c.store_ring.new.seat (filled (get_or units c.loop-i.i 0) (view_of c.loop-i.seat))) list c.store_ring.ensures.view))

@@ -1,4 +1,4 @@
-use Rattle.slot_word.proofs.SlotWordLemmas.{fits_64, phase_back, total_back, remaining_back, word_back, slot_is, slot_back, apart, released, one_pending}
+use Rattle.slot_word.proofs.SlotWordLemmas.{fits_64, phase_back, total_back, remaining_back, word_back, word_of-is_slot_word, is_slot_word-some_slot, word_of-injective, subtracted-packed, swapped-pending}
 use Rattle.slot_word.proofs.slot_packing.slot_word_law.Goals as goal
 
 pub returns : goal.returns
@@ -8,9 +8,9 @@ returns c = record {
   total = total_back;
   remaining = remaining_back;
   word = word_back;
-  slot = slot_is;
-  exact = slot_back;
-  apart = apart;
-  release = released;
-  close = one_pending;
+  slot = word_of-is_slot_word;
+  exact = is_slot_word-some_slot;
+  apart = word_of-injective;
+  release = subtracted-packed;
+  close = swapped-pending;
 }

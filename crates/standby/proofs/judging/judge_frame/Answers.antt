@@ -3,7 +3,7 @@ use Rattle.lock_core.specs.History.{entry_at}
 use Rattle.lock_core.specs.Taking.{IsTakeFault}
 use Rattle.log_recovery.specs.Opened.{list_end, opening_before, placed, with_records}
 use Rattle.log_recovery.proofs.OpenedLemmas.{placed-end}
-use Rattle.standby.proofs.JudgedFrames.{size_of-some, ends-within, taken-none, taken-begins, taken-place, taken-next, taken-all, fails-next}
+use Rattle.standby.proofs.JudgedFrames.{size_of-positive, ends-within, taken-none, taken-record_begins, taken_lsn-list_end, has_taken_to-push, taken-all, first_failing-unlawful_at}
 use Rattle.standby.proofs.judging.judge_frame.Goals as goal
 
 pub unreachable-requires : goal.unreachable-requires
@@ -11,7 +11,7 @@ unreachable-requires c =
     let list = c.requires.taken in
     let records = c.requires.spelled in
     let to = c.records.invariant.taken list.0 records.0 list.1 list.2 records.1 in
-    let begins = taken-begins _ _ _ _ _ to records.1.spellable (omega (arith, c.records-test.true, c.count.ensures)) in
+    let begins = taken-record_begins _ _ _ _ _ to records.1.spellable (omega (arith, c.records-test.true, c.count.ensures)) in
     c.in_default.ensures.bad begins.0 begins.1
 
 pub take-requires-clause-taken : goal.take-requires-clause-taken
@@ -19,7 +19,7 @@ take-requires-clause-taken c =
     let list = c.requires.taken in
     let records = c.requires.spelled in
     let to = c.records.invariant.taken list.0 records.0 list.1 list.2 records.1 in
-    let place = taken-place list.0 _ _ _ _ to records.1.spellable c.args.from c.new-lsn.result list.2
+    let place = taken_lsn-list_end list.0 _ _ _ _ to records.1.spellable c.args.from c.new-lsn.result list.2
     (c.new-lsn.ensures ∙ ap (λ n. n + c.records.at) c.units.ensures) in
     (opening_before list.0, placed (with_records list.0 to.seen), to.taken, place ∙ sym (placed-end (with_records list.0 to.seen)))
 
@@ -40,9 +40,9 @@ records-preserved c = record {
       omega (arith, ends, c.in-Ok.ensures.found.1);
   taken = λ list records taken start spells.
       let to = c.records.invariant.taken list records taken start spells in
-      let place = taken-place list records _ _ _ to spells.spellable c.args.from c.new-lsn.result start
+      let place = taken_lsn-list_end list records _ _ _ to spells.spellable c.args.from c.new-lsn.result start
       (c.new-lsn.ensures ∙ ap (λ n. n + c.records.at) c.units.ensures) in
-      taken-next list records _ _ _ to spells.spellable c.in-Ok.rec c.in-Ok.ensures.found.0 c.new-lsn.result c.in-Ok.size c.take.new.self
+      has_taken_to-push list records _ _ _ to spells.spellable c.in-Ok.rec c.in-Ok.ensures.found.0 c.new-lsn.result c.in-Ok.size c.take.new.self
       place
       c.in-Ok.ensures.found.1 (c.in-Ok-take.ensures.taken (opening_before list) _ to.taken);
 }
@@ -50,10 +50,10 @@ records-preserved c = record {
 pub returns-in-Err-Why-clause-fault : goal.returns-in-Err-Why-clause-fault
 returns-in-Err-Why-clause-fault c = λ list records taken start spells.
     let to = c.records.invariant.taken list records taken start spells in
-    let place = taken-place list records _ _ _ to spells.spellable c.args.from c.new-lsn.result start
+    let place = taken_lsn-list_end list records _ _ _ to spells.spellable c.args.from c.new-lsn.result start
     (c.new-lsn.ensures ∙ ap (λ n. n + c.records.at) c.units.ensures) in
     rw c.in-Err-Why.field-0-is
-    (fails-next list records _ _ _ to spells.spellable c.in-Ok.rec c.in-Ok.ensures.found.0 c.new-lsn.result c.in-Err-Why.why place
+    (first_failing-unlawful_at list records _ _ _ to spells.spellable c.in-Ok.rec c.in-Ok.ensures.found.0 c.new-lsn.result c.in-Err-Why.why place
     (subst (IsTakeFault (opening_before list) (placed (with_records list to.seen)) (entry_at c.new-lsn.result c.in-Ok.rec))
     c.in-Err-Why.field-0-is
     (c.in-Err-Why.ensures.fault (opening_before list) _ to.taken)))

@@ -1,7 +1,7 @@
 use Rattle.std.proofs.Common.{◌≡◌, ◌≤◌, ◌^◌, ◌∙◌, sym, ap, subst, length, arith}
 use Rattle.log_disk.specs.Disk.{IsOnlyImage}
 use Rattle.log_recovery.specs.Opened.{log_of}
-use Rattle.segment_file.proofs.Scanned.{all-stands, stands-stable, stands-within}
+use Rattle.segment_file.proofs.Scanned.{only_image-LogStands, stands-stable, stands-within}
 use Rattle.standby.specs.TakenList.{KeepsList}
 use Rattle.standby_tests.proofs.rig.open.Goals as goal
 
@@ -29,7 +29,7 @@ returns-in-Ok-settle g c =
             let was = c.open_image.ensures.honest.1 honest in
             let held = c.as_slice.ensures.value ∙ c.in-Ok.ensures.bytes was ∙ sym (c.open_image.ensures.reads was) in
             settled.stand honest (log_of found.list)
-            (all-stands c.in-Ok-judged.tail (log_of found.list) _ found.stands _
+            (only_image-LogStands c.in-Ok-judged.tail (log_of found.list) _ found.stands _
             (subst (λ file. IsOnlyImage file (g.D.LogDisk.images c.open_image.new.disk)) (sym held) (c.in-Ok.ensures.settled was)));
         shut = λ is. settled.shut (settled.honest.1 is);
       }),

@@ -1,6 +1,6 @@
 use Rattle.std.proofs.Common.{rules, ◌∙◌, ◌∷◌, [], ap, length, length-append, arith}
 use Rattle.segment_file.specs.PackedBatch.{BatchState}
-use Rattle.stream_reader.proofs.UnitLemmas.{pushing-more, pushes-whole}
+use Rattle.stream_reader.proofs.UnitLemmas.{pushing-more, IsPushing-PushesBytes}
 use Rattle.stream_reader.proofs.units.push_whole.Goals as goal
 
 pub units-preserved : goal.units-preserved
@@ -18,4 +18,4 @@ units-preserved c = record {
 }
 
 pub returns-clause-taken : goal.returns-clause-taken
-returns-clause-taken c = pushes-whole _ _ _ _ c.units.invariant.pushing c.units.invariant.room
+returns-clause-taken c = IsPushing-PushesBytes _ _ _ _ c.units.invariant.pushing c.units.invariant.room

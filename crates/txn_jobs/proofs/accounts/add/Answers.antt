@@ -1,11 +1,11 @@
 use Rattle.std.proofs.Common.{rules, ◌≤◌, length, subst, sym}
 use Rattle.std.specs.List.Sorted.{IsStrictlyIncreasing}
-use Rattle.txn_jobs.proofs.Listing.{rising-searched, adds-found, adds-insert}
+use Rattle.txn_jobs.proofs.Listing.{rising-insert_searched, adds-found, adds-insert}
 use Rattle.txn_jobs.proofs.accounts.add.Goals as goal
 
 pub returns-in-Err-clause-rising : goal.returns-in-Err-clause-rising
 returns-in-Err-clause-rising c = subst IsStrictlyIncreasing (sym c.insert.ensures.items)
-    (rising-searched c.args.accounts.now.items c.as_slice.result.now c.in-Err.place c.args.account c.requires.rising
+    (rising-insert_searched c.args.accounts.now.items c.as_slice.result.now c.in-Err.place c.args.account c.requires.rising
     c.as_slice.ensures.value c.in-Err.ensures.position)
 
 pub returns-in-Err-clause-added : goal.returns-in-Err-clause-added

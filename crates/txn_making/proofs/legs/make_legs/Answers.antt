@@ -3,16 +3,16 @@ use Rattle.txn_parts.specs.Desk.{books_at}
 use Rattle.txn_parts.proofs.DeskLemmas.{WorksOn-accounts, WorksOn-trans}
 use Rattle.txn_making.specs.Legs.{HoldsJob}
 use Rattle.txn_making.proofs.Adding.{adds-trans}
-use Rattle.txn_making.proofs.Passing.{leg-accounts, leg-most, reaches-refused, reaches-done, may-make, still-holds, stands-next, paid-taken}
+use Rattle.txn_making.proofs.Passing.{leg-has_accounts_of, leg_amount-le_most, reaches-refused, reaches-done, CanMake-may_make_leg, HoldsJob-after_leg, StandsBefore-next_leg, IsAfter-taken_same}
 use Rattle.txn_making.proofs.legs.make_legs.Goals as goal
 
 pub refusal-requires-clause-both : goal.refusal-requires-clause-both
 refusal-requires-clause-both g c = let i = c.legs.invariant in
-    leg-accounts _ _ _ _ _ _ i.2 i.3 _ _ c.as_slice-legs.ensures.legs c.legs-test.true c.index-legs-i.is
+    leg-has_accounts_of _ _ _ _ _ _ i.2 i.3 _ _ c.as_slice-legs.ensures.legs c.legs-test.true c.index-legs-i.is
 
 pub refusal-requires-clause-amount : goal.refusal-requires-clause-amount
 refusal-requires-clause-amount g c = let i = c.legs.invariant in
-    leg-most _ _ _ _ _ _ i.2 i.3 _ _ c.as_slice-legs.ensures.legs c.legs-test.true c.index-legs-i.is
+    leg_amount-le_most _ _ _ _ _ _ i.2 i.3 _ _ c.as_slice-legs.ensures.legs c.legs-test.true c.index-legs-i.is
 
 pub returns-in-Some-clause-ended : goal.returns-in-Some-clause-ended
 returns-in-Some-clause-ended g c = let i = c.legs.invariant in
@@ -20,7 +20,7 @@ returns-in-Some-clause-ended g c = let i = c.legs.invariant in
 
 pub make_leg-requires-clause-leg : goal.make_leg-requires-clause-leg
 make_leg-requires-clause-leg g c = let i = c.legs.invariant in
-    may-make _ _ _ _ _ _ (WorksOn-accounts g.Q.Relief _ _ i.0
+    CanMake-may_make_leg _ _ _ _ _ _ (WorksOn-accounts g.Q.Relief _ _ i.0
     (λ accounts. HoldsJob accounts c.args.numbered.now.number c.args.numbered.now.job c.legs.holdings (books_at c.legs.desk)) i.2) i.3 _ _
     c.as_slice-legs.ensures.legs c.legs-test.true c.index-legs-i.is c.in_default.ensures.fits
 
@@ -32,11 +32,11 @@ pub legs-preserved : goal.legs-preserved
 legs-preserved g c = let i = c.legs.invariant in let can = c.in_default.ensures.fits in let made = c.in_ok-make_leg.ensures.made in (
   WorksOn-trans g.Q.Relief g.met.Q.Relief.later_trans _ _ _ i.0 c.in_ok-make_leg.ensures.work,
   (i.1.0 ++ made.added, adds-trans _ _ _ _ _ i.1.1 made.adds),
-  still-holds _ _ _ _ _ _ i.2 i.3 _ _ c.as_slice-legs.ensures.legs c.legs-test.true c.index-legs-i.is can _ c.move_amount.ensures _ _
+  HoldsJob-after_leg _ _ _ _ _ _ i.2 i.3 _ _ c.as_slice-legs.ensures.legs c.legs-test.true c.index-legs-i.is can _ c.move_amount.ensures _ _
       made.adds.entries.books_are made.records_are,
-  stands-next _ _ _ _ _ _ i.2 i.3 _ _ c.as_slice-legs.ensures.legs c.legs-test.true c.index-legs-i.is can _ c.move_amount.ensures _ _
+  StandsBefore-next_leg _ _ _ _ _ _ i.2 i.3 _ _ c.as_slice-legs.ensures.legs c.legs-test.true c.index-legs-i.is can _ c.move_amount.ensures _ _
       made.adds.entries.books_are made.records_are,
-  paid-taken _ _ _ c.move_amount.ensures ∙ i.4,
+  IsAfter-taken_same _ _ _ c.move_amount.ensures ∙ i.4,
 )
 
 pub returns-clause-ended : goal.returns-clause-ended

@@ -7,10 +7,10 @@ use Rattle.txn_parts.specs.Desk.{accounts_at}
 use Rattle.txn_parts.proofs.DeskLemmas.{WorksOn-accounts, WorksOn-trans}
 use Rattle.txn_making.specs.Holdings.{IsKnown}
 use Rattle.txn_making.proofs.Backing.{notes-uncommitted}
-use Rattle.txn_making.proofs.Gaining.{all-known, next-ascends, holds-all, takes-more}
-use Rattle.txn_making.proofs.Held.{given-held}
+use Rattle.txn_making.proofs.Gaining.{IsKnown-all, next-ascends, TakesAll-holds_all, TakesAll-push}
+use Rattle.txn_making.proofs.Held.{KeepsGiven-with_held}
 use Rattle.txn_jobs.proofs.Listing.{rising-take}
-use Rattle.txn_making.proofs.GivenLemmas.{given-same, given-trans}
+use Rattle.txn_making.proofs.GivenLemmas.{KeepsGiven-same, KeepsGiven-trans}
 use Rattle.txn_making.proofs.taking.take_all.Goals as goal
 
 pub take_one-requires-clause-ascends : goal.take_one-requires-clause-ascends
@@ -24,11 +24,11 @@ take_one-requires-clause-known g c = WorksOn-accounts g.Q.Relief _ _ c.accounts.
 
 pub give_unchanged-requires-clause-holds : goal.give_unchanged-requires-clause-holds
 give_unchanged-requires-clause-holds g c = record {
-  holds = holds-all _ _ _ _ _ c.accounts.invariant.1 (rising-take _ _ c.requires.accounts.rising) c.in-Err.ensures.kept;
+  holds = TakesAll-holds_all _ _ _ _ _ c.accounts.invariant.1 (rising-take _ _ c.requires.accounts.rising) c.in-Err.ensures.kept;
   known = WorksOn-accounts g.Q.Relief _ _
       (WorksOn-trans g.Q.Relief g.met.Q.Relief.later_trans _ _ _ c.accounts.invariant.0 c.take_one.ensures.work)
       (λ accounts. All (IsKnown accounts) c.accounts.holdings.items)
-      (all-known _ _ _ c.accounts.invariant.1.accounts_are
+      (IsKnown-all _ _ _ c.accounts.invariant.1.accounts_are
       (All-take (λ account. account < accounts_at c.args.desk.now) _ _ c.requires.accounts.known));
 }
 
@@ -38,14 +38,14 @@ give_unchanged-requires-clause-uncommitted g c =
     ∙ notes-uncommitted _ c.requires.may.begins.only_note
 
 pub returns-in-Err-clause-given : goal.returns-in-Err-clause-given
-returns-in-Err-clause-given g c = given-trans _ _ _
-    (given-same _ _ (ap (λ (books : Books). books.given) (c.in-Err.ensures.kept.books_are ∙ c.accounts.invariant.1.entries.books_are)))
-    (given-held _ _ _ _ c.give_unchanged.ensures)
+returns-in-Err-clause-given g c = KeepsGiven-trans _ _ _
+    (KeepsGiven-same _ _ (ap (λ (books : Books). books.given) (c.in-Err.ensures.kept.books_are ∙ c.accounts.invariant.1.entries.books_are)))
+    (KeepsGiven-with_held _ _ _ _ c.give_unchanged.ensures)
 
 pub accounts-preserved : goal.accounts-preserved
 accounts-preserved g c = (
   WorksOn-trans g.Q.Relief g.met.Q.Relief.later_trans _ _ _ c.accounts.invariant.0 c.take_one.ensures.work,
-  takes-more _ _ _ _ _ c.accounts.invariant.1 _ _ _ c.push.ensures.items
+  TakesAll-push _ _ _ _ _ c.accounts.invariant.1 _ _ _ c.push.ensures.items
       (take_more c.args.accounts.now c.accounts.account-index 0 c.accounts-test.true
       ∙ (λ i. take c.accounts.account-index c.args.accounts.now ++ sym c.in-Ok.ensures.taken.account_is i ∷ []))
       refl c.in-Ok.ensures.taken.entries c.in-Ok.ensures.runs,

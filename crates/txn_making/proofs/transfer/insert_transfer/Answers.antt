@@ -8,9 +8,9 @@ use Rattle.txn_making.specs.Endings.{EndsTransfer}
 use Rattle.txn_making.specs.Holdings.{taken_of}
 use Rattle.txn_making.specs.Legs.{HoldsJob, StandsBefore}
 use Rattle.txn_making.proofs.Adding.{adds-none, adds-trans}
-use Rattle.txn_making.proofs.Beginning.{stands-first}
-use Rattle.txn_making.proofs.Finishing.{enters-last, spells-last, cut-last, ends-transfer}
-use Rattle.txn_making.proofs.Passing.{holds-behind}
+use Rattle.txn_making.proofs.Beginning.{StandsBefore-first_leg}
+use Rattle.txn_making.proofs.Finishing.{MayEnter-last_record, last_record-spells_next, IsCutOff-last_record, ends-transfer}
+use Rattle.txn_making.proofs.Passing.{HoldsJob-placing_all}
 use Rattle.txn_making.proofs.transfer.insert_transfer.Goals as goal
 
 pub insert_note-requires-clause-job : goal.insert_note-requires-clause-job
@@ -24,14 +24,14 @@ make_legs-requires-clause-job g c =
     (WorksOn-accounts g.Q.Relief _ _ c.in_ok-insert_note.ensures.work
     (λ accounts. HoldsJob accounts c.args.numbered.now.number c.args.numbered.now.job c.args.holdings.now.items
     (books_at c.insert_note.new.desk))
-    (holds-behind _ _ _ _ _ _ noted.added noted.adds.entries.books_are c.requires.may.holds))
+    (HoldsJob-placing_all _ _ _ _ _ _ noted.added noted.adds.entries.books_are c.requires.may.holds))
 
 pub make_legs-requires-clause-first : goal.make_legs-requires-clause-first
 make_legs-requires-clause-first g c =
     let noted = c.in_ok-insert_note.ensures.noted in
     subst (λ list. StandsBefore 0 c.args.numbered.now.number c.args.numbered.now.job list (books_at c.insert_note.new.desk))
     (sym c.as_mut_slice-list.ensures.value)
-    (stands-first _ _ _ _ _ _ noted.added noted.adds.entries.books_are noted.records_are c.requires.may.begins c.requires.may.holds
+    (StandsBefore-first_leg _ _ _ _ _ _ noted.added noted.adds.entries.books_are noted.records_are c.requires.may.begins c.requires.may.holds
     c.requires.may.unchanged)
 
 pub returns-in_err-answer-clause-added : goal.returns-in_err-answer-clause-added
@@ -48,11 +48,11 @@ pub insert_units-requires-clause-next : goal.insert_units-requires-clause-next
 insert_units-requires-clause-next g c =
     let noted = c.in_ok-insert_note.ensures.noted in
     let legs = c.in_ok-answer.ensures.added in
-    enters-last _ _ _ _ _ _ _ _ _ (adds-trans _ _ _ _ _ noted.adds legs.1) c.requires.may.holds c.in_ok-answer.ensures.ended
+    MayEnter-last_record _ _ _ _ _ _ _ _ _ (adds-trans _ _ _ _ _ noted.adds legs.1) c.requires.may.holds c.in_ok-answer.ensures.ended
 
 pub insert_units-requires-clause-spelled : goal.insert_units-requires-clause-spelled
 insert_units-requires-clause-spelled g c =
-    spells-last _ _ _ _ c.make_legs.new.desk.seat.now c.in_ok-answer.ensures.ended _ c.spell_end.ensures
+    last_record-spells_next _ _ _ _ c.make_legs.new.desk.seat.now c.in_ok-answer.ensures.ended _ c.spell_end.ensures
 
 pub returns-in_err-end-clause-added : goal.returns-in_err-end-clause-added
 returns-in_err-end-clause-added g c =
@@ -68,7 +68,7 @@ pub returns-in_err-end-clause-cut : goal.returns-in_err-end-clause-cut
 returns-in_err-end-clause-cut g c =
     let failed = err_from_is_err_and c.from_residual-in_err-end.result c.from_residual-in_err-end.ensures.1 in
     let err = c.in_err-end.ensures in
-    rw (failed.1, failed.2) (cut-last _ _ _ _ c.make_legs.new.desk.seat.now c.in_ok-answer.ensures.ended _
+    rw (failed.1, failed.2) (IsCutOff-last_record _ _ _ _ c.make_legs.new.desk.seat.now c.in_ok-answer.ensures.ended _
     c.insert_units.new.desk.seat.now err.kept.books_are err.stopped)
 
 pub returns-clause-ended : goal.returns-clause-ended

@@ -6,7 +6,7 @@ use Rattle.log_rule.specs.declared.view.Books.{Books}
 use Rattle.log_table.specs.Seats.{view_of}
 use Rattle.txn_parts.proofs.DeskLemmas.{WorksOn-accounts}
 use Rattle.txn_making.specs.Holdings.{HoldsAll, GoesBack, IsKnown}
-use Rattle.txn_runner.proofs.StageLemmas.{gives-all, gives-then, still-seen, still-stopped}
+use Rattle.txn_runner.proofs.StageLemmas.{ReturnsAll-gives_all, GivesAll-after_unchanged, HasSeen-given_back, StopsFor-given_back}
 use Rattle.txn_runner.proofs.job.give_behind.Goals as goal
 
 pub give_all-requires-clause-holds : goal.give_all-requires-clause-holds
@@ -35,13 +35,13 @@ give_all-requires-clause-durable g c = λ on.
 pub returns-clause-gives : goal.returns-clause-gives
 returns-clause-gives g c =
     let seen = c.see_durable-seen.ensures in
-    gives-then c.args.holdings.now.items c.args.desk.now.seat.now c.see_durable-seen.new.desk.seat.now c.give_all.new.seat seen.kept
-    (gives-all c.args.holdings.now.items c.see_durable-seen.new.desk.seat.now c.give_all.new.seat seen.work.at_work.ready c.give_all.ensures)
+    GivesAll-after_unchanged c.args.holdings.now.items c.args.desk.now.seat.now c.see_durable-seen.new.desk.seat.now c.give_all.new.seat seen.kept
+    (ReturnsAll-gives_all c.args.holdings.now.items c.see_durable-seen.new.desk.seat.now c.give_all.new.seat seen.work.at_work.ready c.give_all.ensures)
 
 pub returns-clause-seen : goal.returns-clause-seen
-returns-clause-seen g c = still-seen c.args.wait c.args.ended.now.end c.args.holdings.now.items c.see_durable-seen.new.desk.seat.now
+returns-clause-seen g c = HasSeen-given_back c.args.wait c.args.ended.now.end c.args.holdings.now.items c.see_durable-seen.new.desk.seat.now
     c.give_all.new.seat c.give_all.ensures c.see_durable-seen.result c.see_durable-seen.ensures.seen
 
 pub returns-clause-stopped : goal.returns-clause-stopped
-returns-clause-stopped g c = still-stopped c.args.wait c.args.ended.now.end c.args.holdings.now.items c.see_durable-seen.new.desk.seat.now
+returns-clause-stopped g c = StopsFor-given_back c.args.wait c.args.ended.now.end c.args.holdings.now.items c.see_durable-seen.new.desk.seat.now
     c.give_all.new.seat c.give_all.ensures c.see_durable-seen.result c.see_durable-seen.ensures.stopped

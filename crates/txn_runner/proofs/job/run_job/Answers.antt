@@ -1,6 +1,6 @@
 use Rattle.std.proofs.lemmas.Result.{err_from_is_err_and}
 use Rattle.txn_parts.proofs.DeskLemmas.{WorksOn-trans}
-use Rattle.txn_runner.proofs.StageLemmas.{makes-behind}
+use Rattle.txn_runner.proofs.StageLemmas.{TakesAccounts-makes_taken}
 use Rattle.txn_runner.proofs.job.run_job.Goals as goal
 
 pub returns-in_err-take_accounts-clause-made : goal.returns-in_err-take_accounts-clause-made
@@ -16,7 +16,7 @@ pub make_transfer-requires-clause-runs : goal.make_transfer-requires-clause-runs
 make_transfer-requires-clause-runs g c = c.in_ok-take_accounts.ensures.taken.runs
 
 pub returns-clause-made : goal.returns-clause-made
-returns-clause-made g c = makes-behind _ _ _ _ _ _ _ c.in_ok-take_accounts.ensures.taken c.args.wait c.make_transfer.result
+returns-clause-made g c = TakesAccounts-makes_taken _ _ _ _ _ _ _ c.in_ok-take_accounts.ensures.taken c.args.wait c.make_transfer.result
     c.make_transfer.ensures.made
 
 pub returns-clause-work : goal.returns-clause-work

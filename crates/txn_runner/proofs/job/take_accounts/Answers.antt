@@ -5,8 +5,8 @@ use Rattle.txn_parts.specs.Desk.{view_at, accounts_at}
 use Rattle.txn_parts.proofs.DeskLemmas.{WorksOn-accounts, WorksOn-trans}
 use Rattle.txn_making.specs.Inserts.{StopsFor}
 use Rattle.txn_runner.specs.Stages.{TakesAccounts}
-use Rattle.txn_runner.proofs.Composing.{accounts-known}
-use Rattle.txn_runner.proofs.StageLemmas.{begins-nothing, cut-first, lets-go-untaken, cut-untaken, takes-accounts}
+use Rattle.txn_runner.proofs.Composing.{IsAccountOf-below}
+use Rattle.txn_runner.proofs.StageLemmas.{begins-nothing, StopsFor-has_cut_taken, KeepsBooks-lets_go, KeepsBooks-cut_early, takes-accounts}
 use Rattle.txn_runner.proofs.job.take_accounts.Goals as goal
 
 pub take_all-requires-clause-may : goal.take_all-requires-clause-may
@@ -22,7 +22,7 @@ take_all-requires-clause-accounts g c =
     let same = c.as_slice.ensures.value in record {
       rising = subst IsStrictlyIncreasing (sym same) list.rising;
       known = subst (All (λ account. account < accounts_at c.args.desk.now)) (sym same)
-          (accounts-known _ _ _ c.requires.begun.next.allowed.job.legs.each list.only);
+          (IsAccountOf-below _ _ _ c.requires.begun.next.allowed.job.legs.each list.only);
       few = search rules;
     }
 
@@ -30,7 +30,7 @@ pub returns-in_err-unless_stopped-clause-cut : goal.returns-in_err-unless_stoppe
 returns-in_err-unless_stopped-clause-cut g c =
     let failed = err_from_is_err_and c.from_residual.result c.from_residual.ensures.1 in
     let stopped = c.in_err-unless_stopped.ensures.stopped in
-    rw (failed.1, failed.2) (cut-first _ _ _ c.args.desk.now.seat.now c.requires.begun.next _
+    rw (failed.1, failed.2) (StopsFor-has_cut_taken _ _ _ c.args.desk.now.seat.now c.requires.begun.next _
     (subst (λ cause. StopsFor cause [] (view_at c.args.desk.now)) (sym stopped.0) (stopped.1, c.requires.begun.stop_is)))
 
 pub returns-clause-taken : goal.returns-clause-taken
@@ -43,11 +43,11 @@ returns-clause-taken g c =
     c.take_all.ensures.taken)
 
 pub returns-clause-let_go : goal.returns-clause-let_go
-returns-clause-let_go g c = lets-go-untaken _ _ _ c.args.desk.now.seat.now c.requires.begun.next c.take_all.new.desk.seat.now
+returns-clause-let_go g c = KeepsBooks-lets_go _ _ _ c.args.desk.now.seat.now c.requires.begun.next c.take_all.new.desk.seat.now
     c.take_all.result c.take_all.ensures.kept c.take_all.ensures.given
 
 pub returns-clause-cut : goal.returns-clause-cut
-returns-clause-cut g c = cut-untaken _ _ _ c.args.desk.now.seat.now c.requires.begun.next c.take_all.new.desk.seat.now
+returns-clause-cut g c = KeepsBooks-cut_early _ _ _ c.args.desk.now.seat.now c.requires.begun.next c.take_all.new.desk.seat.now
     c.take_all.result c.take_all.ensures.kept c.take_all.ensures.stopped
 
 pub returns-clause-work : goal.returns-clause-work

@@ -3,7 +3,7 @@ use Rattle.job_queue.specs.Passes.{places_in}
 use Rattle.log_rule.specs.May.{MayTakeJob}
 use Rattle.txn_parts.specs.Desk.{view_at, accounts_at}
 use Rattle.txn_parts.proofs.DeskLemmas.{IsOf-same, IsReady-same}
-use Rattle.txn_runner.proofs.StageLemmas.{IsTaken, takes-job, has-next}
+use Rattle.txn_runner.proofs.StageLemmas.{IsTaken, took_job-is_taken, IsTaken-has_next_job}
 use Rattle.txn_runner.proofs.WorkLemmas.{IsNextJob-taken, MayTakeJob-next}
 use Rattle.txn_runner.proofs.taking.begin_job.Goals as goal
 use Rattle.txn_runner.proofs.taking.begin_job.Goals.{In-Some, After-take_job-stop}
@@ -19,7 +19,7 @@ pub take_job-stop-requires-clause-may : goal.take_job-stop-requires-clause-may
 take_job-stop-requires-clause-may g c = may-take g (goal.at.take_job-stop-requires-clause-may g c).In-Some
 
 taken : (g : _) (c : After-take_job-stop g) → IsTaken c.in-Some.number c.take_next.new.job c.args.desk.now.seat.now c.take_job-stop.new.seat
-taken g c = takes-job c.in-Some.number c.take_next.new.job c.args.desk.now.seat.now c.take_job-stop.new.seat c.take_job-stop.result
+taken g c = took_job-is_taken c.in-Some.number c.take_next.new.job c.args.desk.now.seat.now c.take_job-stop.new.seat c.take_job-stop.result
     c.requires.work.ready c.take_job-stop.ensures.view
 
 pub returns-clause-work : goal.returns-clause-work
@@ -42,7 +42,7 @@ returns-clause-taken g c =
 
 pub returns-clause-begun : goal.returns-clause-begun
 returns-clause-begun g c = record {
-  next = has-next c.in-Some.number c.take_next.new.job c.args.desk.now.seat.now c.take_job-stop.new.seat (accounts_at c.args.desk.now)
+  next = IsTaken-has_next_job c.in-Some.number c.take_next.new.job c.args.desk.now.seat.now c.take_job-stop.new.seat (accounts_at c.args.desk.now)
       (may-take g (goal.at.returns-clause-begun g c).In-Some) (taken g (goal.at.returns-clause-begun g c).After-take_job-stop);
   stop_is = ap (λ m. m.0.seen.stop) c.take_job-stop.ensures.view.me;
 }

@@ -9,9 +9,9 @@ use Rattle.txn_parts.proofs.DeskLemmas.{WorksOn-accounts, WorksOn-none, WorksOn-
 use Rattle.txn_runner.specs.Stages.{LetsGo}
 use Rattle.txn_jobs.specs.declared.cause.Worked.TheVariants as worked
 use Rattle.txn_runner.specs.Working.{HasDone, jobs_of, places_in, rows_in, room_of}
-use Rattle.txn_runner.proofs.PlaceLemmas.{HasRoomForRows-next, HasRoomForRows-now, places-nearer}
-use Rattle.txn_runner.proofs.ProgressLemmas.{Progress, Progress-first, Progress-rows, Progress-told, Stopped, Stopped-told, EndsByMark-told, told-longer}
-use Rattle.txn_runner.proofs.StageLemmas.{lets-go-taken, run-taken, cut-taken}
+use Rattle.txn_runner.proofs.PlaceLemmas.{HasRoomForRows-push, HasRoomForRows-room_left, places_in-fewer_left}
+use Rattle.txn_runner.proofs.ProgressLemmas.{Progress, Progress-none, Progress-rows, Progress-told, Stopped, Stopped-told, EndsByMark-told, IsTold-one_row_at_most}
+use Rattle.txn_runner.proofs.StageLemmas.{IsTaken-lets_go, HasRunTaken-has_run, HasCutTaken-has_cut}
 use Rattle.txn_runner.proofs.WorkLemmas.{IsNextJob, IsNextJob-taken}
 use Rattle.txn_runner.proofs.worker.work_at.Goals as goal
 use Rattle.txn_runner.proofs.worker.work_at.Goals.{After-run_job-made, In-Some, In-Some-tell}
@@ -23,7 +23,7 @@ jobs-init g c = let may = c.requires.may.next in record {
   pass = may.pass;
   mark = may.mark;
   room = c.requires.may.room;
-  progress = Progress-first _ _ c.args.wait _ _ may.worked;
+  progress = Progress-none _ _ c.args.wait _ _ may.worked;
 }
 
 pub begin_job-requires-clause-work : goal.begin_job-requires-clause-work
@@ -40,7 +40,7 @@ begin_job-requires-clause-may g c = let i = c.jobs.invariant in record {
 
 pub tell-requires : goal.tell-requires
 tell-requires g c = record {
-  room = HasRoomForRows-now c.args.queue.now _ _ c.jobs.rows c.begin_job.new.rows c.in-Some.ensures.taken.place
+  room = HasRoomForRows-room_left c.args.queue.now _ _ c.jobs.rows c.begin_job.new.rows c.in-Some.ensures.taken.place
       c.jobs.invariant.progress.worked.rising c.jobs.invariant.room c.begin_job.ensures.rows;
 }
 
@@ -60,7 +60,7 @@ still-pass g c rows same = subst (λ pass. IsSomeAnd pass (IsWorkersPass c.args.
 
 -- what was made of the transfer since it was taken, and before
 gone : (g : _) (c : After-run_job-made g) → LetsGo c.jobs.desk.seat.now c.run_job-made.new.desk.seat.now
-gone g c = lets-go-taken c.begin_job.new.numbered.number c.begin_job.new.numbered.job c.jobs.desk.seat.now
+gone g c = IsTaken-lets_go c.begin_job.new.numbered.number c.begin_job.new.numbered.job c.jobs.desk.seat.now
     c.begin_job.new.desk.seat.now c.run_job-made.new.desk.seat.now c.in-Some.ensures.taken.as_job c.run_job-made.ensures.made.let_go
 
 works : (g : _) (c : After-run_job-made g) → WorksOn g.Q.Relief c.args.desk.now c.run_job-made.new.desk
@@ -79,8 +79,8 @@ jobs-preserved g c =
       none_held = made.none_held;
       pass = still-pass g in-some c.tell.new.self c.tell.ensures.pass;
       mark = ap marks_by c.tell.ensures.pass ∙ c.in-Some.ensures.taken.place.marks;
-      room = HasRoomForRows-next (jobs_of c.args.queue.now) c.jobs.rows c.tell.new.self c.in-Some.ensures.taken.place.place c.jobs.invariant.room places
-          (told-longer c.run_job-made.result None (rows_in c.jobs.rows) (rows_in c.tell.new.self) told) room;
+      room = HasRoomForRows-push (jobs_of c.args.queue.now) c.jobs.rows c.tell.new.self c.in-Some.ensures.taken.place.place c.jobs.invariant.room places
+          (IsTold-one_row_at_most c.run_job-made.result None (rows_in c.jobs.rows) (rows_in c.tell.new.self) told) room;
       progress = subst (λ taken. Progress (jobs_of c.args.queue.now) (places_in c.args.rows.now) taken c.args.wait c.args.rows.now
           c.tell.new.self (view_at c.args.desk.now) (view_at c.run_job-made.new.desk)) (sym places)
           (Progress-told (jobs_of c.args.queue.now) _ _ _ c.args.wait c.args.rows.now c.jobs.rows c.tell.new.self
@@ -88,13 +88,13 @@ jobs-preserved g c =
           c.begin_job.new.numbered.number c.begin_job.new.numbered.job (next-is g in-some)
           record { tail = c.jobs.invariant.works.same.grows; durable = c.jobs.invariant.works.same.durable }
           record { tail = made.same.grows; durable = made.same.durable } made.given room c.run_job-made.result None told
-          (run-taken c.begin_job.new.numbered.number c.begin_job.new.numbered.job c.jobs.desk.seat.now
+          (HasRunTaken-has_run c.begin_job.new.numbered.number c.begin_job.new.numbered.job c.jobs.desk.seat.now
           c.begin_job.new.desk.seat.now c.run_job-made.new.desk.seat.now
           c.in-Some.ensures.taken.as_job c.args.wait c.run_job-made.result c.run_job-made.ensures.made.run));
     }
 
 pub jobs-smaller : goal.jobs-smaller
-jobs-smaller g c = places-nearer c.args.queue.now _ _ c.jobs.rows c.begin_job.new.rows c.in-Some.ensures.taken.place
+jobs-smaller g c = places_in-fewer_left c.args.queue.now _ _ c.jobs.rows c.begin_job.new.rows c.in-Some.ensures.taken.place
     c.jobs.invariant.progress.worked.rising c.tell.new.self (places-now g (goal.at.jobs-smaller g c).In-Some c.tell.new.self c.tell.ensures.pass)
 
 -- the transfer that was cut off
@@ -115,7 +115,7 @@ stopped g c =
     (c.tell.ensures.room ∙ c.begin_job.ensures.rows.room) c.run_job-made.result (Some c.in-Some-tell.worked)
     (subst (λ rows. IsTold c.run_job-made.result (Some c.in-Some-tell.worked) rows (rows_in c.tell.new.self)) c.begin_job.ensures.rows.rows
     c.in-Some-tell.ensures.told)
-    (cut-taken c.begin_job.new.numbered.number c.begin_job.new.numbered.job c.jobs.desk.seat.now
+    (HasCutTaken-has_cut c.begin_job.new.numbered.number c.begin_job.new.numbered.job c.jobs.desk.seat.now
     c.begin_job.new.desk.seat.now c.run_job-made.new.desk.seat.now
     c.in-Some.ensures.taken.as_job c.args.wait c.run_job-made.result c.run_job-made.ensures.made.cut))
 

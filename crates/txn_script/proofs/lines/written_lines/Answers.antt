@@ -1,5 +1,5 @@
-use Rattle.txn_script.proofs.LineLemmas.{written-ended, written-open}
+use Rattle.txn_script.proofs.LineLemmas.{lines-ended_each, lines-ended_and_last}
 use Rattle.txn_script.proofs.lines.written_lines.Goals as goal
 
 pub returns : goal.returns
-returns c = record { ended = written-ended; lacking = written-open }
+returns c = record { ended = lines-ended_each; lacking = lines-ended_and_last }

@@ -5,7 +5,7 @@ use Rattle.lsn_space.specs.Number.{number_text}
 use Rattle.log_record.specs.Spelling.{IsBalance}
 use Rattle.txn_script.specs.Lines.{lines}
 use Rattle.txn_script.specs.Balances.{IsBalancesFault}
-use Rattle.txn_script.proofs.BalanceLemmas.{text-grows}
+use Rattle.txn_script.proofs.BalanceLemmas.{lines_read-push}
 use Rattle.txn_script.proofs.opening.balances.Goals as goal
 
 pub returns-in_default-next_balance-clause-fault : goal.returns-in_default-next_balance-clause-fault
@@ -37,7 +37,7 @@ lines-preserved c =
       each = All-push IsBalance before.read balance before.each c.in-Some-next_balance.ensures.balance;
       rows = rw (c.push.ensures, before.rows) (sym (map_push (λ n. (n, 0)) before.read balance));
       room = rw (c.push.ensures) before.room;
-      text = text-grows c.args.bytes.now before.read balance _ c.lines.rest.now c.in-Some.after.now before.text
+      text = lines_read-push c.args.bytes.now before.read balance _ c.lines.rest.now c.in-Some.after.now before.text
           c.in-Some.ensures.line c.in-Some-next_balance.ensures.text;
     }
 

@@ -4,7 +4,7 @@ use Rattle.std.proofs.lemmas.List.{nil_from_length}
 use Rattle.std.proofs.lemmas.List.Elements.{All-push}
 use Rattle.txn_script.specs.Lines.{lines}
 use Rattle.txn_script.specs.Script.{IsAllowedJob, IsScriptLine}
-use Rattle.txn_script.proofs.ScriptLemmas.{jobs-kept, jobs-grow, lines-grow, bad_line-first}
+use Rattle.txn_script.proofs.ScriptLemmas.{filled-push_empty, filled-push_job, lines-push, bad_line-behind_script_lines}
 use Rattle.txn_script.proofs.script.parse.Goals as goal
 
 pub lines-preserved-in_ok-push : goal.lines-preserved-in_ok-push
@@ -16,9 +16,9 @@ lines-preserved-in_ok-push c =
     record {
       before = before.before ++ line ∷ [];
       each = All-push (IsScriptLine c.args.accounts) before.before line before.each (inr (c.in-Some-read_job.job, read.allowed, read.text));
-      text = lines-grow c.args.bytes.now c.lines.rest.now c.in-Some.after.now line before.before before.text c.in-Some.ensures.line;
+      text = lines-push c.args.bytes.now c.lines.rest.now c.in-Some.after.now line before.before before.text c.in-Some.ensures.line;
       allowed = rw grown (All-push (IsAllowedJob c.args.accounts) c.lines.script c.in-Some-read_job.job before.allowed read.allowed);
-      jobs = rw grown (jobs-grow before.before line c.lines.script c.in-Some-read_job.job c.if-not-is_empty.ensures read.text before.jobs);
+      jobs = rw grown (filled-push_job before.before line c.lines.script c.in-Some-read_job.job c.if-not-is_empty.ensures read.text before.jobs);
       number = omega (arith, before.number, length-append before.before (line ∷ []));
       bound = omega (arith, before.bound, c.in-Some.ensures.shorter);
     }
@@ -31,9 +31,9 @@ lines-preserved c =
     record {
       before = before.before ++ line ∷ [];
       each = All-push (IsScriptLine c.args.accounts) before.before line before.each (inl none);
-      text = lines-grow c.args.bytes.now c.lines.rest.now c.in-Some.after.now line before.before before.text c.in-Some.ensures.line;
+      text = lines-push c.args.bytes.now c.lines.rest.now c.in-Some.after.now line before.before before.text c.in-Some.ensures.line;
       allowed = before.allowed;
-      jobs = jobs-kept before.before line c.lines.script none before.jobs;
+      jobs = filled-push_empty before.before line c.lines.script none before.jobs;
       number = omega (arith, before.number, length-append before.before (line ∷ []));
       bound = omega (arith, before.bound, c.in-Some.ensures.shorter);
     }
@@ -42,7 +42,7 @@ pub returns-in_default-read_job-clause-fault : goal.returns-in_default-read_job-
 returns-in_default-read_job-clause-fault c =
     let before = c.lines.invariant in
     let text = before.text ∙ ap (λ more. before.before ++ more) c.in-Some.ensures.line in
-    let bad = bad_line-first c.args.accounts c.args.bytes.now before.before c.in-Some.line.now (lines c.in-Some.after.now) before.each text
+    let bad = bad_line-behind_script_lines c.args.accounts c.args.bytes.now before.before c.in-Some.line.now (lines c.in-Some.after.now) before.each text
     c.if-not-is_empty.ensures c.in_default-read_job.ensures.none in
     rw (before.number) bad
 

@@ -1,5 +1,5 @@
 use Rattle.std.proofs.Common.{refl}
-use Rattle.commit_pipeline.proofs.ToldSoFar.{HasTold-all, HasToldAll-made}
+use Rattle.commit_pipeline.proofs.ToldSoFar.{HasToldAll-has_told, HasToldAll-made}
 use Rattle.commit_pipeline.proofs.daemon.Daemon.make.Goals as goal
 
 pub returns : goal.returns
@@ -17,6 +17,6 @@ returns g c = record {
 
 pub invariant_of-result : goal.invariant_of-result
 invariant_of-result g c = record {
-  told = ∣ HasTold-all g.K.Sink _ c.args.voice _ _ _
+  told = ∣ HasToldAll-has_told g.K.Sink _ c.args.voice _ _ _
       (HasToldAll-made g.K.Sink _ _ c.args.voice _ _ c.of-first.ensures c.of-begun.ensures) ∣₁;
 }

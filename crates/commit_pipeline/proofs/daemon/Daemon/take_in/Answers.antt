@@ -2,7 +2,7 @@ use Rattle.std.proofs.Common.{refl, ap}
 use mathlib.Core.Logic.{∥∥₁_map}
 use Rattle.log_rule.specs.declared.view.View.{View}
 use Rattle.log_table.specs.Seats.{view_of}
-use Rattle.daemon_turn.proofs.TurnLemmas.{keeps-step}
+use Rattle.daemon_turn.proofs.TurnLemmas.{KeepsLog-same_sent_read}
 use Rattle.commit_pipeline.proofs.ToldSoFar.{HasTold-step}
 use Rattle.commit_pipeline.proofs.daemon.Daemon.take_in.Goals as goal
 
@@ -11,7 +11,7 @@ pub invariant_of-flusher : goal.invariant_of-flusher
 invariant_of-flusher g c =
     let is = ap (λ m. m.0) c.merge.ensures.view.me in
     record {
-      keeps = keeps-step c.args.self.now.flusher c.merge.new.seat (ap (λ (v : View). v.sending.sent) is)
+      keeps = KeepsLog-same_sent_read c.args.self.now.flusher c.merge.new.seat (ap (λ (v : View). v.sending.sent) is)
           (ap (λ (v : View). v.sending.read) is);
     }
 

@@ -1,6 +1,6 @@
 use Rattle.std.proofs.Common.{inr, Some}
 use Rattle.commit_pipeline.proofs.RanTurns.{Ran-turned, Ran-failed}
-use Rattle.commit_pipeline.proofs.TurnLemmas.{MayGoOn-turn, Turns-made, Fails-made, MayTurn-made, IsSameDaemon-made}
+use Rattle.commit_pipeline.proofs.TurnLemmas.{MayTurn-may_go_on, Turns-made, Fails-made, MayTurn-made, IsSameDaemon-made}
 use Rattle.log_table.specs.Seats.{view_of}
 use Rattle.commit_pipeline.proofs.ToldTurns.{HasTold-turn, HasToldAll-made}
 use Rattle.commit_pipeline.proofs.daemon.Daemon.turn.Goals as goal
@@ -29,7 +29,7 @@ invariant_of-self-in-Err g c =
     }
 
 pub make_turn-made-requires : goal.make_turn-made-requires
-make_turn-made-requires g c = record { ready = MayGoOn-turn g.D.LogDisk c.args.self.now c.requires.ready }
+make_turn-made-requires g c = record { ready = MayTurn-may_go_on g.D.LogDisk c.args.self.now c.requires.ready }
 
 pub returns-in-Ok-clause-turned : goal.returns-in-Ok-clause-turned
 returns-in-Ok-clause-turned g c =

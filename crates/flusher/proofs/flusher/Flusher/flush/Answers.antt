@@ -4,7 +4,7 @@ use Rattle.std.proofs.lemmas.Result.{err_from_is_err_and}
 use Rattle.log_rule.specs.declared.view.View.{View}
 use Rattle.log_table.specs.Seats.{view_of}
 use Rattle.log_rule.proofs.SentRecords.{sent-lawfully, read-lawfully}
-use Rattle.flusher.proofs.Flushes.{IsOf-becomes, IsSame-steps, LogStands-append, MayFlush-step, WritesWhole-append, seen-flushed, seen-newer, sent_to-flushed, tail-appended, tail-place}
+use Rattle.flusher.proofs.Flushes.{IsOf-becomes, IsSame-same_parts, LogStands-same_batch, MayFlush-step, WritesWhole-same_batch, seen-flushed, seen-newer, sent_to-flushed, tail-appended, tail-place_bounded}
 use Rattle.flusher.proofs.Keeps.{KeepsLog-same, KeepsLog-in_flight, KeepsLog-flushed}
 use Rattle.flusher.proofs.ReadUp.{Becomes-sent, HasRead-gathered}
 use mathlib.Core.Logic.{∥∥₁_map}
@@ -65,7 +65,7 @@ returns-then-eq g c =
       };
       ready = MayFlush-step g.D.LogDisk c.args.self.now c.requires.ready _ _ seat refl refl refl refl (seen-newer _ _) _;
       lost = tt;
-      same = IsSame-steps g.D.LogDisk c.args.self.now _ _ seat refl refl refl refl refl refl refl
+      same = IsSame-same_parts g.D.LogDisk c.args.self.now _ _ seat refl refl refl refl refl refl refl
           (λ honest. honest, λ honest. honest) refl (omega arith);
       cause = record { later = omega arith; fine = refl; failed = tt };
     }
@@ -91,12 +91,12 @@ returns-in_err-self g c =
         seat = read.becomes;
         batch = put.batch ∙ c.gather.ensures.batch;
         tail = refl;
-        writes = WritesWhole-append g.D.LogDisk c.args.self.now _ _ _ read.in_batch
+        writes = WritesWhole-same_batch g.D.LogDisk c.args.self.now _ _ _ read.in_batch
             record { moments = put.moments; count = put.count; grows = put.length };
         at_once = c.gather.ensures.at_once;
         lawful = read-lawfully _ _ _ c.gather.ensures.at_once read.role read.all;
       };
-      same = IsSame-steps g.D.LogDisk c.args.self.now _ _ read.becomes refl refl refl refl refl refl refl
+      same = IsSame-same_parts g.D.LogDisk c.args.self.now _ _ read.becomes refl refl refl refl refl refl refl
           put.honest put.attached put.later;
       cause = record { later = put.cause.later; fine = tt; failed = c.in_err-self.ensures.cause.failed };
     }
@@ -122,9 +122,9 @@ returns g c =
         seat = seat;
         batch = put.batch ∙ c.gather.ensures.batch;
         tail = tail-appended _ _ _ _ read.in_batch c.in_ok-self.ensures.place c.in_ok-self.ensures.next;
-        writes = WritesWhole-append g.D.LogDisk c.args.self.now _ _ _ read.in_batch
+        writes = WritesWhole-same_batch g.D.LogDisk c.args.self.now _ _ _ read.in_batch
             record { moments = put.moments; count = put.count; grows = put.length };
-        stands = λ honest. LogStands-append g.D.LogDisk c.args.self.now _ _ _ _ read.in_batch (c.in_ok-self.ensures.appended honest);
+        stands = λ honest. LogStands-same_batch g.D.LogDisk c.args.self.now _ _ _ _ read.in_batch (c.in_ok-self.ensures.appended honest);
         settled = λ honest. c.in_ok-self.ensures.settled honest;
         at_once = c.store_durable.ensures.at_once;
         lawful = sent-lawfully _ _ _ c.store_durable.ensures.at_once (ap (λ m. m.0.standing.role) seat.me ∙ c.requires.ready.flusher);
@@ -135,13 +135,13 @@ returns g c =
         unread = ap (λ m. m.0.sending.read) seat.me;
         seen = seen-flushed (view_of c.args.self.now.seat) _ _ _ (ap (λ m. m.0) seat.me) durable;
         next = c.in_ok-self.ensures.next ∙ omega (arith, durable, count, c.gather.ensures.whole);
-        place = tail-place _ _ _ c.in_ok-self.ensures.place c.in_ok-self.ensures.next (omega (arith, count, read.some))
+        place = tail-place_bounded _ _ _ c.in_ok-self.ensures.place c.in_ok-self.ensures.next (omega (arith, count, read.some))
             c.requires.ready.place;
         shut = λ honest. c.in_ok-self.ensures.shut (put.honest.1 honest);
         room = omega (arith, c.requires.ready.room, ap (λ batch. batch.room) (put.batch ∙ c.gather.ensures.batch));
       };
       lost = tt;
-      same = IsSame-steps g.D.LogDisk c.args.self.now _ _ seat refl refl refl refl refl refl refl
+      same = IsSame-same_parts g.D.LogDisk c.args.self.now _ _ seat refl refl refl refl refl refl refl
           put.honest put.attached put.later;
       cause = record { later = c.in_ok-self.ensures.cause.later; fine = c.in_ok-self.ensures.cause.fine; failed = tt };
     }

@@ -1,7 +1,7 @@
 use Rattle.std.proofs.Common.{◌≡◌, ◌∙◌, ◌-ℤ◌, pos, length, get_or, ap, sym, subst, arith, rules, w64, SFits, to_z, of_z}
 use Rattle.std.proofs.lemmas.Int.{to_z-of_z}
 use Rattle.ledger_view.specs.Rows.{entry_of_row}
-use Rattle.ledger_view.proofs.RowLemmas.{length-entries_of_rows, entry-at}
+use Rattle.ledger_view.proofs.RowLemmas.{length-entries_of_rows, entry_of_row-at}
 use Rattle.ledger_view.proofs.entries.Entries.at.Goals as goal
 
 pub at-row-requires : goal.at-row-requires
@@ -17,5 +17,5 @@ returns c = λ d.
     let before = c.balance_before.result in
     (λ i. record { end = c.at-row.result.end; txn = c.at-row.result.txn; net = (net ∙ c.net_between.ensures) i; balance = c.at-row.result.balance })
     ∙ subst (λ l. entry_of_row before c.at-row.result ≡ get_or l c.args.i d) c.self.view_is
-    (entry-at c.self.inside.first c.self.inside.rows c.args.i d c.at-row.result before (omega (arith, long, seen, c.requires)) c.at-row.ensures
+    (entry_of_row-at c.self.inside.first c.self.inside.rows c.args.i d c.at-row.result before (omega (arith, long, seen, c.requires)) c.at-row.ensures
     (subst (λ l. (get_or l c.args.i d).net ≡ pos (get_or l c.args.i d).balance -ℤ pos before) (sym c.self.view_is) (c.balance_before.ensures d)))

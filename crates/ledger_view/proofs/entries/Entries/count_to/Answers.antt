@@ -2,7 +2,7 @@ use Rattle.std.proofs.Common.{◌<◌, ◌≤◌, ℕ, length, get_or, ap, sym, 
 use Rattle.std.specs.List.Sorted.{IsNonDecreasingBy}
 use Rattle.ledger_view.specs.declared.entries.Entry.{Entry}
 use Rattle.ledger_view.proofs.MarkLemmas.{no_row}
-use Rattle.ledger_view.proofs.RowLemmas.{length-entries_of_rows, ends-at, rows-rise}
+use Rattle.ledger_view.proofs.RowLemmas.{length-entries_of_rows, entries_of_rows_end-at, rows-rise}
 use Rattle.ledger_view.proofs.entries.Entries.count_to.Goals as goal
 
 pub count_to-requires : goal.count_to-requires
@@ -17,7 +17,7 @@ returns-clause-bound c =
 pub returns-clause-below : goal.returns-clause-below
 returns-clause-below c = subst (λ l. (i : ℕ) (d : Entry) → i < c.count_to.result → (get_or l i d).end ≤ c.args.lsn) c.self.view_is
     (λ i d before.
-    let end = ends-at c.self.inside.first c.self.inside.rows i d no_row (omega (arith, before, c.count_to.ensures.bound)) in
+    let end = entries_of_rows_end-at c.self.inside.first c.self.inside.rows i d no_row (omega (arith, before, c.count_to.ensures.bound)) in
     let low = c.count_to.ensures.below i no_row before in
     omega (arith, end, low))
 
@@ -26,6 +26,6 @@ returns-clause-behind c = subst (λ l. (i : ℕ) (d : Entry) → c.count_to.resu
     (λ i d from inside.
     let long = length-entries_of_rows c.self.inside.first c.self.inside.rows in
     let within : i < length c.self.inside.rows = omega (arith, long, inside) in
-    let end = ends-at c.self.inside.first c.self.inside.rows i d no_row within in
+    let end = entries_of_rows_end-at c.self.inside.first c.self.inside.rows i d no_row within in
     let high = c.count_to.ensures.behind i no_row from within in
     omega (arith, end, high))

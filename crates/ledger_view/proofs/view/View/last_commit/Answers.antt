@@ -5,7 +5,7 @@ use Rattle.ledger_view.specs.declared.accounts.Account.{Account}
 use Rattle.ledger_view.specs.Entries.{EndsAt}
 use Rattle.ledger_view.specs.Marks.{IsEndIn}
 use Rattle.ledger_view.specs.ViewedAccounts.{account_at, HasViewed}
-use Rattle.ledger_view.proofs.EndLemmas.{end-viewed}
+use Rattle.ledger_view.proofs.EndLemmas.{is_end_in-ends_at}
 use Rattle.ledger_view.proofs.EntryLemmas.{add_up-rises}
 use Rattle.std.specs.List.Sorted.{IsNonDecreasingBy}
 use Rattle.ledger_view.specs.declared.entries.Entry.{Entry}
@@ -30,7 +30,7 @@ accounts-preserved c = elim c.last_end-last.ensures [
       × ((opening : Opening) (h : List Placed) → HasViewed opening c.args.self.now h → EndsAt h last))) (sym same) c.accounts.invariant
   | inr found ↦ inr (
     found.0,
-    λ opening h viewed. end-viewed opening c.args.self.now h c.accounts.account c.last_end-last.result viewed (inside c.before opening h viewed)
+    λ opening h viewed. is_end_in-ends_at opening c.args.self.now h c.accounts.account c.last_end-last.result viewed (inside c.before opening h viewed)
         (subst (λ (a : Account). IsEndIn a.entries c.last_end-last.result) c.at.ensures found.1),
   )
 ]

@@ -5,7 +5,7 @@ use Rattle.std.specs.Prelude.{List}
 use Rattle.lock_core.specs.Sums.{no_opening, ShowsAccounts}
 use Rattle.lock_core.specs.Lawful.{base_with}
 use Rattle.lock_core.proofs.OwnLemmas.{reverse-split}
-use Rattle.lock_core.proofs.JudgingLemmas.{shows-kept}
+use Rattle.lock_core.proofs.JudgingLemmas.{keeps_rows-shows_accounts}
 use Rattle.lock_core.proofs.plain.judging.plain_accounts.Goals as goal
 
 pub returns-in-Err-clause-fault : goal.returns-in-Err-clause-fault
@@ -23,4 +23,4 @@ pub returns-clause-accounts : goal.returns-clause-accounts
 returns-clause-accounts c =
     let whole : take c.entries.i c.args.entries.now ≡ c.args.entries.now = grind (arith, common_steps) in
     subst (λ (entries : List Placed). ShowsAccounts c.entries.accounts.rows (base_with no_opening (reverse entries)) (reverse entries)) whole
-    (shows-kept c.entries.accounts.rows (base_with no_opening (reverse (take c.entries.i c.args.entries.now))) (reverse (take c.entries.i c.args.entries.now)) c.entries.invariant.judged.rows)
+    (keeps_rows-shows_accounts c.entries.accounts.rows (base_with no_opening (reverse (take c.entries.i c.args.entries.now))) (reverse (take c.entries.i c.args.entries.now)) c.entries.invariant.judged.rows)

@@ -1,17 +1,17 @@
 use Rattle.std.proofs.Common.{◌∙◌, sym, refl, true≢false, subst, reverse}
 use Rattle.lock_core.specs.Sums.{no_opening}
 use Rattle.lock_core.specs.Judging.{IsCommitting}
-use Rattle.lock_core.proofs.KindLemmas.{updates-known, fails-stale, fails-balance, keeps-applied, passes-commit}
+use Rattle.lock_core.proofs.KindLemmas.{updates_of-accounts_have_rows, fails-stale, fails-balance, committing-applied_keeps_rows, passes-commit}
 use Rattle.lock_core.proofs.plain.kinds.admit_commit.Goals as goal
 
 pub are_current-requires : goal.are_current-requires
 are_current-requires c =
-    updates-known no_opening c.args.accounts.now.rows (reverse c.args.front.now) c.args.txn c.as_slice-changes.result.now c.requires.judged.lawful c.requires.judged.rows
+    updates_of-accounts_have_rows no_opening c.args.accounts.now.rows (reverse c.args.front.now) c.args.txn c.as_slice-changes.result.now c.requires.judged.lawful c.requires.judged.rows
     (c.as_slice-changes.ensures.value ∙ c.in-Ok.ensures.ok.are)
 
 pub apply_changes-requires-clause-known : goal.apply_changes-requires-clause-known
 apply_changes-requires-clause-known c =
-    updates-known no_opening c.args.accounts.now.rows (reverse c.args.front.now) c.args.txn c.as_slice-changes.result.now c.requires.judged.lawful c.requires.judged.rows
+    updates_of-accounts_have_rows no_opening c.args.accounts.now.rows (reverse c.args.front.now) c.args.txn c.as_slice-changes.result.now c.requires.judged.lawful c.requires.judged.rows
     (c.as_slice-changes.ensures.value ∙ c.in-Ok.ensures.ok.are)
 
 pub returns-then-not-are_current-clause-tests : goal.returns-then-not-are_current-clause-tests
@@ -36,7 +36,7 @@ pub returns-clause-kept : goal.returns-clause-kept
 returns-clause-kept c =
     let on = subst (IsCommitting no_opening (reverse c.args.front.now) c.args.txn c.args.legs) (sym c.as_slice-changes.ensures.value) c.in-Ok.ensures.ok in (
       c.if-not-apply_changes.ensures.room ∙ c.requires.judged.room,
-      keeps-applied no_opening c.args.accounts.now.rows (reverse c.args.front.now) c.args.txn c.args.legs c.args.end c.as_slice-changes.result.now
+      committing-applied_keeps_rows no_opening c.args.accounts.now.rows (reverse c.args.front.now) c.args.txn c.args.legs c.args.end c.as_slice-changes.result.now
           c.requires.judged.lawful c.requires.judged.rows on c.apply_changes.new.accounts.rows c.if-not-apply_changes.ensures.applied,
     )
 

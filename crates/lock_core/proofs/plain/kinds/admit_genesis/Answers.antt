@@ -7,7 +7,7 @@ use Rattle.log_record.specs.declared.rec.Rec.TheVariants.{Genesis}
 use Rattle.lock_core.specs.Sums.{no_opening}
 use Rattle.lock_core.specs.Lawful.{base_with, with_genesis}
 use Rattle.lock_core.specs.AccountRows.{KeepsRows}
-use Rattle.lock_core.proofs.KindLemmas.{genesis-accounts, passes-genesis, fails-genesis, keeps-genesis}
+use Rattle.lock_core.proofs.KindLemmas.{accounts_count-all_genesis, passes-genesis, fails-genesis, keeps_rows-first_genesis}
 use Rattle.lock_core.proofs.plain.kinds.admit_genesis.Goals as goal
 use Rattle.lock_core.proofs.plain.kinds.admit_genesis.Goals.{then-front-count-via-then-front-count, then-front-count-via-else-front-count+then-account-count}
 
@@ -28,7 +28,7 @@ returns-clause-tests c =
     let again = c.count-else-front-count.ensures in
     let turned = length-reverse c.args.front.now in
     λ end. passes-genesis no_opening (reverse c.args.front.now) end c.args.account c.args.balance
-    (genesis-accounts no_opening (reverse c.args.front.now) (omega arith)) refl (omega arith)
+    (accounts_count-all_genesis no_opening (reverse c.args.front.now) (omega arith)) refl (omega arith)
 
 pub returns-clause-kept : goal.returns-clause-kept
 returns-clause-kept c =
@@ -41,6 +41,6 @@ returns-clause-kept c =
       ap (λ (a : Accounts). a.room) c.push.ensures ∙ c.requires.judged.room,
       subst (λ (a : Accounts). KeepsRows a.rows (with_genesis (Genesis c.args.account c.args.balance) (base_with no_opening h)) (record { end = end; rec = Genesis c.args.account c.args.balance } ∷ h))
           (sym c.push.ensures)
-          (keeps-genesis no_opening c.args.accounts.now.rows h end c.args.account c.args.balance c.requires.judged.rows (genesis-accounts no_opening h (omega arith)) (omega arith)
+          (keeps_rows-first_genesis no_opening c.args.accounts.now.rows h end c.args.account c.args.balance c.requires.judged.rows (accounts_count-all_genesis no_opening h (omega arith)) (omega arith)
           c.requires.balance (λ a. refl)),
     )

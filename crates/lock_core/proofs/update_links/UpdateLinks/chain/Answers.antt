@@ -1,10 +1,10 @@
 use Rattle.std.proofs.Common.{◌<◌, sym, subst, arith}
-use Rattle.lock_core.proofs.ChainLemmas.{Collects, collects-inside, collects-more, collects-all}
+use Rattle.lock_core.proofs.ChainLemmas.{Collects, collects-inside_and_room, collects-more, collects_to_zero-has_chain}
 use Rattle.lock_core.proofs.update_links.UpdateLinks.chain.Goals as goal
 
 pub at-link-requires : goal.at-link-requires
 at-link-requires c =
-    let some : 0 < c.links.at = omega arith in (collects-inside c.args.self.now c.args.place c.links.changes.items c.links.at some c.links.invariant).0
+    let some : 0 < c.links.at = omega arith in (collects-inside_and_room c.args.self.now c.args.place c.links.changes.items c.links.at some c.links.invariant).0
 
 pub links-preserved : goal.links-preserved
 links-preserved c =
@@ -13,4 +13,4 @@ links-preserved c =
     (collects-more c.args.self.now c.args.place c.links.changes.items c.links.at c.at-link.result some c.at-link.ensures c.links.invariant)
 
 pub returns : goal.returns
-returns c = collects-all c.args.self.now c.args.place c.links.changes.items c.links.at (omega arith) c.links.invariant
+returns c = collects_to_zero-has_chain c.args.self.now c.args.place c.links.changes.items c.links.at (omega arith) c.links.invariant

@@ -2,7 +2,7 @@ use Rattle.std.proofs.Common.{◌≤◌, ◌+◌, subst, sym, ap, length, length
 use Rattle.std.proofs.lemmas.Result.{on_ok_weaker}
 use Rattle.log_disk.specs.Streams.{AppendsBut}
 use Rattle.log_disk.specs.declared.output_block.TheConstants.{BLOCK_BYTES}
-use Rattle.log_disk.proofs.Blocks.{AppendsBut-empty}
+use Rattle.log_disk.proofs.Blocks.{AppendsBut-nothing_waits}
 use Rattle.log_disk.proofs.output_block.OutputBlock.make_room.Goals as goal
 
 pub returns-clause-appends : goal.returns-clause-appends
@@ -11,7 +11,7 @@ returns-clause-appends g c =
     let held_new = g.K.Sink.held_bytes c.write_out.new.sink in
     record {
       all = on_ok_weaker c.write_out.result (λ written. subst (AppendsBut held held_new c.args.self.now) (sym c.write_out.ensures.empty)
-          (AppendsBut-empty _ _ _ written)) c.write_out.ensures.all;
+          (AppendsBut-nothing_waits _ _ _ written)) c.write_out.ensures.all;
       prefix = c.write_out.ensures.prefix;
       waits = λ fits. absurd (omega (
         arith,

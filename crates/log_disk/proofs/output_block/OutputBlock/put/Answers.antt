@@ -1,6 +1,6 @@
 use Rattle.std.proofs.Common.{◌++◌, refl, rules}
 use Rattle.std.proofs.lemmas.Result.{err_from_is_err_and}
-use Rattle.log_disk.proofs.Blocks.{AppendsPart-first}
+use Rattle.log_disk.proofs.Blocks.{AppendsPart-append}
 use Rattle.log_disk.proofs.output_block.OutputBlock.put.Goals as goal
 
 pub returns-in_err-make_room : goal.returns-in_err-make_room
@@ -10,7 +10,7 @@ returns-in_err-make_room g c =
     let room = c.in_err-make_room.ensures.appends in
     rw failed.1 record {
       all = tt;
-      prefix = AppendsPart-first _ _ (waiting ++ c.args.piece.now) waiting c.args.piece.now room.prefix refl;
+      prefix = AppendsPart-append _ _ (waiting ++ c.args.piece.now) waiting c.args.piece.now room.prefix refl;
       waits = search rules;
       cause = search rules;
     }

@@ -1,6 +1,6 @@
 use Rattle.std.proofs.Common.{rules, arith}
 use Rattle.log_rule.proofs.Allowing.{exchange_account-allowed}
-use Rattle.log_rule.proofs.AccountSteps.{FitsWord, account-takes, account-looks}
+use Rattle.log_rule.proofs.AccountSteps.{FitsWord, took_account-step, saw_account-step}
 use Rattle.log_table.proofs.steps.accounts.exchange_account_as.Goals as goal
 
 pub compare_exchange-found-requires : goal.compare_exchange-found-requires
@@ -19,7 +19,7 @@ returns-then-found-pack g c =
     let fits : FitsWord c.args.from = search rules in
     let fits_to : FitsWord c.args.to = search rules in record {
       ok = search rules steps 2000000;
-      ok_event = account-takes _ _ _ _ _ table.counted c.requires.account _ _ fits fits_to c.requires.next;
+      ok_event = took_account-step _ _ _ _ _ table.counted c.requires.account _ _ fits fits_to c.requires.next;
       err = tt;
       own = tt;
       err_event = tt;
@@ -31,5 +31,5 @@ returns-else-found-pack g c = record {
   ok_event = tt;
   err = search rules steps 2000000;
   own = search rules steps 2000000;
-  err_event = account-looks _ _ _ _ _;
+  err_event = saw_account-step _ _ _ _ _;
 }

@@ -1,6 +1,6 @@
 use Rattle.std.proofs.Common.{rules, arith}
 use Rattle.log_rule.proofs.Allowing.{load_account-allowed}
-use Rattle.log_rule.proofs.AccountSteps.{account-looks}
+use Rattle.log_rule.proofs.AccountSteps.{saw_account-step}
 use Rattle.log_table.proofs.steps.accounts.load_account_as.Goals as goal
 
 pub load-requires : goal.load-requires
@@ -11,4 +11,4 @@ load-requires g c = (
 )
 
 pub returns : goal.returns
-returns g c = record { view = search rules steps 2000000; own = search rules steps 2000000; event = account-looks _ _ _ _ _ }
+returns g c = record { view = search rules steps 2000000; own = search rules steps 2000000; event = saw_account-step _ _ _ _ _ }

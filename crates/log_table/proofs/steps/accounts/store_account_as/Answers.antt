@@ -3,7 +3,7 @@ use Rattle.log_rule.specs.AccountViews.{gave_account}
 use Rattle.log_table.specs.Seats.{view_of}
 use Rattle.log_rule.proofs.Allowing.{store_account-allowed}
 use Rattle.log_rule.proofs.AccountSteps.{FitsWord, give-step}
-use Rattle.log_table.proofs.Stepping.{becomes_as}
+use Rattle.log_table.proofs.Stepping.{MovesBase-becomes_called}
 use Rattle.log_table.proofs.steps.accounts.store_account_as.Goals as goal
 
 pub store-requires : goal.store-requires
@@ -18,6 +18,6 @@ store-requires g c =
 pub returns : goal.returns
 returns g c =
     let fits : FitsWord c.args.word = search rules in record {
-      view = becomes_as _ (ap (λ account. gave_account account (view_of c.args.seat.now)) c.requires.named) c.store.ensures;
+      view = MovesBase-becomes_called _ (ap (λ account. gave_account account (view_of c.args.seat.now)) c.requires.named) c.store.ensures;
       event = give-step _ _ _ _ _ fits c.requires.next;
     }

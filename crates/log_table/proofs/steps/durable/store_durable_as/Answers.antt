@@ -9,7 +9,7 @@ use Rattle.log_table.specs.Seats.{view_of, number_of, key_of}
 use Rattle.log_rule.specs.Views.{has_sent}
 use Rattle.log_rule.proofs.Allowing.{store_durable-allowed}
 use Rattle.log_rule.proofs.Flushing.{send-step}
-use Rattle.log_table.proofs.Stepping.{becomes_as, at_once-becomes}
+use Rattle.log_table.proofs.Stepping.{MovesBase-becomes_called, at_once-becomes}
 use Rattle.log_table.proofs.steps.durable.store_durable_as.Goals as goal
 
 pub store-requires : goal.store-requires
@@ -28,7 +28,7 @@ store-requires g c = (
 
 pub returns : goal.returns
 returns g c =
-    let sent = becomes_as _ (ap (λ n. has_sent n (view_of c.args.seat.now)) c.units.ensures) c.store.ensures in record {
+    let sent = MovesBase-becomes_called _ (ap (λ n. has_sent n (view_of c.args.seat.now)) c.units.ensures) c.store.ensures in record {
       changes = record { view = sent; event = send-step _ _ _ _ c.requires.next };
       at_once = at_once-becomes _ _ _ _ sent (subst (λ (who : Start × ℕ × ℕ). HoldsAtOnce who.0 who.1 (has_sent who.2 (view_of c.args.seat.now)))
           (λ i. (c.requires.named.0 i, c.requires.named.1 i, c.units.ensures i)) c.store.ensures.2.1);

@@ -6,8 +6,8 @@ use Rattle.log_rule.specs.Moments.{HoldsAtOnce}
 use Rattle.log_rule.specs.Sound.{Ruled}
 use Rattle.log_table.specs.Seats.{view_of, number_of, key_of}
 use Rattle.log_rule.proofs.Allowing.{look-allowed}
-use Rattle.log_rule.proofs.Stopping.{stop-stays}
-use Rattle.log_table.proofs.Stepping.{becomes, at_once-becomes}
+use Rattle.log_rule.proofs.Stopping.{stop_unchanged-step}
+use Rattle.log_table.proofs.Stepping.{MovesBase-becomes, at_once-becomes}
 use Rattle.log_table.proofs.steps.look.look_as.Goals as goal
 
 pub load-requires : goal.load-requires
@@ -23,8 +23,8 @@ load-requires g c = (
 )
 
 pub returns : goal.returns
-returns g c = let looked = becomes c.load.ensures in record {
-  changes = record { view = looked; event = stop-stays _ _ _ };
+returns g c = let looked = MovesBase-becomes c.load.ensures in record {
+  changes = record { view = looked; event = stop_unchanged-step _ _ _ };
   at_once = at_once-becomes _ _ _ _ looked (subst (λ (who : Start × ℕ). HoldsAtOnce who.0 who.1 (view_of c.args.seat.now))
       (λ i. (c.requires.named.0 i, c.requires.named.1 i)) c.load.ensures.2.1);
 }

@@ -2,18 +2,18 @@ use Rattle.std.proofs.Common.{arith, ℕ, length, ◌∙◌, sym, subst}
 use Rattle.std.specs.Slots.{slots_items}
 use Rattle.log_rule.specs.ClosedLog.{IsGathered, ReadsRows, in_use}
 use Rattle.log_table.specs.Seats.{view_of, key_of}
-use Rattle.log_rule.proofs.Gathering.{IsClosed, closes}
+use Rattle.log_rule.proofs.Gathering.{IsClosed, may_close-closed}
 use Rattle.log_table.proofs.table.LogTable.close.Goals as goal
 
 pub overflow_cast-exposed : goal.overflow_cast-exposed
 overflow_cast-exposed c = let is : IsClosed _ _ c.word-tail.result c.word-exposed.result (view_of c.args.seat) =
-    closes _ _ _ _ _ _ _ c.close_with-closed.ensures.values.2 c.requires.may c.word-tail.ensures c.word-exposed.ensures in
+    may_close-closed _ _ _ _ _ _ _ c.close_with-closed.ensures.values.2 c.requires.may c.word-tail.ensures c.word-exposed.ensures in
     omega (arith, is.small, is.released)
 
 -- what the closed table tells of its words
 closed : (c : goal.After-new-2)
     → IsClosed (key_of c.args.self) (slots_items c.close_with-closed.result.words) c.word-tail.result c.word-exposed.result (view_of c.args.seat)
-closed c = closes _ _ _ _ _ _ _ c.close_with-closed.ensures.values.2 c.requires.may c.word-tail.ensures c.word-exposed.ensures
+closed c = may_close-closed _ _ _ _ _ _ _ c.close_with-closed.ensures.values.2 c.requires.may c.word-tail.ensures c.word-exposed.ensures
 
 pub returns-clause-gathered : goal.returns-clause-gathered
 returns-clause-gathered c = subst (λ n. IsGathered n (view_of c.args.seat)) (sym c.new.ensures) (closed c).gathered

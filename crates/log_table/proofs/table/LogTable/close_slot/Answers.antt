@@ -5,7 +5,7 @@ use Rattle.log_table.specs.Seats.{view_of, number_of, key_of}
 use Rattle.log_rule.specs.SlotViews.{closed_slot, IsGatheringWord}
 use Rattle.log_rule.proofs.SlotAllowing.{close_slot-allowed}
 use Rattle.log_rule.proofs.SlotClosing.{close-step}
-use Rattle.log_table.proofs.Stepping.{becomes_as, word-of_state}
+use Rattle.log_table.proofs.Stepping.{MovesBase-becomes_called, word-of_state}
 use Rattle.log_table.proofs.table.LogTable.close_slot.Goals as goal
 
 pub swap-word-requires : goal.swap-word-requires
@@ -26,7 +26,7 @@ found : (c : goal.After-unpack) → c.swap-word.result ≡ word_of c.unpack.resu
 found c = let state = c.unpack.ensures in word-of_state _ c.unpack.result c.swap-word.type_inv state.phase state.total state.remaining
 
 pub returns-clause-view : goal.returns-clause-view
-returns-clause-view c = becomes_as _ (ap (λ word. closed_slot word (view_of c.args.seat.now)) (found c)) c.swap-word.ensures
+returns-clause-view c = MovesBase-becomes_called _ (ap (λ word. closed_slot word (view_of c.args.seat.now)) (found c)) c.swap-word.ensures
 
 pub returns-clause-gathers : goal.returns-clause-gathers
 returns-clause-gathers c = subst (IsGatheringWord ((view_of c.args.seat.now).constants.ring / 4)) (found c) c.swap-word.ensures.2.1

@@ -5,7 +5,7 @@ use Rattle.log_table.specs.Seats.{view_of, number_of, key_of}
 use Rattle.log_rule.specs.SlotViews.{own_slot_of, joined_slot, lost_join}
 use Rattle.log_rule.proofs.SlotAllowing.{join_slot-allowed}
 use Rattle.log_rule.proofs.SlotJoining.{join-won}
-use Rattle.log_rule.proofs.SlotLooks.{slot-looks_as}
+use Rattle.log_rule.proofs.SlotLooks.{saw_slot_contended-step}
 use Rattle.log_table.proofs.table.LogTable.join_slot.Goals as goal
 
 pub compare_exchange-found-requires : goal.compare_exchange-found-requires
@@ -64,4 +64,4 @@ returns-else-found-free-clause-err c =
     )
 
 pub returns-else-found-free-clause-err_event : goal.returns-else-found-free-clause-err_event
-returns-else-found-free-clause-err_event c = slot-looks_as _ _ _ _ _ _
+returns-else-found-free-clause-err_event c = saw_slot_contended-step _ _ _ _ _ _

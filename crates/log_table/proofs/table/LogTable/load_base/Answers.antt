@@ -2,7 +2,7 @@ use Rattle.std.proofs.Common.{arith}
 use Rattle.log_table.specs.Seats.{number_of, key_of}
 use Rattle.log_rule.proofs.SlotAllowing.{load_base-allowed}
 use Rattle.log_rule.proofs.SlotHearing.{hear-step}
-use Rattle.log_table.proofs.Stepping.{becomes}
+use Rattle.log_table.proofs.Stepping.{MovesBase-becomes}
 use Rattle.log_table.proofs.table.LogTable.load_base.Goals as goal
 
 pub load-requires : goal.load-requires
@@ -17,7 +17,7 @@ pub returns-clause-event : goal.returns-clause-event
 returns-clause-event c = hear-step _ _ _ _ _ c.args.self.now.slotted c.requires.slot c.requires.next _
 
 pub returns-clause-view : goal.returns-clause-view
-returns-clause-view c = becomes c.load.ensures
+returns-clause-view c = MovesBase-becomes c.load.ensures
 
 pub returns-clause-tells : goal.returns-clause-tells
 returns-clause-tells c = c.load.ensures.2.1

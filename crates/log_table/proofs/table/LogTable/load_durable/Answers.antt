@@ -1,10 +1,10 @@
 use Rattle.std.proofs.Common.{arith}
 use Rattle.log_rule.proofs.Allowing.{load_durable-allowed}
-use Rattle.log_rule.proofs.Loads.{durable-looks}
+use Rattle.log_rule.proofs.Loads.{saw_durable-step}
 use Rattle.log_table.proofs.table.LogTable.load_durable.Goals as goal
 
 pub load-requires : goal.load-requires
 load-requires c = (c.requires.table_is, omega (arith, c.args.self.now.sized), load_durable-allowed _ _ _ _)
 
 pub returns-clause-event : goal.returns-clause-event
-returns-clause-event c = durable-looks _ _ _ _
+returns-clause-event c = saw_durable-step _ _ _ _

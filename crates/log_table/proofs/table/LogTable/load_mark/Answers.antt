@@ -3,7 +3,7 @@ use Rattle.log_rule.specs.MarkViews.{saw_mark}
 use Rattle.log_table.specs.Seats.{view_of, number_of, key_of}
 use Rattle.log_rule.proofs.Allowing.{load_mark-allowed}
 use Rattle.log_rule.proofs.Exposing.{look-step}
-use Rattle.log_table.proofs.Stepping.{becomes_as}
+use Rattle.log_table.proofs.Stepping.{MovesBase-becomes_called}
 use Rattle.log_table.proofs.table.LogTable.load_mark.Goals as goal
 
 pub load-requires : goal.load-requires
@@ -17,4 +17,4 @@ load-requires c =
     )
 
 pub returns : goal.returns
-returns c = record { view = becomes_as _ (ap (λ n. saw_mark n (view_of c.args.seat.now)) (sym c.new.ensures)) c.load.ensures; event = look-step _ _ _ _ _ c.args.self.now.keyed c.requires.next _ }
+returns c = record { view = MovesBase-becomes_called _ (ap (λ n. saw_mark n (view_of c.args.seat.now)) (sym c.new.ensures)) c.load.ensures; event = look-step _ _ _ _ _ c.args.self.now.keyed c.requires.next _ }

@@ -1,7 +1,7 @@
 use Rattle.std.proofs.Common.{arith}
 use Rattle.log_rule.proofs.Allowing.{load_stop-allowed}
-use Rattle.log_rule.proofs.Loads.{stop-looks}
-use Rattle.log_table.proofs.Stepping.{becomes}
+use Rattle.log_rule.proofs.Loads.{saw_stop-step}
+use Rattle.log_table.proofs.Stepping.{MovesBase-becomes}
 use Rattle.log_table.proofs.table.LogTable.load_stop.Goals as goal
 
 pub load-requires : goal.load-requires
@@ -9,6 +9,6 @@ load-requires c = (c.requires.table_is, omega (arith, c.args.self.now.sized), lo
 
 pub returns : goal.returns
 returns c = record {
-  loads = record { view = becomes c.load.ensures; event = stop-looks _ _ _ _ };
+  loads = record { view = MovesBase-becomes c.load.ensures; event = saw_stop-step _ _ _ _ };
   stays = c.load.ensures.2.1;
 }

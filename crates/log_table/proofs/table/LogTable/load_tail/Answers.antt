@@ -1,10 +1,10 @@
 use Rattle.std.proofs.Common.{arith}
 use Rattle.log_rule.proofs.Allowing.{load_tail-allowed}
-use Rattle.log_rule.proofs.Loads.{tail-looks}
+use Rattle.log_rule.proofs.Loads.{saw_tail-step}
 use Rattle.log_table.proofs.table.LogTable.load_tail.Goals as goal
 
 pub load-requires : goal.load-requires
 load-requires c = (c.requires.table_is, omega (arith, c.args.self.now.sized), load_tail-allowed _ _ _ _)
 
 pub returns-clause-event : goal.returns-clause-event
-returns-clause-event c = tail-looks _ _ _ _
+returns-clause-event c = saw_tail-step _ _ _ _

@@ -3,7 +3,7 @@ use Rattle.slot_word.specs.SlotWord.{word_of}
 use Rattle.log_table.specs.Seats.{view_of, number_of, key_of}
 use Rattle.log_rule.specs.SlotViews.{released_piece, HasToRelease}
 use Rattle.log_rule.proofs.SlotReleased.{release_slot-allowed, release-step, less-minus}
-use Rattle.log_table.proofs.Stepping.{becomes_as, word-of_state}
+use Rattle.log_table.proofs.Stepping.{MovesBase-becomes_called, word-of_state}
 use Rattle.log_table.proofs.table.LogTable.release_slot.Goals as goal
 
 pub fetch_sub-word-requires : goal.fetch_sub-word-requires
@@ -22,7 +22,7 @@ found : (c : goal.After-unpack) → c.fetch_sub-word.result ≡ word_of c.unpack
 found c = let state = c.unpack.ensures in word-of_state _ c.unpack.result c.fetch_sub-word.type_inv state.phase state.total state.remaining
 
 pub returns-clause-view : goal.returns-clause-view
-returns-clause-view c = becomes_as _ (ap (λ word. released_piece word (view_of c.args.seat.now)) (found c)) c.fetch_sub-word.ensures
+returns-clause-view c = MovesBase-becomes_called _ (ap (λ word. released_piece word (view_of c.args.seat.now)) (found c)) c.fetch_sub-word.ensures
 
 pub returns-clause-told : goal.returns-clause-told
 returns-clause-told c = subst (HasToRelease ((view_of c.args.seat.now).constants.ring / 4) c.args.n (view_of c.args.seat.now).call) (found c) c.fetch_sub-word.ensures.2.1

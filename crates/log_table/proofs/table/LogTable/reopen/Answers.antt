@@ -2,7 +2,7 @@ use Rattle.std.proofs.Common.{arith}
 use Rattle.log_table.specs.Seats.{number_of, key_of}
 use Rattle.log_rule.proofs.SlotAllowing.{reopen-allowed}
 use Rattle.log_rule.proofs.SlotReopening.{reopen-step}
-use Rattle.log_table.proofs.Stepping.{becomes}
+use Rattle.log_table.proofs.Stepping.{MovesBase-becomes}
 use Rattle.log_table.proofs.table.LogTable.reopen.Goals as goal
 
 pub store-requires : goal.store-requires
@@ -14,4 +14,4 @@ store-requires c = (
 )
 
 pub returns : goal.returns
-returns c = record { view = becomes c.store.ensures; event = reopen-step _ _ _ _ _ c.args.self.now.slotted c.requires.slot c.requires.next }
+returns c = record { view = MovesBase-becomes c.store.ensures; event = reopen-step _ _ _ _ _ c.args.self.now.slotted c.requires.slot c.requires.next }

@@ -2,7 +2,7 @@ use Rattle.std.proofs.Common.{arith}
 use Rattle.log_table.specs.Seats.{number_of, key_of}
 use Rattle.log_rule.proofs.SlotAllowing.{store_base-allowed}
 use Rattle.log_rule.proofs.SlotStoring.{granted-step, refused-step}
-use Rattle.log_table.proofs.Stepping.{becomes}
+use Rattle.log_table.proofs.Stepping.{MovesBase-becomes}
 use Rattle.log_table.proofs.table.LogTable.store_base.Goals as goal
 
 pub store-requires : goal.store-requires
@@ -14,7 +14,7 @@ store-requires c = (
 )
 
 pub returns-clause-view : goal.returns-clause-view
-returns-clause-view c = becomes c.store.ensures
+returns-clause-view c = MovesBase-becomes c.store.ensures
 
 pub returns-clause-granted : goal.returns-clause-granted
 returns-clause-granted c = granted-step _ _ _ _ _ _ c.args.self.now.slotted c.requires.slot

@@ -3,7 +3,7 @@ use Rattle.log_rule.specs.May.{MayMark}
 use Rattle.log_table.specs.Seats.{view_of, number_of, key_of}
 use Rattle.log_rule.proofs.Allowing.{store_mark-allowed}
 use Rattle.log_rule.proofs.GroupMarking.{mark-step}
-use Rattle.log_table.proofs.Stepping.{becomes}
+use Rattle.log_table.proofs.Stepping.{MovesBase-becomes}
 use Rattle.log_table.proofs.table.LogTable.store_mark.Goals as goal
 
 pub store-requires : goal.store-requires
@@ -18,4 +18,4 @@ store-requires c =
     )
 
 pub returns : goal.returns
-returns c = record { view = becomes c.store.ensures; event = mark-step _ _ _ _ _ _ c.args.self.now.keyed c.requires.next }
+returns c = record { view = MovesBase-becomes c.store.ensures; event = mark-step _ _ _ _ _ _ c.args.self.now.keyed c.requires.next }

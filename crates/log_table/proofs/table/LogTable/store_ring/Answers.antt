@@ -6,7 +6,7 @@ use Rattle.log_rule.specs.Sound.{Ruled}
 use Rattle.log_rule.specs.Views.{filled}
 use Rattle.log_rule.proofs.Allowing.{store_ring-allowed}
 use Rattle.log_rule.proofs.PieceFilling.{fill-step}
-use Rattle.log_table.proofs.Stepping.{becomes}
+use Rattle.log_table.proofs.Stepping.{MovesBase-becomes}
 use Rattle.log_table.proofs.table.LogTable.store_ring.Goals as goal
 
 pub store-requires : goal.store-requires
@@ -25,4 +25,4 @@ store-requires c =
     )
 
 pub returns : goal.returns
-returns c = record { view = becomes c.store.ensures; event = fill-step _ _ _ _ _ _ _ c.args.self.now.keyed c.args.self.now.slotted c.requires.next }
+returns c = record { view = MovesBase-becomes c.store.ensures; event = fill-step _ _ _ _ _ _ _ c.args.self.now.keyed c.args.self.now.slotted c.requires.next }

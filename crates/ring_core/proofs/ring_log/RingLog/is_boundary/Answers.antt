@@ -4,7 +4,7 @@ use Rattle.lsn_space.specs.Tiling.{IsTilingBoundary}
 use Rattle.lsn_space.proofs.TilingLemmas.{boundary-from}
 use Rattle.ring_core.specs.RingLog.{size_of}
 use Rattle.ring_core.specs.Rows.{is_end}
-use Rattle.ring_core.proofs.LookupLemmas.{boundary-end_from, boundary-end_to}
+use Rattle.ring_core.proofs.LookupLemmas.{is_end-boundary, boundary-is_end}
 use Rattle.ring_core.proofs.ring_log.RingLog.is_boundary.Goals as goal
 
 pub returns-then-place-self : goal.returns-then-place-self
@@ -18,6 +18,6 @@ returns-else-place-self c =
     let tiles = c.self.invariant.tiles in
     let any = c.ends_at.ensures ∙ ap (list_any (is_end c.args.place)) c.deref.ensures.value in
     rw (← c.self.view_is) (
-      (λ ends. boundary-end_from _ _ _ _ tiles (sym any ∙ ends)),
-      (λ boundary. any ∙ boundary-end_to _ _ _ _ tiles boundary c.if-place-self.false),
+      (λ ends. is_end-boundary _ _ _ _ tiles (sym any ∙ ends)),
+      (λ boundary. any ∙ boundary-is_end _ _ _ _ tiles boundary c.if-place-self.false),
     )

@@ -1,7 +1,7 @@
 use Rattle.std.proofs.Common.{sym, ◌∙◌}
-use Rattle.slot_core.proofs.RunLemmas.{tell-keeps}
+use Rattle.slot_core.proofs.RunLemmas.{after_tell-sound}
 use Rattle.slot_core.proofs.run.SlotRun.tell.Goals as goal
 
 pub lead-requires-clause-sound : goal.lead-requires-clause-sound
-lead-requires-clause-sound c = tell-keeps c.args.self.now c.args.by c.in-Some.member c.membership.ensures.sound
+lead-requires-clause-sound c = after_tell-sound c.args.self.now c.args.by c.in-Some.member c.membership.ensures.sound
     (sym c.membership.ensures.member ∙ c.in-Some.is) c.in-Tells.is

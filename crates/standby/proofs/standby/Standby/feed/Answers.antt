@@ -1,7 +1,7 @@
 use Rattle.std.proofs.Common.{◌≡◌, ◌∙◌, ◌++◌, [], sym}
 use Rattle.std.proofs.lemmas.Bool.{eqb-true}
 use Rattle.std.proofs.lemmas.List.{nil_from_length}
-use Rattle.standby.proofs.FollowedParts.{passed-more, passed-stops, passed-all, images-follows, images-stops}
+use Rattle.standby.proofs.FollowedParts.{passed-more, passed-stops, passed_all-follows, follows-leaves_followed, stops-leaves_followed}
 use Rattle.standby.proofs.standby.Standby.feed.Goals as goal
 
 pub take_part-requires-clause-ready : goal.take_part-requires-clause-ready
@@ -24,13 +24,13 @@ returns-in-Err-clause-stops g c =
 
 pub returns-in-Err-clause-images : goal.returns-in-Err-clause-images
 returns-in-Err-clause-images g c = λ base fed follows.
-    images-stops g.D.LogDisk base (fed ++ c.args.bytes.now) c.in-Err.fault c.take_part.new.self.disk.now
+    stops-leaves_followed g.D.LogDisk base (fed ++ c.args.bytes.now) c.in-Err.fault c.take_part.new.self.disk.now
     (returns-in-Err-clause-stops g c base fed follows)
 
 pub returns-clause-follows : goal.returns-clause-follows
 returns-clause-follows g c =
     let none : c.parts.rest.now ≡ [] = nil_from_length c.parts.rest.now (eqb-true _ _ (sym c.is_empty.ensures ∙ c.parts-test.false)) in
-    passed-all g.D.LogDisk c.args.self.now c.parts.self c.args.bytes.now c.parts.rest.now c.parts.invariant.passed none
+    passed_all-follows g.D.LogDisk c.args.self.now c.parts.self c.args.bytes.now c.parts.rest.now c.parts.invariant.passed none
 
 pub returns-clause-ended : goal.returns-clause-ended
 returns-clause-ended g c = λ base fed follows.
@@ -38,4 +38,4 @@ returns-clause-ended g c = λ base fed follows.
 
 pub returns-clause-images : goal.returns-clause-images
 returns-clause-images g c = λ base fed follows.
-    images-follows g.D.LogDisk base (fed ++ c.args.bytes.now) c.parts.self (returns-clause-follows g c base fed follows)
+    follows-leaves_followed g.D.LogDisk base (fed ++ c.args.bytes.now) c.parts.self (returns-clause-follows g c base fed follows)

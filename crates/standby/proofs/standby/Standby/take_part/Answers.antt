@@ -3,7 +3,7 @@ use Rattle.std.proofs.lemmas.List.{take-append-drop}
 use Rattle.stream_reader.specs.Advance.{Advances}
 use Rattle.standby.specs.declared.fault.StandbyFault.TheVariants.{Gap}
 use Rattle.standby.specs.Following.{Stops}
-use Rattle.standby.proofs.FollowedParts.{follows-more, follows-head, follows-end, follows-frame, stops-bad, stops-gap, stops-longer}
+use Rattle.standby.proofs.FollowedParts.{follows-more, follows-head, follows-end, follows-has_frame, stops-bad, stops-gap, stops-longer}
 use Rattle.standby.proofs.standby.Standby.take_part.Goals as goal
 
 pub returns-in-Err-clause-stops : goal.returns-in-Err-clause-stops
@@ -22,7 +22,7 @@ apply-requires g c =
         longer,
         adds.frames,
         adds.records,
-        follows-frame g.D.LogDisk r.0 r.1 c.args.self.now r.2 c.take.new.self longer adds,
+        follows-has_frame g.D.LogDisk r.0 r.1 c.args.self.now r.2 c.take.new.self longer adds,
       );
     }
 
@@ -32,7 +32,7 @@ returns-in-Err-apply-clause-stops g c = λ base fed follows.
     let longer : List ℕ = fed ++ take c.in-Ok.taken.0 bytes in
     let adds = subst (λ p. Advances p follows.came c.take.new.self longer) c.in-Frame.is
     (c.in-Ok.ensures.part fed follows.came follows.read) in
-    let frame = follows-frame g.D.LogDisk base fed c.args.self.now follows c.take.new.self longer adds in
+    let frame = follows-has_frame g.D.LogDisk base fed c.args.self.now follows c.take.new.self longer adds in
     subst (λ b. Stops g.D.LogDisk base b c.in-Err-apply.fault c.apply.new.self.disk.now)
     (append_assoc fed (take c.in-Ok.taken.0 bytes) (drop c.in-Ok.taken.0 bytes)
     ∙ ap (λ b. fed ++ b) (take-append-drop c.in-Ok.taken.0 bytes))

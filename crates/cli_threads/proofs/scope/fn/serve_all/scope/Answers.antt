@@ -1,5 +1,5 @@
 use Rattle.std.proofs.Common.{rules, ◌∙◌}
-use Rattle.commit_pipeline.proofs.RanLemmas.{Later-same, Later-trans}
+use Rattle.commit_pipeline.proofs.RanLemmas.{Later-same_daemon, Later-trans}
 use Rattle.cli_threads.proofs.scope.fn.serve_all.scope.Goals as goal
 
 pub start_all-started-requires-clause-hands : goal.start_all-started-requires-clause-hands
@@ -16,7 +16,7 @@ returns g c =
         count = c.join_all-workers.ensures.count ∙ c.start_all-started.ensures.count;
         drained = c.drain-2.ensures.drained;
         later = all;
-        same = Later-same g.D.LogDisk g.K.Sink _ _ all;
+        same = Later-same_daemon g.D.LogDisk g.K.Sink _ _ all;
       };
       relief = search rules;
     }
