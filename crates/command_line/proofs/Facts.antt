@@ -111,10 +111,10 @@ module _ {B : Type 0} (name_of : B → Text) (rows_of : B → List Row) where
   both b = (name_of b, rows_of b)
 
   -- what a parse tells of the subcommand that it entered
-  pub option_map_both-named : (sub : Option B) (name : Text) (rows : List Row) → Some name ≡ option_map name_of sub
+  pub name_and_rows-option_map_both : (sub : Option B) (name : Text) (rows : List Row) → Some name ≡ option_map name_of sub
       → Some rows ≡ option_map (λ (p : Text × List Row). p.1) (option_map both sub) → option_map both sub ≡ Some (name, rows)
-  option_map_both-named None name rows is_name is_rows = cc
-  option_map_both-named (Some b) name rows is_name is_rows = cc
+  name_and_rows-option_map_both None name rows is_name is_rows = cc
+  name_and_rows-option_map_both (Some b) name rows is_name is_rows = cc
 
   pub option_map_both-none : (sub : Option B) → false ≡ is_some sub → is_some (option_map both sub) ≡ false
   option_map_both-none None none = refl

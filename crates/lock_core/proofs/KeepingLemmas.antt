@@ -31,9 +31,9 @@ keeps_transactions-none txns updates values = record {
 }
 
 -- a record that neither changes an account nor ends its transaction
-pub keeps_transactions-first_idle : (txns : Transactions) (entry : Placed) (h : List Placed) → changes_of entry.rec ≡ [] → ends entry.rec ≡ false → KeepsTransactions txns h
+pub first_idle-keeps_transactions : (txns : Transactions) (entry : Placed) (h : List Placed) → changes_of entry.rec ≡ [] → ends entry.rec ≡ false → KeepsTransactions txns h
     → KeepsTransactions txns (entry ∷ h)
-keeps_transactions-first_idle txns entry h empty off kept = record { some = kept.some; first = kept.first; each = each }
+first_idle-keeps_transactions txns entry h empty off kept = record { some = kept.some; first = kept.first; each = each }
   where
     more : (place : ℕ) (records : List Rec) → KeepsRecords txns.updates place records → KeepsRecords txns.updates place (entry.rec ∷ records)
     more place records keeps = record {
@@ -50,10 +50,10 @@ keeps_transactions-first_idle txns entry h empty off kept = record { some = kept
         (λ other. subst (KeepsRecords txns.updates (value_at txns.newest txn)) (sym (own_records_of-other txn entry h other)) (kept.each txn))
 
 -- an end record
-pub keeps_transactions-first_end : (newest newer : TxnTable) (updates : List UpdateLink) (txn : ℕ) (entry : Placed) (h : List Placed) → PutsValue newest newer txn ENDED
+pub first_end-keeps_transactions : (newest newer : TxnTable) (updates : List UpdateLink) (txn : ℕ) (entry : Placed) (h : List Placed) → PutsValue newest newer txn ENDED
     → txn_of entry.rec ≡ txn → ends entry.rec ≡ true → KeepsTransactions (record { newest = newest; updates = updates }) h
     → KeepsTransactions (record { newest = newer; updates = updates }) (entry ∷ h)
-keeps_transactions-first_end newest newer updates txn entry h puts own on kept = record { some = kept.some; first = kept.first; each = each }
+first_end-keeps_transactions newest newer updates txn entry h puts own on kept = record { some = kept.some; first = kept.first; each = each }
   where
     each : (other : ℕ) → KeepsRecords updates (value_at newer other) (own_records_of other (entry ∷ h))
     each other = dite (ℕ_discrete txn other)
@@ -64,13 +64,13 @@ keeps_transactions-first_end newest newer updates txn entry h puts own on kept =
         (subst (λ value. KeepsRecords updates value (own_records_of other h)) (sym (puts other ∙ ap (λ b. cond b ENDED (value_at newest other)) (ne_eqb txn other apart))) (kept.each other)))
 
 -- an Update
-pub keeps_transactions-first_update : (newest newer : TxnTable) (updates longer : List UpdateLink) (txn place end : ℕ) (link : UpdateLink) (h : List Placed)
+pub first_update-keeps_transactions : (newest newer : TxnTable) (updates longer : List UpdateLink) (txn place end : ℕ) (link : UpdateLink) (h : List Placed)
     → longer ≡ updates ++ link ∷ [] → place ≡ length updates → place < ENDED → PutsValue newest newer txn place
     → IsOpenAt updates link.older (own_records_of txn h) → link.count ≡ length (updates_of txn h) + 1
     → KeepsTransactions (record { newest = newest; updates = updates }) h
     → KeepsTransactions (record { newest = newer; updates = longer })
     (record { end = end; rec = Update txn link.change.account link.change.delta link.change.prev } ∷ h)
-keeps_transactions-first_update newest newer updates longer txn place end link h pushed at fits puts open' count kept = record {
+first_update-keeps_transactions newest newer updates longer txn place end link h pushed at fits puts open' count kept = record {
   some = let parts = ap length pushed ∙ length-append updates (link ∷ []) in omega arith;
   first = ap (λ links. link_at links 0) pushed ∙ get_or_append_left updates (link ∷ []) no_link 0 kept.some ∙ kept.first;
   each = each;

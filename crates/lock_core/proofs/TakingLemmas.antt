@@ -27,7 +27,7 @@ use Rattle.lock_core.specs.Judging.{IsCommitting}
 use Rattle.lock_core.specs.KeptLedger.{IsEndFault, KeepsTransactions, KeepsLedger}
 use Rattle.lock_core.proofs.KindLemmas.{all_genesis-accounts_count, base_with-accounts_le, keeps_rows-first_genesis, passes-genesis, fails-stale, fails-balance, committing-applied_keeps_rows, passes-commit}
 use Rattle.lock_core.proofs.JudgingLemmas.{judged-first_same_accounts}
-use Rattle.lock_core.proofs.KeepingLemmas.{keeps_transactions-first_idle}
+use Rattle.lock_core.proofs.KeepingLemmas.{first_idle-keeps_transactions}
 
 -- a fault of an end: want of memory, or the test of the end
 pub end_fault-no_memory_or_ended : {X : Type 0} (F : JudgeFault → Type 0) (f : JudgeFault) → IsEndFault X f → F fault.NoMemory → (X → F (fault.Why why.Ended)) → F f
@@ -149,7 +149,7 @@ module _ (opening : Opening) where
                   (keeps_rows-first_genesis opening ledger.accounts.rows h end account balance kept.judged.rows all (omega arith) range (kept.blank first));
             };
             begins = ((λ is. (first, (tt, all))), (λ both. on));
-            transactions = keeps_transactions-first_idle ledger.txns genesis h refl refl kept.transactions;
+            transactions = first_idle-keeps_transactions ledger.txns genesis h refl refl kept.transactions;
             least = kept.least;
             blank = kept.blank;
           }
@@ -259,7 +259,7 @@ module _ (opening : Opening) where
       judged = judged-first_same_accounts opening ledger.accounts h end note.rec (λ never. never) refl kept.judged
           (some, (tt, (unended-passes_ended txn above unended, (tt, (tt, (tt, (tt, ((λ on. absurd (true≢false (sym on))), tt))))))));
       begins = not_genesis-not_start note (λ never. never);
-      transactions = keeps_transactions-first_idle ledger.txns note h refl refl kept.transactions;
+      transactions = first_idle-keeps_transactions ledger.txns note h refl refl kept.transactions;
       least = kept.least;
       blank = kept.blank;
     }

@@ -139,15 +139,15 @@ unreleased_in-mid_replaced base size [] rs p p' = omega arith
 unreleased_in-mid_replaced base size (l ∷ ls) rs p p' = omega (arith, unreleased_in-mid_replaced base size ls rs p p')
 
 -- parts that lie elsewhere
-pub unreleased_in-apart : (from to base size : ℕ) (parts : List Part) → Laid from parts to → (to ≤ base) ⊎ (base + size ≤ from)
+pub unreleased_in-none_outside : (from to base size : ℕ) (parts : List Part) → Laid from parts to → (to ≤ base) ⊎ (base + size ≤ from)
     → unreleased_in base size parts ≡ 0
-unreleased_in-apart from to base size [] l h = refl
-unreleased_in-apart from to base size (p ∷ ps) l h =
+unreleased_in-none_outside from to base size [] l h = refl
+unreleased_in-none_outside from to base size (p ∷ ps) l h =
     let end = laid-le (from + p.entry.size) to ps l.2 in
     let none : inside base size p.entry ≡ 0 =
     inside-starting_elsewhere base size p.entry (⊎_elim (λ low. inl (omega (arith, l.0, l.1, end, low))) (λ high. inr (omega (arith, l.0, high))) h) in
     let first : cond p.released 0 (inside base size p.entry) ≡ 0 = by_flag p.released none in
-    omega (arith, unreleased_in-apart (from + p.entry.size) to base size ps l.2 (⊎_elim (λ low. inl low) (λ high. inr (omega (arith, high))) h))
+    omega (arith, unreleased_in-none_outside (from + p.entry.size) to base size ps l.2 (⊎_elim (λ low. inl low) (λ high. inr (omega (arith, high))) h))
   where
     by_flag : (b : Bool) → inside base size p.entry ≡ 0 → cond b 0 (inside base size p.entry) ≡ 0
     by_flag true none = refl

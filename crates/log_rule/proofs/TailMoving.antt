@@ -32,7 +32,7 @@ use Rattle.log_rule.proofs.Carriers.{carrier-set, first_released-front, first_en
 use Rattle.log_rule.proofs.Lists.{all-append, all-weaken}
 use Rattle.log_rule.proofs.Loads.{tail-boundary, saw_tail_contended-step}
 use Rattle.log_rule.proofs.Members.{heard_of_workers-set_same, seen_tail-keeps_seen}
-use Rattle.log_rule.proofs.RangeLists.{tiles-le, tiles-push, tiles-within, laid-append, unreleased_in-append, unreleased_in-apart, filled_in-append, filled_in-apart}
+use Rattle.log_rule.proofs.RangeLists.{tiles-le, tiles-push, tiles-within, laid-append, unreleased_in-append, unreleased_in-none_outside, filled_in-append, filled_in-apart}
 use Rattle.log_rule.proofs.Roles.{crew-set_same, rests_if_quiet-set}
 use Rattle.log_rule.proofs.MachineShown.{reservation_of-same_filled}
 use Rattle.log_rule.proofs.TrueMarks.{ready_in-append}
@@ -107,7 +107,7 @@ module _ (key : Start) (words : Words) (views : List View) (me : ℕ) (v : View)
 
   module _ (new : AreNewParts from size to more) (quarter : size ≤ key.ring / 4) where
     nothing-there : unreleased_in from size log.parts ≡ 0
-    nothing-there = unreleased_in-apart _ _ from size log.parts s.contiguous.parts (inl (le_refl _))
+    nothing-there = unreleased_in-none_outside _ _ from size log.parts s.contiguous.parts (inl (le_refl _))
 
     laid : Laid key.start moved_log.parts to
     laid = laid-append _ _ _ log.parts more s.contiguous.parts new.laid
@@ -118,7 +118,7 @@ module _ (key : Start) (words : Words) (views : List View) (me : ℕ) (v : View)
         (CountsRemaining moved_log.parts) _ _ _ log.ahead s.contiguous.to_tail s.contiguous.remaining (λ q counts least lo hi.
         unreleased_in-append q.base q.size log.parts more
         ∙ (ap (λ n. unreleased_in q.base q.size log.parts + n)
-        (unreleased_in-apart from to q.base q.size more new.laid (inr hi)) ∙ (add-zero _ ∙ counts))))
+        (unreleased_in-none_outside from to q.base q.size more new.laid (inr hi)) ∙ (add-zero _ ∙ counts))))
         (unreleased_in-append from size log.parts more ∙ omega (arith, nothing-there, new.remain), tt)
 
     aligned : AllByRecursion (EndsWithPart key.start moved_log.parts) (ranges_of moved_log)

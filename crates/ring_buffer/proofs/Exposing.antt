@@ -128,8 +128,8 @@ module _ (seat after : Seat) (at mark : ℕ) (hand : HasInHand at (view_of seat)
   raises-above : at < mark → (view_of after).call ≡ Raising at mark rest
   raises-above above = call-marked ∙ next_raise-above at mark rest above
 
-  pub MayRaise-above : at < mark → MayRaise at mark (view_of after)
-  MayRaise-above above = record { after = rest; raising = raises-above above }
+  pub mark_above-MayRaise : at < mark → MayRaise at mark (view_of after)
+  mark_above-MayRaise above = record { after = rest; raising = raises-above above }
 
   -- and after the exchange of exposed, which is at `found` then
   module _ (last : Seat) (found : ℕ) (greater : at < found) (raised : Becomes after last (after_raise found (view_of after))) where

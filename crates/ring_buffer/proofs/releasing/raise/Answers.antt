@@ -1,7 +1,7 @@
 use Rattle.std.proofs.Common.{arith, ◌<◌}
 use Rattle.log_rule.specs.GroupViews.{follow_up}
 use Rattle.log_table.specs.Seats.{view_of}
-use Rattle.ring_buffer.proofs.Exposing.{MayRaise-above}
+use Rattle.ring_buffer.proofs.Exposing.{mark_above-MayRaise}
 use Rattle.ring_buffer.proofs.releasing.raise.Goals as goal
 
 pub load_mark-end-requires-clause-next : goal.load_mark-end-requires-clause-next
@@ -9,7 +9,7 @@ load_mark-end-requires-clause-next c = record { after = follow_up (view_of c.arg
 
 pub exchange_exposed-requires-clause-next : goal.exchange_exposed-requires-clause-next
 exchange_exposed-requires-clause-next c = let above : c.args.at < c.load_mark-end.result = grind arith steps 150000 in
-    MayRaise-above c.args.seat.now c.load_mark-end.new.seat c.args.at c.load_mark-end.result c.requires.hand c.load_mark-end.ensures.view above
+    mark_above-MayRaise c.args.seat.now c.load_mark-end.new.seat c.args.at c.load_mark-end.result c.requires.hand c.load_mark-end.ensures.view above
 
 pub returns-in-Ok-clause-over : goal.returns-in-Ok-clause-over
 returns-in-Ok-clause-over c = tt

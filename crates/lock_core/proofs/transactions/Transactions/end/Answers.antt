@@ -2,7 +2,7 @@ use Rattle.std.proofs.Common.{subst, sym, inr, refl}
 use Rattle.lock_core.specs.Transactions.{own_records_of, updates_of}
 use Rattle.lock_core.specs.KeptLedger.{KeepsRecords}
 use Rattle.lock_core.proofs.ChainLemmas.{chain-inside}
-use Rattle.lock_core.proofs.KeepingLemmas.{keeps_transactions-first_end}
+use Rattle.lock_core.proofs.KeepingLemmas.{first_end-keeps_transactions}
 use Rattle.lock_core.proofs.transactions.Transactions.end.Goals as goal
 
 pub returns-then-place-clause-fault : goal.returns-then-place-clause-fault
@@ -20,4 +20,4 @@ returns-clause-inside c =
 
 pub returns-clause-taken : goal.returns-clause-taken
 returns-clause-taken c = λ entry h kept own ends.
-    keeps_transactions-first_end c.args.self.now.newest c.put.new.self c.args.self.now.updates c.args.txn entry h c.in-Ok.ensures.put own ends kept
+    first_end-keeps_transactions c.args.self.now.newest c.put.new.self c.args.self.now.updates c.args.txn entry h c.in-Ok.ensures.put own ends kept
