@@ -21,6 +21,6 @@ pub use listing::listed;
 pub use lock_core::Why;
 pub use recovery::{
     RecoverFault, Recovered, judged, one_answer, recover, recover_list, recover_owned,
-    recovered_of, scan_fault, taken, taken_owned,
+    recovered_of, scan_fault, taken, taken_owned, units_fault,
 };
 pub use texts::{put_accounts, put_end};

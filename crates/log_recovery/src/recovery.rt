@@ -66,7 +66,8 @@ pub fn scan_fault(fault: ScanFault) -> RecoverFault
     }
 }
 
-fn units_fault(fault: UnitsFault) -> RecoverFault
+/// The fault of recovery that a fault of a log's units is.
+pub fn units_fault(fault: UnitsFault) -> RecoverFault
     ensures { (bytes : List ℕ) (log : Log) → HoldsLog bytes log → IsUnitsFaultOf log.opening log.units fault → IsFaultOf bytes result }
 {
     match fault {
