@@ -113,8 +113,8 @@ last-genesis base a (entry ∷ h) all = by_kind entry.rec entry.end all.0 ∙ la
 
 module _ (opening : Opening) where
   -- at most 16 Updates of a transaction stand in a lawful list
-  pub lawful-updates_of_at_most_16 : (h : List Placed) (n : ℕ) → IsLawful opening h → length (updates_of n h) ≤ 16
-  lawful-updates_of_at_most_16 h n lawful = (updates_of-fits (base_with opening h) h n (lawful-met opening h lawful)).few
+  pub lawful_updates_of_at_most_16 : (h : List Placed) (n : ℕ) → IsLawful opening h → length (updates_of n h) ≤ 16
+  lawful_updates_of_at_most_16 h n lawful = (updates_of-fits (base_with opening h) h n (lawful-met opening h lawful)).few
 
   -- and their accounts have a row
   pub updates_of-accounts_have_rows : (rows : List (ℕ × ℕ)) (h : List Placed) (n : ℕ) (changes : List Change) → IsLawful opening h → KeepsRows rows (base_with opening h) h

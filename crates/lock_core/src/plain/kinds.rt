@@ -43,7 +43,7 @@ pub fn admit_genesis(
 }
 
 /// Tests an Update.
-#[tactic(auto, using(crate::proofs::KindLemmas::lawful-updates_of_at_most_16))]
+#[tactic(auto, using(crate::proofs::KindLemmas::lawful_updates_of_at_most_16))]
 pub fn admit_update(
     accounts: &Balances,
     front: &[Placed],
@@ -78,7 +78,7 @@ pub fn admit_update(
 }
 
 /// What a Commit of so many legs commits, where it passes the tests up to that of the legs.
-#[tactic(auto, using(crate::proofs::KindLemmas::lawful-updates_of_at_most_16))]
+#[tactic(auto, using(crate::proofs::KindLemmas::lawful_updates_of_at_most_16))]
 fn committed_changes(
     front: &[Placed],
     txn: u32,
@@ -134,7 +134,7 @@ pub fn admit_commit(
 }
 
 /// Tests a Short or an Over.
-#[tactic(auto, using(crate::proofs::KindLemmas::lawful-updates_of_at_most_16))]
+#[tactic(auto, using(crate::proofs::KindLemmas::lawful_updates_of_at_most_16))]
 pub fn admit_refusal(front: &[Placed], txn: u32, leg: u32) -> Result<(), Why>
     requires front { IsLawful no_opening (reverse front.now) }
     requires number { 0 < txn }
@@ -156,7 +156,7 @@ pub fn admit_refusal(front: &[Placed], txn: u32, leg: u32) -> Result<(), Why>
 }
 
 /// Tests a Note.
-#[tactic(auto, using(crate::proofs::KindLemmas::lawful-updates_of_at_most_16))]
+#[tactic(auto, using(crate::proofs::KindLemmas::lawful_updates_of_at_most_16))]
 pub fn admit_note(front: &[Placed], txn: u32, text: &Text) -> Result<(), Why>
     requires lawful { IsLawful no_opening (reverse front.now) }
     requires number { 0 < txn }

@@ -5,7 +5,7 @@ use Rattle.log_record.specs.declared.rec.Placed.{Placed}
 use Rattle.log_record.specs.declared.rec.Rec.TheVariants.{Commit}
 use Rattle.lock_core.specs.declared.ledger.Ledger.{Ledger}
 use Rattle.lock_core.specs.Transactions.{updates_of}
-use Rattle.lock_core.proofs.KindLemmas.{lawful-updates_of_at_most_16}
+use Rattle.lock_core.proofs.KindLemmas.{lawful_updates_of_at_most_16}
 use Rattle.lock_core.proofs.OpenLemmas.{newest-counts_updates_of, updates_of-accounts_known, open_at-is_committing, end_fault-commit_take_fault, open_commit-fails_stale, open_commit-fails_balance}
 use Rattle.lock_core.proofs.TakingLemmas.{unended-passes_ended, some_rows-some_account_or_record, no_accounts-fails_genesis, takes-commit, keeps_ledger-same_accounts, keeps_ledger-same_parts}
 use Rattle.lock_core.proofs.ledger.Ledger.take_commit.Goals as goal
@@ -33,7 +33,7 @@ returns-then-update-legs-clause-taken c = λ opening h kept. let counted = c.cou
 pub changes-requires : goal.changes-requires
 changes-requires c =
     let opening = c.requires.kept.0 in let h = c.requires.kept.1 in let kept = c.requires.kept.2 in
-    (c.args.txn, h, c.in_ok-place.ensures.unended h kept.transactions, lawful-updates_of_at_most_16 opening h c.args.txn kept.judged.lawful)
+    (c.args.txn, h, c.in_ok-place.ensures.unended h kept.transactions, lawful_updates_of_at_most_16 opening h c.args.txn kept.judged.lawful)
 
 pub are_current-requires : goal.are_current-requires
 are_current-requires c = let kept = c.requires.kept.2 in
