@@ -1,0 +1,66 @@
+-- From a log that was read to its end, and units of which all records are taken, to what all bytes say; and what faults are counted.
+use Rattle.std.proofs.Common.{◌≡◌, ◌∙◌, ℕ, List, Option, Result, Err, IsErrAnd, IsErrOf, ap, subst}
+use Rattle.std.proofs.lemmas.Result.{err_from_is_err_and}
+use Rattle.lsn_space.specs.Opening.{Opening}
+use Rattle.log_disk.specs.Faults.{CountsWhere}
+use Rattle.lock_core.specs.declared.judge.Judge.{Judge}
+use Rattle.lock_core.specs.Taking.{HasJudged}
+use Rattle.segment_file.specs.Log.{Log, HoldsLog}
+use Rattle.segment_file.specs.StandingLog.{LogStandsAt}
+use Rattle.segment_file.specs.declared.scan_result.Tail.{Tail}
+use Rattle.log_recovery.specs.JudgedUnits.{HasTakenUnits}
+use Rattle.log_recovery.specs.Opened.{OpenedList, log_of}
+use Rattle.log_recovery.specs.Recovery.{IsFaultOf, JudgesBytes}
+use Rattle.log_recovery.specs.declared.recovery.RecoverFault.{RecoverFault}
+use Rattle.log_recovery.specs.declared.recovery.RecoverFault.TheVariants as fault
+use Rattle.source_recovery.specs.Recovery.{HasLogFault, TellsReading}
+use Rattle.source_recovery.specs.Window.{GaveAll}
+use Rattle.source_recovery.specs.declared.batches.ReadingFault.{ReadingFault}
+use Rattle.source_recovery.specs.declared.batches.ReadingFault.TheVariants as reading
+use Rattle.source_recovery.specs.declared.recovery.SourceFault.{SourceFault}
+use Rattle.source_recovery.specs.declared.recovery.SourceFault.TheVariants as source
+
+-- a fault of all bytes
+pub gave_all-HasLogFault : (first now : Option (List ℕ)) (bytes : List ℕ) (f : RecoverFault) → GaveAll first now bytes → IsFaultOf bytes f
+    → HasLogFault first now f
+gave_all-HasLogFault first now bytes fault.NoMemory gave is = tt
+gave_all-HasLogFault first now bytes fault.NotALog gave is = (bytes, gave, is)
+gave_all-HasLogFault first now bytes fault.BadSnapshot gave is = (bytes, gave, is)
+gave_all-HasLogFault first now bytes (fault.BadBatch offset) gave is = (bytes, gave, is)
+gave_all-HasLogFault first now bytes (fault.BadRec lsn) gave is = (bytes, gave, is)
+gave_all-HasLogFault first now bytes (fault.Unlawful lsn why) gave is = (bytes, gave, is)
+
+-- the log stands in the bytes, and all its records are taken
+pub taken_units-JudgesBytes : (tail : Tail) (opening : Opening) (units bytes : List ℕ) (judge : Judge)
+    → LogStandsAt tail (record { opening = opening; units = units }) bytes → HasTakenUnits HasJudged opening units judge
+    → JudgesBytes judge tail bytes
+taken_units-JudgesBytes tail opening units bytes judge stands taken =
+    let list : OpenedList = record { opening = opening; records = taken.records } in
+    let same : record { opening = opening; units = units } ≡ log_of list =
+    ap (λ (list : List ℕ). record { opening = opening; units = list }) taken.list.units_are in record {
+      list = list;
+      held = record {
+        list = record { each = taken.list.spellable; holds = subst (HoldsLog bytes) same stands.held };
+        lawful = taken.taken.ledger.judged.lawful;
+      };
+      stands = subst (λ (log : Log). LogStandsAt tail log bytes) same stands;
+      taken = taken.taken;
+    }
+
+-- a fault of reading is told, and counted where it is a failed read
+pub told-CountsWhere : {T U : Type 0} (from : ReadingFault) (result : Result T SourceFault) (before now : ℕ) → IsErrAnd result (TellsReading from)
+    → CountsWhere (IsErrOf {T = U} (Err from) reading.Failed) before now → CountsWhere (IsErrOf result source.Failed) before now
+told-CountsWhere from result before now told read =
+    let failed = err_from_is_err_and result told in record {
+      counted = λ is. let same : failed.0 ≡ source.Failed = cc in read.counted (ap Err (failed.2.only same));
+      fine = λ other. read.fine (λ is. let same : from ≡ reading.Failed = cc in other (failed.1 ∙ ap Err (failed.2.failed same)));
+    }
+
+-- want of memory is told, and no fault is counted
+pub no_memory-CountsWhere : {T : Type 0} (result : Result T SourceFault) (before now : ℕ)
+    → IsErrAnd result (λ told. told ≡ source.Log fault.NoMemory) → now ≡ before → CountsWhere (IsErrOf result source.Failed) before now
+no_memory-CountsWhere result before now told same =
+    let failed = err_from_is_err_and result told in record {
+      counted = λ is. let other : source.Log fault.NoMemory ≡ source.Failed = cc in absurd (cc);
+      fine = λ _. same;
+    }

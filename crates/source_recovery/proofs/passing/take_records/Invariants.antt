@@ -1,0 +1,15 @@
+use Rattle.std.proofs.Common.{ℕ, List, length}
+use Rattle.lsn_space.specs.Opening.{Opening}
+use Rattle.log_recovery.specs.JudgedUnits.{HasTakenFront}
+use Rattle.source_recovery.specs.Passing.{CanTake, EndsWith}
+use Rattle.source_recovery.proofs.passing.take_records.Given as goal
+
+abbrev pub invariant-records : goal.invariant-records
+invariant-records g l = record {
+  ends : EndsWith l.units l.rest;
+  taken : (opening : Opening) (all : List ℕ) → CanTake g.T.TakesRecords.has_taken opening all l.units l.first l.fn.taker
+      → HasTakenFront g.T.TakesRecords.has_taken opening all l.rest l.taker;
+}
+
+abbrev pub decreases-records : goal.decreases-records
+decreases-records g l = length l.rest

@@ -1,0 +1,92 @@
+//! How the records of units are passed, one by one, while a record may have no more units than are left.
+
+ghost use Rattle.std.specs.Prelude.{◌≡◌, ◌<◌, ◌≤◌, ◌+◌, ℕ, List, length, drop};
+ghost use Rattle.log_record.specs.declared.rec.Rec.{Rec};
+ghost use Rattle.log_record.specs.Spelling.{BeginsWith};
+ghost use Rattle.lsn_space.specs.Opening.{Opening};
+ghost use Rattle.lsn_space.specs.declared.lsn.TheConstants.{LAST};
+ghost use Rattle.log_recovery.specs.ListedRecords.{IsFront};
+ghost use Rattle.source_recovery.specs.Passing.{CanTake, EndsWith, IsShort, StopsAt};
+
+use lock_core::{JudgeFault, TakesRecords, Why};
+use log_record::read;
+use lsn_space::Lsn;
+
+/// Why no more records are taken.
+pub(crate) enum Stop {
+    /// A record may have more units than are left.
+    Few,
+
+    /// No record begins at this LSN.
+    Bad { lsn: Lsn },
+
+    /// The record that starts at this LSN is the first that fails a test, and this is the first test that it fails.
+    Failed { lsn: Lsn, why: Why },
+
+    NoMemory,
+}
+
+/// Where the rest of the units begins, of which the first stands at that LSN.
+pub(crate) fn place_of(first: Lsn, units: &[u64], rest: &[u64]) -> Lsn
+    requires within { EndsWith units.now rest.now }
+    requires fits { first + length units.now ≤ LAST }
+    ensures { result + length rest.now ≡ first + length units.now }
+{
+    Lsn::new(first.units() + (units.len() - rest.len()) as u32)
+}
+
+/// Leaves out so many units at the front.
+pub(crate) fn leave_out(units: &mut Vec<u64>, count: usize)
+    requires { count ≤ length units.old.items }
+    ensures { units.new.items ≡ drop count units.old.items }
+{
+    let len = units.len();
+    units.copy_within(count..len, 0);
+    units.truncate(len - count);
+}
+
+/// Reads records while at least so many units are left, up to a place where none begins.
+pub(crate) fn read_records(units: &[u64], least: usize) -> &[u64]
+    requires { 0 < least }
+    ensures front { IsFront units.now result.now }
+    ensures bad { least ≤ length result.now → (rec : Rec) → BeginsWith result.now rec → ⊥ }
+{
+    let mut rest = units;
+    'records: while rest.len() >= least {
+        let Ok((_, size)) = read(rest) else {
+            return rest;
+        };
+        rest = rest.split_at(size).1;
+    }
+    rest
+}
+
+/// Takes records while at least so many units are left. The first of the units stands at that LSN.
+pub(crate) fn take_records<'a, T: TakesRecords>(
+    taker: &mut T,
+    first: Lsn,
+    units: &'a [u64],
+    least: usize,
+) -> (&'a [u64], Stop)
+    requires taken { (opening : Opening) × (all : List ℕ) × CanTake T.has_taken opening all units.now first taker.old }
+    requires some { 0 < least }
+    ensures ends { EndsWith units.now result.0.now }
+    ensures few { IsShort least result.0.now result.1 }
+    ensures stops { (opening : Opening) (all : List ℕ) → CanTake T.has_taken opening all units.now first taker.old
+        → StopsAt T.has_taken least opening all result.0.now taker.new result.1 }
+{
+    let mut rest = units;
+    'records: while rest.len() >= least {
+        let lsn = place_of(first, units, rest);
+        let Ok((rec, size)) = read(rest) else {
+            return (rest, Stop::Bad { lsn });
+        };
+        rest = rest.split_at(size).1;
+        match taker.take(lsn, &rec) {
+            Ok(()) => {}
+            Err(JudgeFault::NoMemory) => return (rest, Stop::NoMemory),
+            Err(JudgeFault::Why(why)) => return (rest, Stop::Failed { lsn, why }),
+        }
+    }
+    (rest, Stop::Few)
+}
