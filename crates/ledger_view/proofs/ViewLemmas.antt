@@ -201,9 +201,9 @@ module _ (opening : Opening) where
         ap (λ b. cond b [] (updates_of txn h)) (all_passed-meets_tests opening h (entry_at lsn (Commit txn legs)) own.ledger.judged.lawful.0).ended
 
     -- its accounts are kept
-    pub updates_of-accounts_known : (txn : ℕ) (changes : List Change) → changes ≡ updates_of txn h
+    pub updates_of-accounts_kept : (txn : ℕ) (changes : List Change) → changes ≡ updates_of txn h
         → AllByRecursion (λ (change : Change). change.account < length old.accounts) changes
-    updates_of-accounts_known txn changes are =
+    updates_of-accounts_kept txn changes are =
         subst (λ count. AllByRecursion (λ (change : Change). change.account < count) changes) (sym viewed.count)
         (subst (AllByRecursion (λ (change : Change). change.account < (base_with opening h).accounts)) (sym are)
         (updates_of-fits (base_with opening h) h txn (lawful-met opening h viewed.judged.ledger.judged.lawful)).known)
@@ -216,7 +216,7 @@ module _ (opening : Opening) where
         subst (λ r. AllLeadOn opening (entry_at lsn r ∷ h) changes changes old.accounts) (sym is)
         (subst (λ (l : List Change). AllLeadOn opening (entry_at lsn (Commit txn legs) ∷ h) l l old.accounts) (sym updates)
         (known_changes-all_lead_on txn legs (subst (CanAdd old lsn) is can) (subst (λ r. HasJudged opening judge (entry_at lsn r ∷ h)) is judged)
-        (updates_of txn h) (updates_of-accounts_known txn (updates_of txn h) refl)))
+        (updates_of txn h) (updates_of-accounts_kept txn (updates_of txn h) refl)))
 
     -- a record that is a Commit
     pub views-commit_record : (rec : Rec) (txn legs end : ℕ) (changes : List Change) (new : List Account) → rec ≡ Commit txn legs → end ≡ lsn + 1

@@ -13,8 +13,8 @@ Images-synced start (Wrote at bytes ∷ earlier) c synced image = absurd synced
 Images-synced start (Synced ∷ earlier) c synced image = image
 
 -- a write that was torn in no byte
-pub IsTorn-none : (at : ℕ) (old new : List ℕ) → IsTorn at 0 old new → new ≡ old
-IsTorn-none at old new torn =
+pub IsTorn_none-unchanged : (at : ℕ) (old new : List ℕ) → IsTorn at 0 old new → new ≡ old
+IsTorn_none-unchanged at old new torn =
     let none : at + 0 ≡ at = omega arith in
     let after = subst (λ (n : ℕ). drop n new ≡ drop n old) none torn.after in
     sym (take-append-drop at new) ∙ ap (λ (front : List ℕ). front ++ drop at new) torn.before ∙ ap (λ (back : List ℕ). take at old ++ back) after ∙ take-append-drop at old
@@ -27,4 +27,4 @@ picked_torn-put_front at left landed rest noisy bytes old placed new few landed_
     let below : left < length bytes + 1 = omega (arith, few) in
     let all : landed ≡ left = landed_is ∙ mod-eq_of_lt below in
     let quiet : noisy ≡ 0 = noisy_is ∙ ap (λ (n : ℕ). n % (landed + 1)) (rest_is ∙ div-eq_of_lt below) ∙ zero-mod (landed + 1) in
-    IsTorn-none at placed new (subst (λ (n : ℕ). IsTorn at n placed new) quiet torn) ∙ placed_is ∙ ap (λ (n : ℕ). put at (take n bytes) old) all
+    IsTorn_none-unchanged at placed new (subst (λ (n : ℕ). IsTorn at n placed new) quiet torn) ∙ placed_is ∙ ap (λ (n : ℕ). put at (take n bytes) old) all

@@ -70,11 +70,11 @@ module _ (placed filled done last : Seat) (units : List ℕ) (steps : ℕ)
     pub idle-inserted : (entry : Entry) → filled_with units (view_of placed).call ≡ Filling entry → (view_of last).call ≡ Idle
     idle-inserted entry filling = over.call ∙ ap (λ call. call_after (follow_up call)) (call_done-marked_nothing entry filling)
 
-    pub books_inserted-unchanged : (view_of last).books ≡ (view_of placed).books
-    books_inserted-unchanged = stays.books ∙ (ap (λ (v : View). v.books) done-is ∙ ap (λ (v : View). v.books) filled-is)
+    pub books_behind_placing-unchanged : (view_of last).books ≡ (view_of placed).books
+    books_behind_placing-unchanged = stays.books ∙ (ap (λ (v : View). v.books) done-is ∙ ap (λ (v : View). v.books) filled-is)
 
-    pub stop_inserted-unchanged : (view_of last).seen.stop ≡ (view_of placed).seen.stop
-    stop_inserted-unchanged = stays.stop ∙ (ap (λ (v : View). v.seen.stop) done-is ∙ ap (λ (v : View). v.seen.stop) filled-is)
+    pub stop_behind_placing-unchanged : (view_of last).seen.stop ≡ (view_of placed).seen.stop
+    stop_behind_placing-unchanged = stays.stop ∙ (ap (λ (v : View). v.seen.stop) done-is ∙ ap (λ (v : View). v.seen.stop) filled-is)
 
-    pub contended_inserted-unchanged : (view_of last).contended ≡ (view_of placed).contended
-    contended_inserted-unchanged = stays.contended ∙ (ap (λ (v : View). v.contended) done-is ∙ ap (λ (v : View). v.contended) filled-is)
+    pub contended_behind_placing-unchanged : (view_of last).contended ≡ (view_of placed).contended
+    contended_behind_placing-unchanged = stays.contended ∙ (ap (λ (v : View). v.contended) done-is ∙ ap (λ (v : View). v.contended) filled-is)

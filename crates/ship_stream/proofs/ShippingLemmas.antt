@@ -82,8 +82,8 @@ module _ (units : List ℕ) (len : ℕ) (rest : List ℕ) (gathering : IsGatheri
     pub size-size_of_first_record : size ≡ size_of gathering_left-first_record.0
     size-size_of_first_record = sized gathering_left-first_record.0 behind (units_of gathering_left-first_record.1) spellable.0 (sym some ∙ rest-split)
 
-    pub size-bounds : (0 < size) × (size ≤ 26) × (size ≤ length rest)
-    size-bounds = (
+    pub size-within_26_and_rest : (0 < size) × (size ≤ 26) × (size ≤ length rest)
+    size-within_26_and_rest = (
       omega (arith, size-size_of_first_record, length_spelling-positive gathering_left-first_record.0),
       omega (arith, size-size_of_first_record, length-spelling gathering_left-first_record.0 spellable.0),
       omega (arith, size-size_of_first_record, ap length rest-split, length-append (spelling gathering_left-first_record.0) (units_of gathering_left-first_record.1)),
@@ -125,7 +125,7 @@ module _ (units : List ℕ) (len : ℕ) (rest : List ℕ) (gathering : IsGatheri
           (omega (arith, full, size-size_of_first_record, gathering.count))
           ∙ ap (λ left. gathering.waits ∷ frames_of left) (sym gathering_left-first_record.2);
       count = gathering.count;
-      some = omega (arith, full, size-bounds.1);
+      some = omega (arith, full, size-within_26_and_rest.1);
       short = gathering.most;
       within = omega (arith, gathering-length);
     }

@@ -36,9 +36,9 @@ whole_begins-front_begins units n rec begins count = (
       ∙ sym (append-nil (spelling rec)),
 )
 
-pub size-bounds : (units : List ℕ) (rec : Rec) → BeginsWith units rec
+pub size_of-within_26_and_units : (units : List ℕ) (rec : Rec) → BeginsWith units rec
     → (0 < size_of rec) × (size_of rec ≤ 26) × (size_of rec ≤ length units)
-size-bounds units rec begins = (
+size_of-within_26_and_units units rec begins = (
   length_spelling-positive rec,
   length-spelling rec begins.0,
   omega (arith, ap length begins.2, length-append (spelling rec) begins.1),
@@ -64,7 +64,7 @@ passed-none units = record { front = []; each = tt; whole = refl; within = omega
 pub passed-more : (units : List ℕ) (at size : ℕ) (rec : Rec) → IsPassed units at → BeginsWith (drop at units) rec → size ≡ size_of rec
     → IsPassed units (at + size)
 passed-more units at size rec passed begins sized =
-    let bounds = size-bounds (drop at units) rec begins in
+    let bounds = size_of-within_26_and_units (drop at units) rec begins in
     let behind : drop (at + size) units ≡ begins.1 =
     drop-more at size units ∙ ap (λ n. drop n (drop at units)) sized ∙ ap (drop (size_of rec)) begins.2
     ∙ drop-append_seam (spelling rec) begins.1 in

@@ -10,7 +10,7 @@ use Rattle.log_table.specs.Seats.{view_of}
 use Rattle.ring_buffer.specs.Calls.{HasFilled, filled_with, entry_of}
 use Rattle.ring_buffer.specs.declared.call.Range.{Range}
 use Rattle.ring_buffer.proofs.Exposing.{HasMarked-marked_call}
-use Rattle.ring_buffer.proofs.Inserted.{IsSameWorker-inserted, entries-inserted, idle-inserted, books_inserted-unchanged, stop_inserted-unchanged, contended_inserted-unchanged}
+use Rattle.ring_buffer.proofs.Inserted.{IsSameWorker-inserted, entries-inserted, idle-inserted, books_behind_placing-unchanged, stop_behind_placing-unchanged, contended_behind_placing-unchanged}
 use Rattle.ring_buffer.proofs.TwoCalls.{IsSameWorker-trans}
 use Rattle.ring_buffer.proofs.inserting.insert_alone.Goals as goal
 
@@ -51,12 +51,12 @@ returns g c =
         same = IsSameWorker-trans c.args.seat.now c.place_among.new.seat c.expose.new.seat c.in_ok-range.ensures.same same;
         idle = idle-inserted c.place_among.new.seat c.fill-filled.new.seat c.finish.new.seat c.expose.new.seat c.args.units.now steps
             c.fill-filled.ensures.becomes c.finish.ensures.becomes c.expose.result c.expose.ensures.stays c.expose.ensures.over entry call;
-        contended = contended_inserted-unchanged c.place_among.new.seat c.fill-filled.new.seat c.finish.new.seat c.expose.new.seat c.args.units.now steps
+        contended = contended_behind_placing-unchanged c.place_among.new.seat c.fill-filled.new.seat c.finish.new.seat c.expose.new.seat c.args.units.now steps
             c.fill-filled.ensures.becomes c.finish.ensures.becomes c.expose.result c.expose.ensures.stays c.expose.ensures.over ∙ placed.contended;
         entries_are = entries-inserted c.place_among.new.seat c.fill-filled.new.seat c.finish.new.seat c.expose.new.seat c.args.units.now steps
             c.fill-filled.ensures.becomes c.finish.ensures.becomes c.expose.result c.expose.ensures.stays c.expose.ensures.over entry call
             ∙ ap (λ (entries : List Entry). entries ++ entry ∷ []) placed.entries;
-        books_are = books_inserted-unchanged c.place_among.new.seat c.fill-filled.new.seat c.finish.new.seat c.expose.new.seat c.args.units.now steps
+        books_are = books_behind_placing-unchanged c.place_among.new.seat c.fill-filled.new.seat c.finish.new.seat c.expose.new.seat c.args.units.now steps
             c.fill-filled.ensures.becomes c.finish.ensures.becomes c.expose.result c.expose.ensures.stays c.expose.ensures.over
             ∙ (placed.books ∙ (λ i. placing (start i + length-is i) rec old.books));
       };
@@ -65,7 +65,7 @@ returns g c =
       fits = search rules;
       kept = tt;
       refused = tt;
-      stop = stop_inserted-unchanged c.place_among.new.seat c.fill-filled.new.seat c.finish.new.seat c.expose.new.seat c.args.units.now steps
+      stop = stop_behind_placing-unchanged c.place_among.new.seat c.fill-filled.new.seat c.finish.new.seat c.expose.new.seat c.args.units.now steps
           c.fill-filled.ensures.becomes c.finish.ensures.becomes c.expose.result c.expose.ensures.stays c.expose.ensures.over
           ∙ c.place_among.ensures.stop;
     }

@@ -1,14 +1,14 @@
 use Rattle.std.proofs.Common.{◌+◌, ◌∙◌, ◌∷◌, ap, refl}
 use Rattle.log_record.specs.declared.rec.Rec.TheVariants.{Commit}
 use Rattle.lock_core.specs.History.{entry_at}
-use Rattle.ledger_view.proofs.ViewLemmas.{commit-open_changes_are_updates, updates_of-accounts_known, commit-leads, views-commit_record}
+use Rattle.ledger_view.proofs.ViewLemmas.{commit-open_changes_are_updates, updates_of-accounts_kept, commit-leads, views-commit_record}
 use Rattle.ledger_view.proofs.view.View.add_commit.Goals as goal
 
 pub enter_commit-requires-clause-known : goal.enter_commit-requires-clause-known
 enter_commit-requires-clause-known c =
     let old = c.args.self.now in let opening = c.requires.given.0 in let h = c.requires.given.1 in let viewed = c.requires.given.2 in
     let judged = c.in_ok-take_commit.ensures.taken opening h viewed.judged in
-    updates_of-accounts_known opening old c.args.lsn c.take_commit.new.self h viewed c.args.txn c.as_slice.result.now
+    updates_of-accounts_kept opening old c.args.lsn c.take_commit.new.self h viewed c.args.txn c.as_slice.result.now
     (c.as_slice.ensures.value ∙ c.in_ok-take_commit.ensures.changes opening h viewed.judged
     ∙ commit-open_changes_are_updates opening old c.args.lsn c.take_commit.new.self h viewed (Commit c.args.txn c.args.legs) c.args.txn c.args.legs refl judged)
 
