@@ -1,5 +1,6 @@
 //! What `recover` answers of an image, beside what is wanted.
 
+use crate::pieces::is_same_in_pieces;
 use crate::plainly::is_same;
 use log_recovery::{RecoverFault, Why, listed, put_dump, recover};
 use lsn_space::Lsn;
@@ -32,6 +33,11 @@ impl Fault {
     }
 }
 
+/// The same is recovered from a source that gives the image in pieces.
+pub(crate) fn is_whole_in_pieces<R: AllocGlobal + Abort>(rt: &R, name: &str, bytes: &[u8]) {
+    assert!(rt; is_same_in_pieces(rt.alloc(), bytes), "{name} {bytes:?}");
+}
+
 /// This is the fault that was found in the image.
 pub(crate) fn is_fault(
     rt: &impl Abort,
@@ -62,6 +68,7 @@ fn is_listed<R: AllocGlobal + Abort>(rt: &R, name: &str, bytes: &[u8], fault: &F
 pub(crate) fn is_refused<R: AllocGlobal + Abort>(rt: &R, name: &str, bytes: &[u8], fault: &Fault) {
     is_fault(rt, name, bytes, recover(rt.alloc(), bytes).err(), fault);
     is_listed(rt, name, bytes, fault);
+    is_whole_in_pieces(rt, name, bytes);
     has_same_answers(rt, name, bytes);
 }
 
@@ -101,6 +108,7 @@ pub(crate) fn is_recovered<R: AllocGlobal + Abort>(
     }
     is_end(rt, name, (recovered.lsn.units(), recovered.next_txn), end);
     is_list_to(rt, name, bytes, end.0);
+    is_whole_in_pieces(rt, name, bytes);
     are_rows(rt, name, found.as_slice(), rows);
     Ok(())
 }

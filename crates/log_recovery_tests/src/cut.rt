@@ -1,6 +1,6 @@
 //! Files of the second format: the log of one transfer, cut, and what stands behind it.
 
-use crate::answers::{Fault, is_fault, is_recovered};
+use crate::answers::{Fault, is_fault, is_recovered, is_whole_in_pieces};
 use crate::images::push_units;
 use log_recovery::{Why, listed, put_dump, recover};
 use memory_disk::MemorySink;
@@ -39,6 +39,7 @@ pub(crate) fn cut_and(alloc: Global, batches: &[&[u64]]) -> Result<Vec<u8>, Allo
 /// The file is refused so.
 fn is_refused<R: AllocGlobal + Abort>(rt: &R, bytes: &[u8], fault: &Fault) {
     is_fault(rt, "cut", bytes, recover(rt.alloc(), bytes).err(), fault);
+    is_whole_in_pieces(rt, "cut", bytes);
 }
 
 #[test]

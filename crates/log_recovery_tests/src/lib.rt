@@ -1,4 +1,4 @@
-//! Tests of `lock_core` and `log_recovery`.
+//! Tests of `lock_core`, `log_recovery` and `source_recovery`.
 #![tactic(auto)]
 
 #[cfg(test)]
@@ -17,5 +17,7 @@ mod judged;
 mod judging;
 #[cfg(test)]
 mod openings;
+#[cfg(test)]
+mod pieces;
 #[cfg(test)]
 mod plainly;

@@ -62,7 +62,8 @@ fn plain_recover(alloc: Global, bytes: &[u8]) -> Result<Balances, RecoverFault> 
     }
 }
 
-fn are_same(accounts: &Balances, others: &Balances) -> bool {
+/// Whether both have the same balances and last commits.
+pub(crate) fn are_same(accounts: &Balances, others: &Balances) -> bool {
     if accounts.count() != others.count() {
         return false;
     }
