@@ -1,5 +1,5 @@
 -- What a header and the units after it spell.
-use Rattle.std.specs.Prelude.{◌≡◌, ℕ, List, ◌∷◌, Result, IfOk, OnErr}
+use Rattle.std.specs.Prelude.{◌≡◌, ℕ, List, ◌∷◌, Result, OnOk, OnErr}
 use Rattle.log_record.specs.declared.header.Header.{Header}
 use Rattle.log_record.specs.declared.rec.Rec.{Rec}
 use Rattle.log_record.specs.Spelling.{header, spelling, IsSpellable}
@@ -12,7 +12,7 @@ header_unit h = header h.kind h.units h.field h.txn
 abbrev pub Spells : Header → List ℕ → Rec → Type 0
 Spells h body rec = IsSpellable rec × (spelling rec ≡ header_unit h ∷ body)
 
--- the record that they spell is read, or they are refused, as they spell none
-pub record Reads {E : Type 0} (h : Header) (body : List ℕ) (result : Result Rec E) : Type 0 where
-  pub found : IfOk result (Spells h body)
+-- this is the record that they spell, or they are refused, as they spell none
+pub record Reads {T E : Type 0} (h : Header) (body : List ℕ) (rec : Rec) (result : Result T E) : Type 0 where
+  pub found : OnOk result (Spells h body rec)
   pub bad : OnErr result ((r : Rec) → Spells h body r → ⊥)

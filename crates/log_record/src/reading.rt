@@ -18,11 +18,24 @@ pub fn read(units: &[u64]) -> Result<(Rec, usize), BadRec>
     ensures found { IfOk result (λ r. BeginsWith units.now r.0 × (r.1 ≡ length (spelling r.0))) }
     ensures bad { OnErr result ((r : Rec) → BeginsWith units.now r → ⊥) }
 {
+    let mut rec = Rec::Genesis {
+        account: 0,
+        balance: 0,
+    };
+    let size = read_into(units, &mut rec)?;
+    Ok((rec, size))
+}
+
+/// Reads the record that the units begin with into the one that is lent, and answers of how many units it is.
+pub fn read_into(units: &[u64], rec: &mut Rec) -> Result<usize, BadRec>
+    ensures found { IfOk result (λ size. BeginsWith units.now rec.new × (size ≡ length (spelling rec.new))) }
+    ensures bad { OnErr result ((r : Rec) → BeginsWith units.now r → ⊥) }
+{
     let Some((header, body)) = split(units) else {
         return Err(BadRec);
     };
-    let rec = read_whole(header, body)?;
-    Ok((rec, 1 + body.len()))
+    read_whole(header, body, rec)?;
+    Ok(1 + body.len())
 }
 
 /// The header that the units begin with, and the further units that it counts.
@@ -39,25 +52,25 @@ fn split(units: &[u64]) -> Option<(Header, &[u64])>
 }
 
 /// The record of these units.
-fn read_whole(header: Header, body: &[u64]) -> Result<Rec, BadRec>
+fn read_whole(header: Header, body: &[u64], rec: &mut Rec) -> Result<(), BadRec>
     requires { header.units ≡ 1 + length body.now }
-    ensures { Reads header body.now result }
+    ensures { Reads header body.now rec.new result }
 {
     match header.kind {
-        GENESIS => genesis(header, body),
-        UPDATE => update(header, body),
-        COMMIT => commit(header, body),
-        SHORT => short(header, body),
-        OVER => over(header, body),
-        NOTE => note(header, body),
+        GENESIS => genesis(header, body, rec),
+        UPDATE => update(header, body, rec),
+        COMMIT => commit(header, body, rec),
+        SHORT => short(header, body, rec),
+        OVER => over(header, body, rec),
+        NOTE => note(header, body, rec),
         _ => Err(BadRec),
     }
 }
 
-fn genesis(header: Header, body: &[u64]) -> Result<Rec, BadRec>
+fn genesis(header: Header, body: &[u64], rec: &mut Rec) -> Result<(), BadRec>
     requires kind { header.kind ≡ GENESIS }
     requires count { header.units ≡ 1 + length body.now }
-    ensures { Reads header body.now result }
+    ensures { Reads header body.now rec.new result }
 {
     let [balance] = body else {
         return Err(BadRec);
@@ -66,16 +79,17 @@ fn genesis(header: Header, body: &[u64]) -> Result<Rec, BadRec>
     if header.txn != 0 || account >= MOST_ACCOUNTS || *balance > u64::from(MOST_BALANCE) {
         return Err(BadRec);
     }
-    Ok(Rec::Genesis {
+    *rec = Rec::Genesis {
         account,
         balance: *balance as u32,
-    })
+    };
+    Ok(())
 }
 
-fn update(header: Header, body: &[u64]) -> Result<Rec, BadRec>
+fn update(header: Header, body: &[u64], rec: &mut Rec) -> Result<(), BadRec>
     requires kind { header.kind ≡ UPDATE }
     requires count { header.units ≡ 1 + length body.now }
-    ensures { Reads header body.now result }
+    ensures { Reads header body.now rec.new result }
 {
     let [unit] = body else {
         return Err(BadRec);
@@ -85,54 +99,58 @@ fn update(header: Header, body: &[u64]) -> Result<Rec, BadRec>
     if header.txn == 0 || account >= MOST_ACCOUNTS || delta == 0 || delta == i32::MIN {
         return Err(BadRec);
     }
-    Ok(Rec::Update {
+    *rec = Rec::Update {
         txn: header.txn,
         account,
         delta,
         prev: Lsn::new((*unit & 0xffff_ffff) as u32),
-    })
+    };
+    Ok(())
 }
 
-fn commit(header: Header, body: &[u64]) -> Result<Rec, BadRec>
+fn commit(header: Header, body: &[u64], rec: &mut Rec) -> Result<(), BadRec>
     requires kind { header.kind ≡ COMMIT }
     requires count { header.units ≡ 1 + length body.now }
-    ensures { Reads header body.now result }
+    ensures { Reads header body.now rec.new result }
 {
     if !is_end(header, body) {
         return Err(BadRec);
     }
-    Ok(Rec::Commit {
+    *rec = Rec::Commit {
         txn: header.txn,
         legs: header.field as u32,
-    })
+    };
+    Ok(())
 }
 
-fn short(header: Header, body: &[u64]) -> Result<Rec, BadRec>
+fn short(header: Header, body: &[u64], rec: &mut Rec) -> Result<(), BadRec>
     requires kind { header.kind ≡ SHORT }
     requires count { header.units ≡ 1 + length body.now }
-    ensures { Reads header body.now result }
+    ensures { Reads header body.now rec.new result }
 {
     if !is_end(header, body) {
         return Err(BadRec);
     }
-    Ok(Rec::Short {
+    *rec = Rec::Short {
         txn: header.txn,
         leg: header.field as u32,
-    })
+    };
+    Ok(())
 }
 
-fn over(header: Header, body: &[u64]) -> Result<Rec, BadRec>
+fn over(header: Header, body: &[u64], rec: &mut Rec) -> Result<(), BadRec>
     requires kind { header.kind ≡ OVER }
     requires count { header.units ≡ 1 + length body.now }
-    ensures { Reads header body.now result }
+    ensures { Reads header body.now rec.new result }
 {
     if !is_end(header, body) {
         return Err(BadRec);
     }
-    Ok(Rec::Over {
+    *rec = Rec::Over {
         txn: header.txn,
         leg: header.field as u32,
-    })
+    };
+    Ok(())
 }
 
 /// The header alone, of a transaction and with legs, or a leg, in its field.
@@ -142,18 +160,19 @@ fn is_end(header: Header, body: &[u64]) -> bool
     header.txn != 0 && matches!(header.field, 1..=MOST_LEGS) && body.is_empty()
 }
 
-fn note(header: Header, body: &[u64]) -> Result<Rec, BadRec>
+fn note(header: Header, body: &[u64], rec: &mut Rec) -> Result<(), BadRec>
     requires kind { header.kind ≡ NOTE }
     requires count { header.units ≡ 1 + length body.now }
-    ensures { Reads header body.now result }
+    ensures { Reads header body.now rec.new result }
 {
     let len = header.field as usize;
     if header.txn == 0 || len == 0 || len > LONGEST_NOTE || body.len() != note_units(len) {
         return Err(BadRec);
     }
     let text = read_text(len, body)?;
-    Ok(Rec::Note {
+    *rec = Rec::Note {
         txn: header.txn,
         text,
-    })
+    };
+    Ok(())
 }

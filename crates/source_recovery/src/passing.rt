@@ -9,7 +9,7 @@ ghost use Rattle.log_recovery.specs.ListedRecords.{IsFront};
 ghost use Rattle.source_recovery.specs.Passing.{CanTake, EndsWith, IsShort, StopsAt};
 
 use lock_core::{JudgeFault, TakesRecords, Why};
-use log_record::read;
+use log_record::{Rec, read_into};
 use lsn_space::Lsn;
 
 /// Why no more records are taken.
@@ -52,8 +52,9 @@ pub(crate) fn read_records(units: &[u64], least: usize) -> &[u64]
     ensures bad { least ≤ length result.now → (rec : Rec) → BeginsWith result.now rec → ⊥ }
 {
     let mut rest = units;
+    let mut rec = Rec::Commit { txn: 1, legs: 1 };
     'records: while rest.len() >= least {
-        let Ok((_, size)) = read(rest) else {
+        let Ok(size) = read_into(rest, &mut rec) else {
             return rest;
         };
         rest = rest.split_at(size).1;
@@ -76,9 +77,10 @@ pub(crate) fn take_records<'a, T: TakesRecords>(
         → StopsAt T.has_taken least opening all result.0.now taker.new result.1 }
 {
     let mut rest = units;
+    let mut rec = Rec::Commit { txn: 1, legs: 1 };
     'records: while rest.len() >= least {
         let lsn = place_of(first, units, rest);
-        let Ok((rec, size)) = read(rest) else {
+        let Ok(size) = read_into(rest, &mut rec) else {
             return (rest, Stop::Bad { lsn });
         };
         rest = rest.split_at(size).1;

@@ -27,7 +27,7 @@ take-requires-clause-fits g c =
     let can = c.requires.taken in
     let front = c.records.invariant.taken can.0 can.1 can.2 in
     next_record-within_last g.T.TakesRecords.has_taken can.0 can.1 c.records.rest.now c.records.taker c.place_of-lsn.result front
-    (c.place_of-lsn.ensures ∙ can.2.place) c.in-Ok.rec LAST c.in-Ok.ensures.found.0 can.2.fits
+    (c.place_of-lsn.ensures ∙ can.2.place) c.read_into.new.rec LAST c.in-Ok.ensures.found.0 can.2.fits
 
 pub records-init : goal.records-init
 records-init g c = record { ends = whole-EndsWith c.args.units.now; taken = λ opening all can. can.front }
@@ -40,7 +40,7 @@ records-preserved g c = record {
       let front = c.records.invariant.taken opening all can in
       let dropped = c.split_at.ensures.back ∙ ap (λ n. drop n c.records.rest.now) c.in-Ok.ensures.found.1 in
       taken-step g.T.TakesRecords.has_taken opening all c.records.rest.now c.records.taker c.place_of-lsn.result front
-      (c.place_of-lsn.ensures ∙ can.place) c.in-Ok.rec c.split_at.result.1.now c.in-Ok.ensures.found.0 dropped c.take.new.self
+      (c.place_of-lsn.ensures ∙ can.place) c.read_into.new.rec c.split_at.result.1.now c.in-Ok.ensures.found.0 dropped c.take.new.self
       (c.in-Ok-take.ensures.taken (opening_of opening) _ front.taken);
 }
 
@@ -69,6 +69,7 @@ returns-in-Err-Why-clause-stops g c = λ opening all can.
     let past = so_far g.T.TakesRecords.has_taken opening all c.records.rest.now c.records.taker c.place_of-lsn.result front place in
     rw c.in-Err-Why.field-0-is
     (failing_record-FailsBefore g.T.TakesRecords.has_taken opening all c.records.rest.now c.records.taker c.place_of-lsn.result front place
-    c.in-Ok.rec c.split_at.result.1.now c.in-Ok.ensures.found.0 dropped c.in-Err-Why.why (g.met.T.TakesRecords.lawful _ _ _ front.taken)
-    (subst (IsTakeFault (opening_of opening) past (entry_at c.place_of-lsn.result c.in-Ok.rec)) c.in-Err-Why.field-0-is
+    c.read_into.new.rec c.split_at.result.1.now c.in-Ok.ensures.found.0 dropped c.in-Err-Why.why
+    (g.met.T.TakesRecords.lawful _ _ _ front.taken)
+    (subst (IsTakeFault (opening_of opening) past (entry_at c.place_of-lsn.result c.read_into.new.rec)) c.in-Err-Why.field-0-is
     (c.in-Err-Why.ensures.fault (opening_of opening) _ front.taken)))
