@@ -1,19 +1,16 @@
 -- What a ledger knows of a transaction that has no end record, and answers on an Update of it and on what may end it.
-use Rattle.std.proofs.Common.{◌≡◌, ◌≢◌, ◌<◌, ◌≤◌, ℕ, ◌+◌, ◌-◌, ◌*◌, true, false, true≢false, List, [], ◌∷◌, length, refl, ap, ◌∙◌, sym, subst, arith}
+use Rattle.std.proofs.Common.{◌≡◌, ◌≢◌, ◌<◌, ◌≤◌, ℕ, ◌+◌, ◌-◌, ◌*◌, false, List, [], ◌∷◌, length, refl, ap, ◌∙◌, sym, subst, arith}
 use Rattle.std.specs.List.{AllByRecursion}
 use Rattle.log_record.specs.declared.limits.TheConstants.{MOST_LEGS}
-use Rattle.log_record.specs.declared.rec.Rec.{Rec}
 use Rattle.log_record.specs.declared.rec.Placed.{Placed}
-use Rattle.log_record.specs.declared.rec.Rec.TheVariants.{Genesis, Update, Commit, Short, Over, Note}
+use Rattle.log_record.specs.declared.rec.Rec.TheVariants.{Commit, Short, Over}
 use Rattle.lsn_space.specs.Accounts.{Accounts}
 use Rattle.lock_core.specs.declared.reason.JudgeFault.{JudgeFault}
-use Rattle.lock_core.specs.declared.reason.JudgeFault.TheVariants as fault
 use Rattle.lock_core.specs.declared.reason.Why.TheVariants as why
 use Rattle.lock_core.specs.declared.update.Change.{Change}
 use Rattle.lock_core.specs.declared.update_links.UpdateLink.{UpdateLink}
 use Rattle.lock_core.specs.declared.transactions.Transactions.{Transactions}
 use Rattle.lock_core.specs.declared.ledger.Ledger.{Ledger}
-use Rattle.lock_core.specs.Records.{txn_of, ends}
 use Rattle.lock_core.specs.Transactions.{own_records_of, updates_of, has_end}
 use Rattle.lock_core.specs.Sums.{Opening}
 use Rattle.lock_core.specs.Tests.{IsPaired}
@@ -21,7 +18,7 @@ use Rattle.lock_core.specs.Lawful.{Passes}
 use Rattle.lock_core.specs.Faults.{IsFirstFailing}
 use Rattle.lock_core.specs.AccountRows.{row, LeavesSome}
 use Rattle.lock_core.specs.Judging.{IsCommitting}
-use Rattle.lock_core.specs.KeptLedger.{update_at, no_link, link_at, IsOpenAt, IsEndFault, KeepsTransactions, KeepsLedger}
+use Rattle.lock_core.specs.KeptLedger.{update_at, link_at, IsOpenAt, IsEndFault, KeepsTransactions, KeepsLedger}
 use Rattle.lock_core.specs.Taking.{IsTakeFault}
 use Rattle.lock_core.proofs.ChainLemmas.{chain-count, paired_chain-paired_newest, paired_newest-paired_chain}
 use Rattle.lock_core.proofs.KindLemmas.{updates_of-accounts_have_rows}

@@ -1,5 +1,5 @@
 -- What a judge keeps of the history that it took.
-use Rattle.std.specs.Prelude.{◌≡◌, ◌≢◌, ◌<◌, ◌⊎◌, ℕ, ◌+◌, pos, true, false, List, [], ◌∷◌, length, slice_index_or, IsTrue, ◌↔◌}
+use Rattle.std.specs.Prelude.{◌≡◌, ◌≢◌, ◌<◌, ◌≤◌, ◌⊎◌, ℕ, ◌+◌, pos, true, false, List, [], ◌∷◌, length, slice_index_or, IsTrue, ◌↔◌}
 use Rattle.std.specs.List.{AllByRecursion}
 use Rattle.log_record.specs.declared.rec.Rec.{Rec}
 use Rattle.log_record.specs.declared.rec.Rec.TheVariants.{Update}
@@ -47,11 +47,18 @@ pub record KeepsRecords (links : List UpdateLink) (place : ℕ) (records : List 
   pub ended : place ≡ ENDED → has_end records ≡ true
   pub unended : place ≢ ENDED → IsOpenAt links place records
 
+-- no more transactions than are counted, and fewer than there are places, have an Update and no end record: each is one of these
+pub record AreActive (txns : Transactions) (list : List ℕ) : Type 0 where
+  pub count : length list ≤ txns.active
+  pub fits : txns.active < length txns.updates
+  pub others : (txn : ℕ) → AllByRecursion (λ one. one ≢ txn) list → (value_at txns.newest txn ≡ 0) ⊎ (value_at txns.newest txn ≡ ENDED)
+
 -- what is kept of the transactions of a history
 pub record KeepsTransactions (txns : Transactions) (h : List Placed) : Type 0 where
   pub some : 0 < length txns.updates
   pub first : link_at txns.updates 0 ≡ no_link
   pub each : (txn : ℕ) → KeepsRecords txns.updates (value_at txns.newest txn) (own_records_of txn h)
+  pub active : (list : List ℕ) × AreActive txns list
 
 -- why a transaction takes no end record: it has one, which is told by this, or memory is wanting
 abbrev pub IsEndFault : Type 0 → JudgeFault → Type 0

@@ -36,30 +36,19 @@ fn loss(change: &Change, account: u32) -> u32
     }
 }
 
-/// What the changes add to the account.
-fn gains(changes: &[Change], account: u32) -> u64
+/// What the changes add to the account, and what they take from it.
+fn moves(changes: &[Change], account: u32) -> (u64, u64)
     requires { length changes.now ≤ 2 * MOST_LEGS }
-    ensures sum { result ≡ moved gain account changes.now }
-    ensures small { result < 2 ^ 36 }
+    ensures gains { (result.0 ≡ moved gain account changes.now) × (result.0 < 2 ^ 36) }
+    ensures losses { (result.1 ≡ moved loss account changes.now) × (result.1 < 2 ^ 36) }
 {
-    let mut sum = 0;
+    let mut gains = 0;
+    let mut losses = 0;
     for change in changes {
-        sum += u64::from(gain(change, account));
+        gains += u64::from(gain(change, account));
+        losses += u64::from(loss(change, account));
     }
-    sum
-}
-
-/// What the changes take from the account.
-fn losses(changes: &[Change], account: u32) -> u64
-    requires { length changes.now ≤ 2 * MOST_LEGS }
-    ensures sum { result ≡ moved loss account changes.now }
-    ensures small { result < 2 ^ 36 }
-{
-    let mut sum = 0;
-    for change in changes {
-        sum += u64::from(loss(change, account));
-    }
-    sum
+    (gains, losses)
 }
 
 fn touches(changes: &[Change], account: u32) -> bool
@@ -75,9 +64,8 @@ fn balance_after(balance: u32, changes: &[Change], account: u32) -> Option<u32>
     ensures { MatchOption result (LeavesRange changes.now account balance)
         (λ after. IsBalance after × IsBalanceAfter changes.now account balance after) }
 {
-    let after = (u64::from(balance) + gains(changes, account)).checked_sub(losses(
-        changes, account,
-    ))?;
+    let (gains, losses) = moves(changes, account);
+    let after = (u64::from(balance) + gains).checked_sub(losses)?;
     if after <= u64::from(MOST_BALANCE) {
         Some(after as u32)
     } else {

@@ -124,11 +124,7 @@ impl Ledger {
                 };
                 self.take_update(*txn, change)
             }
-            Rec::Commit { txn, legs } => {
-                let mut changes = ArrayVec::new();
-                let end = Lsn::new(lsn.units() + 1);
-                self.take_commit(*txn, *legs, end, &mut changes)
-            }
+            Rec::Commit { txn, legs } => self.take_commit_alone(*txn, *legs, lsn),
             Rec::Short { txn, leg } => self.take_refusal(*txn, *leg),
             Rec::Over { txn, leg } => self.take_refusal(*txn, *leg),
             Rec::Note { txn, .. } => self.take_note(*txn),
@@ -178,6 +174,18 @@ impl Ledger {
             Ok(()) => Ok(()),
             Err(NoMemory) => Err(JudgeFault::NoMemory),
         }
+    }
+
+    /// Takes the Commit that starts at `lsn`. Its list of changes is made here, as `take` would clear it for each record.
+    fn take_commit_alone(&mut self, txn: u32, legs: u32, lsn: Lsn) -> Result<(), JudgeFault>
+        requires kept { (opening : Opening) × (h : List Placed) × KeepsLedger opening self.old h }
+        requires legs { IsLeg legs }
+        requires fits { lsn < LAST }
+        ensures { TakesEntry self.old self.new (lsn + 1) (Rec.Commit txn legs) result }
+    {
+        let mut changes = ArrayVec::new();
+        let end = Lsn::new(lsn.units() + 1);
+        self.take_commit(txn, legs, end, &mut changes)
     }
 
     /// Takes a Commit that ends here. What the Updates of its transaction say, newest first, is put into the list that is lent: what

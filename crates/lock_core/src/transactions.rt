@@ -22,6 +22,9 @@ use txn_tables::TxnTable;
 pub struct Transactions {
     newest: TxnTable,
     updates: UpdateLinks,
+
+    /// How many transactions have an Update and no end record.
+    active: u32,
 }
 
 impl Transactions {
@@ -33,6 +36,7 @@ impl Transactions {
         Ok(Transactions {
             newest: TxnTable::new(alloc),
             updates,
+            active: 0,
         })
     }
 
@@ -66,7 +70,8 @@ impl Transactions {
         self.updates.chain(place, changes);
     }
 
-    /// Takes an Update of a transaction, which has so many with it, and the one before it at this place.
+    /// Takes an Update of a transaction, which has so many with it, and the one before it at this place. Where no transaction is active
+    /// nobody needs the Updates that are kept, so their places are used again.
     pub fn push(&mut self, txn: u32, place: u32, count: u32, change: Change) -> Result<(), NoMemory>
         requires account { IsAccount change.account }
         requires count { count ≤ MOST_UPDATES }
@@ -74,13 +79,19 @@ impl Transactions {
             → IsOpenAt self.old.updates place (own_records_of txn h) → count ≡ length (updates_of txn h) + 1
             → KeepsTransactions self.new (update_at end txn change ∷ h)) }
     {
+        if self.active == 0 {
+            self.updates.clear();
+        }
         let link = UpdateLink {
             change,
             count,
             older: place,
         };
-        let place = self.updates.push(link)?;
-        match self.newest.put(txn, place) {
+        let newest = self.updates.push(link)?;
+        if place == 0 {
+            self.active = self.active.saturating_add(1);
+        }
+        match self.newest.put(txn, newest) {
             Ok(_) => Ok(()),
             Err(NoMemory) => Err(NoMemory),
         }
@@ -103,6 +114,9 @@ impl Transactions {
         };
         if place == ENDED {
             return Err(JudgeFault::Why(Why::Ended));
+        }
+        if place != 0 {
+            self.active = self.active.saturating_sub(1);
         }
         Ok(place)
     }

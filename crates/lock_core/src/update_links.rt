@@ -1,6 +1,6 @@
 //! The Updates that a judge keeps, each linked to the one before it of its transaction.
 
-ghost use Rattle.std.specs.Prelude.{◌≡◌, ◌<◌, ◌≤◌, ◌++◌, ◌∷◌, [], List, length, IfOk, MatchOption};
+ghost use Rattle.std.specs.Prelude.{◌≡◌, ◌<◌, ◌≤◌, ◌++◌, ◌∷◌, [], List, length, take, IfOk, MatchOption};
 ghost use Rattle.log_record.specs.Spelling.{IsAccount};
 ghost use Rattle.lock_core.specs.declared.update.Change.{Change};
 ghost use Rattle.lock_core.specs.declared.update.TheConstants.{MOST_UPDATES};
@@ -146,6 +146,13 @@ impl UpdateLinks {
             Ok(()) => Ok(place),
             Err(_) => Err(NoMemory),
         }
+    }
+
+    /// Drops all Updates, and keeps place 0.
+    pub fn clear(&mut self)
+        ensures { self.new ≡ take 1 self.old }
+    {
+        self.links.truncate(1);
     }
 
     /// What the Updates of a transaction say, the newest of which stands at this place, newest first.

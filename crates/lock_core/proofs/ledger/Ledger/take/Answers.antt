@@ -1,7 +1,7 @@
-use Rattle.std.proofs.Common.{ℤ, ◌∙◌, ap, subst, sym, rules, w32, SFits}
+use Rattle.std.proofs.Common.{ℤ, subst, sym, rules, w32, SFits}
 use Rattle.std.proofs.lemmas.Int.{to_z-of_z}
 use Rattle.log_record.specs.declared.rec.Rec.{Rec}
-use Rattle.log_record.specs.declared.rec.Rec.TheVariants.{Update, Commit}
+use Rattle.log_record.specs.declared.rec.Rec.TheVariants.{Update}
 use Rattle.std.specs.Prelude.{◌+◌, length}
 use Rattle.log_record.specs.Spelling.{spelling}
 use Rattle.lock_core.specs.Taking.{TakesEntry}
@@ -16,6 +16,5 @@ returns-in-Update c =
 
 pub returns-in-Commit : goal.returns-in-Commit
 returns-in-Commit c =
-    let taken = subst (λ end. TakesEntry c.args.self.now c.take_commit.new.self end (Commit c.in-Commit.txn c.in-Commit.legs) c.take_commit.result)
-    (c.new-end.ensures ∙ ap (λ units. units + 1) c.units.ensures) c.take_commit.ensures.taken in
-    subst (λ (rec : Rec). TakesEntry c.args.self.now c.take_commit.new.self (c.args.lsn + length (spelling rec)) rec c.take_commit.result) (sym c.in-Commit.is) taken
+    subst (λ (rec : Rec). TakesEntry c.args.self.now c.take_commit_alone.new.self (c.args.lsn + length (spelling rec)) rec c.take_commit_alone.result)
+    (sym c.in-Commit.is) c.take_commit_alone.ensures

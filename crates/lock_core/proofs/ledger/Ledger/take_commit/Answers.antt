@@ -1,4 +1,4 @@
-use Rattle.std.proofs.Common.{◌∙◌, ap, cond, arith, refl, true≢false, sym, length, rules, ◌≡◌}
+use Rattle.std.proofs.Common.{◌∙◌, ap, cond, arith, refl, true≢false, sym, rules, ◌≡◌}
 use Rattle.std.specs.Prelude.{◌∷◌, []}
 use Rattle.std.proofs.lemmas.Result.{err_from_is_err_and}
 use Rattle.log_record.specs.declared.rec.Placed.{Placed}

@@ -1,4 +1,4 @@
-use Rattle.std.proofs.Common.{◌∙◌, arith, refl, rules, ◌≡◌}
+use Rattle.std.proofs.Common.{arith, refl, rules, ◌≡◌}
 use Rattle.std.proofs.lemmas.Result.{err_from_is_err_and}
 use Rattle.log_record.specs.declared.rec.Rec.TheVariants.{Short, Over}
 use Rattle.lock_core.proofs.OpenLemmas.{newest-counts_updates_of, end_fault-short_take_fault, end_fault-over_take_fault, short-taken, over-taken}

@@ -1,5 +1,4 @@
-use Rattle.std.proofs.Common.{◌∙◌, ◌<◌, ◌+◌, ◌*◌, add-one, arith, refl, true≢false, sym}
-use Rattle.std.specs.Prelude.{[], ◌∷◌}
+use Rattle.std.proofs.Common.{◌∙◌, add-one, arith, refl, true≢false, sym}
 use Rattle.log_record.specs.declared.rec.Rec.TheVariants.{Update}
 use Rattle.lock_core.proofs.OpenLemmas.{open_update-fails_legs, open_update-fails_pair, open_update-fails_prev, update-taken}
 use Rattle.lock_core.proofs.TakingLemmas.{some_rows-some_account_or_record, no_accounts-fails_genesis}
