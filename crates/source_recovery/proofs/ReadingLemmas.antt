@@ -117,12 +117,14 @@ module _ (begin : ℕ) (old bytes new : List ℕ) (count : ℕ) (batch_taken : T
 -- ---- readers
 
 -- a part of the window is passed
-part-passed : (first now : Option (List ℕ)) (old new : WindowView) (passed part : List ℕ) → HasPassed first now old passed
-    → old.ahead ≡ part ++ new.ahead → new.ended ≡ old.ended → HasPassed first now new (passed ++ part)
-part-passed first now old new passed part before whole ended = record {
-  given = subst (Consumes first now) (ap (λ list. passed ++ list) whole ∙ sym (append_assoc passed part new.ahead)) before.given;
-  end = λ is. before.end (sym ended ∙ is);
-}
+part-passed : (first now : Option (List ℕ)) (old new : WindowView) (passed part rest : List ℕ) → HasPassed first now old passed
+    → old.ahead ≡ part ++ rest → new ≡ record old { ahead = rest } → HasPassed first now new (passed ++ part)
+part-passed first now old new passed part rest before whole left =
+    let ahead : new.ahead ≡ rest = ap (λ (w : WindowView). w.ahead) left in record {
+      given = subst (Consumes first now)
+          (ap (λ list. passed ++ list) (whole ∙ ap (λ list. part ++ list) (sym ahead)) ∙ sym (append_assoc passed part new.ahead)) before.given;
+      end = λ is. before.end (sym (ap (λ (w : WindowView). w.ended) left) ∙ is);
+    }
 
 -- behind a front
 pub front-HasReadLog : (first now : Option (List ℕ)) (window : WindowView) (reader : ReaderView) (opening : Opening) (units : List ℕ)
@@ -131,9 +133,7 @@ pub front-HasReadLog : (first now : Option (List ℕ)) (window : WindowView) (re
     → HasReadLog first now reader (record { opening = opening; units = units })
 front-HasReadLog first now window reader opening units count before taken within left at next = record {
   passed = taken.front;
-  given = part-passed first now window reader.window [] taken.front before
-      (taken.whole ∙ ap (λ list. taken.front ++ list) (sym (ap (λ (w : WindowView). w.ahead) left)))
-      (ap (λ (w : WindowView). w.ended) left);
+  given = part-passed first now window reader.window [] taken.front (drop count window.ahead) before taken.whole left;
   reads = front-ReadsTo window.ahead units (drop count window.ahead) opening taken;
   at = at ∙ sym (taken_front-count window.ahead units opening count taken within);
   next = next;
@@ -158,10 +158,8 @@ batch-HasReadLog first now old new log begin units units_new count taken read st
     let end = gated-end begin units old.window.ahead units_new count taken in
     record {
       passed = read.passed ++ gated more;
-      given = part-passed first now old.window new.window read.passed (gated more) read.given
-          (gated-whole begin units old.window.ahead units_new count taken
-          ∙ ap (λ list. gated more ++ list) (sym (ap (λ (w : WindowView). w.ahead) left)))
-          (ap (λ (w : WindowView). w.ended) left);
+      given = part-passed first now old.window new.window read.passed (gated more) (drop count old.window.ahead) read.given
+          (gated-whole begin units old.window.ahead units_new count taken) left;
       reads = reads_to-batch_more read.passed more log read.reads taken.taken.counted
           (omega (arith, taken.taken.total, end, start, read.next));
       at = omega (

@@ -9,11 +9,18 @@ use Rattle.source_recovery.specs.declared.passing.Stop.{Stop}
 use Rattle.source_recovery.specs.declared.passing.Stop.TheVariants as stop
 use Rattle.source_recovery.specs.declared.records.State.{State}
 use Rattle.source_recovery.specs.declared.records.State.TheVariants as state
-use Rattle.source_recovery.specs.Taker.{IsBadFor}
+use Rattle.source_recovery.specs.declared.records.UnitsTaker.{UnitsTaker}
+use Rattle.source_recovery.specs.Taker.{HasTakenTo, IsBadFor, StandsAt}
 
 -- some units stand before this rest
 abbrev pub EndsWith : List ℕ → List ℕ → Type 0
 EndsWith units rest = (front : List ℕ) × (units ≡ front ++ rest)
+
+-- where the taker stood before these units it stands before their rest, but that a place at which no record begins may have fewer units
+-- behind it
+abbrev pub PassesTo : {T : Type 0} → (sums.Opening → T → List Placed → Type 0) → ℕ → List ℕ → List ℕ → UnitsTaker T → UnitsTaker T → Type 0
+PassesTo HasTaken least units rest old new = EndsWith units rest
+    × ((opening : Opening) (all : List ℕ) → HasTakenTo HasTaken opening all units old → StandsAt HasTaken least opening all rest new)
 
 -- the records before this rest of all units are taken, and the rest begins at this LSN
 pub record CanTake {T : Type 0} (HasTaken : sums.Opening → T → List Placed → Type 0) (opening : Opening) (all rest : List ℕ) (lsn : ℕ)
@@ -29,7 +36,7 @@ StopsAt HasTaken least opening all rest taker (stop.Bad lsn) = IsBadFor least op
 StopsAt HasTaken least opening all rest taker (stop.Failed lsn why) = FailsBefore opening all rest lsn why
 StopsAt HasTaken least opening all rest taker stop.NoMemory = Unit {0}
 
--- fewer units than this are left, unless more aren't taken
+-- fewer units than this are left, where that is why no more is taken
 abbrev pub IsShort : ℕ → List ℕ → Stop → Type 0
 IsShort least rest stop.Few = length rest < least
 IsShort least rest stop' = Unit {0}

@@ -23,7 +23,7 @@ pub record HasFailed (opening : Opening) (all rest : List ℕ) (lsn : ℕ) (why 
   pub fails : FailsBefore opening all from lsn why
   pub front : IsFront from rest
 
--- what the units before the rest say; from a place at which no record begins on there are at least so many
+-- what the units before the rest say; where no record begins at a place, at least so many units stand from there on
 abbrev pub HasState : {T : Type 0} → (sums.Opening → T → List Placed → Type 0) → ℕ → Opening → List ℕ → List ℕ → State T → Type 0
 HasState HasTaken least opening all rest (state.Taking taker) = HasTakenFront HasTaken opening all rest taker
 HasState HasTaken least opening all rest (state.Failed lsn why) = HasFailed opening all rest lsn why
@@ -39,3 +39,7 @@ pub record StandsAt {T : Type 0} (HasTaken : sums.Opening → T → List Placed 
 -- the same where more units may come: where no record begins there are as many as the longest has, so none begins with more behind
 abbrev pub HasTakenTo : {T : Type 0} → (sums.Opening → T → List Placed → Type 0) → Opening → List ℕ → List ℕ → UnitsTaker T → Type 0
 HasTakenTo HasTaken opening all rest taker = StandsAt HasTaken LONGEST_RECORD opening all rest taker
+
+-- the units are the rest of some, before which the taker stands
+abbrev pub AreNext : {T : Type 0} → (sums.Opening → T → List Placed → Type 0) → List ℕ → UnitsTaker T → Type 0
+AreNext HasTaken units taker = (opening : Opening) × (all : List ℕ) × HasTakenTo HasTaken opening all units taker

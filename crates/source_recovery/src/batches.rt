@@ -197,7 +197,7 @@ fn await_next<S: Source>(window: &mut Window, source: &mut S) -> Result<(), Read
     Ok(())
 }
 
-/// Whether the bytes hold a gate that isn't open, or an open one and the whole batch behind it, whatever follows.
+/// True only where the bytes tell whether a gate is open, and hold the whole batch behind it, if there is one, whatever follows.
 fn has_next(bytes: &[u8]) -> bool
     ensures { result ≡ true → (rest : List ℕ) → TellsNext bytes.now rest }
 {

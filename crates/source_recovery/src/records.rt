@@ -5,8 +5,8 @@ ghost use Rattle.log_record.specs.declared.units.TheConstants.{LONGEST_RECORD};
 ghost use Rattle.lsn_space.specs.Opening.{Opening, IsSnapshot};
 ghost use Rattle.lsn_space.specs.declared.lsn.TheConstants.{LAST};
 ghost use Rattle.log_recovery.specs.JudgedUnits.{HasTakenUnits, IsUnitsFaultOf};
-ghost use Rattle.source_recovery.specs.Passing.{EndsWith, ReadsFew, TakesFew};
-ghost use Rattle.source_recovery.specs.Taker.{HasTakenTo, StandsAt};
+ghost use Rattle.source_recovery.specs.Passing.{EndsWith, PassesTo, ReadsFew, TakesFew};
+ghost use Rattle.source_recovery.specs.Taker.{AreNext, HasTakenTo, StandsAt};
 
 use crate::passing::{Stop, leave_out, place_of, read_records, take_records};
 use lock_core::{TakesRecords, Why};
@@ -51,10 +51,10 @@ impl<T: TakesRecords> UnitsTaker<T> {
         })
     }
 
-    /// Takes the records that are whole among these units, of which more may come, and leaves fewer units than the longest record
+    /// Takes records of these units, of which more may come, until fewer units are left than the longest record
     /// has. After a fault the taker is spent.
     pub fn take(&mut self, units: &mut Vec<u64>) -> Result<(), NoMemory>
-        requires { (opening : Opening) × (all : List ℕ) × HasTakenTo T.has_taken opening all units.old.items self.old }
+        requires { AreNext T.has_taken units.old.items self.old }
         ensures few { IfOk result (λ _. length units.new.items < LONGEST_RECORD) }
         ensures taken { IfOk result (λ _. (opening : Opening) (all : List ℕ)
             → HasTakenTo T.has_taken opening all units.old.items self.old → HasTakenTo T.has_taken opening all units.new.items self.new) }
@@ -67,7 +67,7 @@ impl<T: TakesRecords> UnitsTaker<T> {
 
     /// Takes the records of the rest of the units, of which no more come, and hands out what has taken them all.
     pub fn finish(mut self, units: &[u64]) -> Result<T, UnitsFault>
-        requires { (opening : Opening) × (all : List ℕ) × HasTakenTo T.has_taken opening all units.now self }
+        requires { AreNext T.has_taken units.now self }
         ensures taken { (opening : Opening) (all : List ℕ) → HasTakenTo T.has_taken opening all units.now self
             → IfOk result (HasTakenUnits T.has_taken opening all) }
         ensures fault { (opening : Opening) (all : List ℕ) → HasTakenTo T.has_taken opening all units.now self
@@ -96,13 +96,11 @@ impl<T: TakesRecords> UnitsTaker<T> {
 
     /// Passes units until fewer than so many are left.
     fn pass<'a>(&mut self, units: &'a [u64], least: usize) -> Result<&'a [u64], NoMemory>
-        requires taken { (opening : Opening) × (all : List ℕ) × HasTakenTo T.has_taken opening all units.now self.old }
+        requires taken { AreNext T.has_taken units.now self.old }
         requires some { 0 < least }
         requires most { least ≤ LONGEST_RECORD }
-        ensures ends { IfOk result (λ rest. EndsWith units.now rest.now) }
         ensures few { IfOk result (λ rest. length rest.now < least) }
-        ensures taken { IfOk result (λ rest. (opening : Opening) (all : List ℕ) → HasTakenTo T.has_taken opening all units.now self.old
-            → StandsAt T.has_taken least opening all rest.now self.new) }
+        ensures passed { IfOk result (λ rest. PassesTo T.has_taken least units.now rest.now self.old self.new) }
     {
         let taken = self.take_on(units, least)?;
         let rest = self.read_on(taken, least);
@@ -116,13 +114,11 @@ impl<T: TakesRecords> UnitsTaker<T> {
 
     /// Takes records while at least so many units are left, unless one of them failed before.
     fn take_on<'a>(&mut self, units: &'a [u64], least: usize) -> Result<&'a [u64], NoMemory>
-        requires taken { (opening : Opening) × (all : List ℕ) × HasTakenTo T.has_taken opening all units.now self.old }
+        requires taken { AreNext T.has_taken units.now self.old }
         requires some { 0 < least }
         requires most { least ≤ LONGEST_RECORD }
-        ensures ends { IfOk result (λ rest. EndsWith units.now rest.now) }
         ensures few { IfOk result (λ rest. TakesFew least rest.now self.new.state) }
-        ensures taken { IfOk result (λ rest. (opening : Opening) (all : List ℕ) → HasTakenTo T.has_taken opening all units.now self.old
-            → StandsAt T.has_taken least opening all rest.now self.new) }
+        ensures passed { IfOk result (λ rest. PassesTo T.has_taken least units.now rest.now self.old self.new) }
     {
         let State::Taking(taker) = &mut self.state else {
             return Ok(units);

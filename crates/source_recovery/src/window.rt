@@ -19,7 +19,7 @@ const PIECE: usize = 65536;
 /// and `MOST_UNITS` units of eight bytes. A head has fewer.
 pub const FULL: usize = 12 + 8 * MOST_UNITS as usize;
 
-/// Why a source was not read to its end.
+/// Why a source was not read on.
 #[derive(Clone, Copy, Debug, PartialEq, Eq)]
 pub enum ReadFault {
     Failed,

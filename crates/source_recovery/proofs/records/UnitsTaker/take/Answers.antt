@@ -11,6 +11,6 @@ returns-clause-taken g c = λ opening all to.
     let after = c.leave_out.new.units.items in
     let left = subst (λ items. after ≡ drop (c.len-count.result - length rest) items) (sym c.as_slice.ensures.value) c.leave_out.ensures in
     subst (λ rest'. StandsAt g.T.TakesRecords.has_taken LONGEST_RECORD opening all rest' c.pass.new.self)
-    (sym (left_out-rest units rest after c.len-count.result c.in_ok-left.ensures.ends (search rules) left))
-    (c.in_ok-left.ensures.taken opening all
+    (sym (left_out-rest units rest after c.len-count.result c.in_ok-left.ensures.passed.0 (search rules) left))
+    (c.in_ok-left.ensures.passed.1 opening all
     (subst (λ items. HasTakenTo g.T.TakesRecords.has_taken opening all items c.args.self.now) (sym c.as_slice.ensures.value) to))
