@@ -58,7 +58,7 @@ pub fn new_is_recovered()
 {}
 
 /// A law: `recover` reads what `run` left. It finds no fault in it, and what it writes of it is the text of the opened list and
-/// the front that the bytes hold. So it does where the bytes hold the opened list alone.
+/// the prefix that the bytes hold. Nor does it find a fault in any lawful list, such as the opened one alone.
 pub fn run_is_recovered()
     ensures status { (bytes : List ℕ) (list : OpenedList) (left old new : Option (List ℕ)) (detail : Detail)
         → HoldsLawful bytes list → AnswersRecover bytes left old new detail → status_of detail ≢ 7 }
@@ -67,9 +67,9 @@ pub fn run_is_recovered()
         → Appends old new (accounts_text (with_records opened held.front)) }
 {}
 
-/// A law: what is known of a run once all seats are gathered is what it promises. Of the records that it inserted, in order,
-/// each image holds a front behind the opened list, and all of them where the log was drained. A stop word that a worker
-/// read is the fault's, and a fault has its reason.
+/// A law: what is known of a run once all seats are gathered gives what it promises. Of the records that it inserted, in order,
+/// each image holds a prefix behind the opened list, and all of them where the log was drained. A stop word cut a worker
+/// off only where there is a fault, and a fault has its reason.
 pub fn run_keeps_log<D: LogDisk, K: Sink>()
     ensures keeps { (opened : OpenedList) (jobs : NumberedJobs) (front : ℕ) (shares : List Share) (key : Start)
         (old new : Daemon D K D.LogDisk K.Sink) (view : View) (lsn : ℕ) (rows : List (ℕ × ℕ))
@@ -136,7 +136,7 @@ pub fn total_at_the_log_end()
 {}
 
 /// A law: a `done` line that was written whole is of a Commit in the list of each image, which ends at the LSN of the line.
-/// `text` says so of a front of the text of an image's list, `image` of what a run told its sink. One transfer was told: `met`.
+/// `text` says so of a prefix of the text of an image's list, `image` of what a run told its sink. One transfer was told: `met`.
 pub fn told_commits_are_held<D: LogDisk>()
     ensures text { (bytes text rest : List ℕ) (opened : OpenedList) (front : List Rec) (txn end : ℕ)
         → HoldsLawful bytes (with_records opened front)
@@ -147,7 +147,7 @@ pub fn told_commits_are_held<D: LogDisk>()
     ensures met { HasToldPayment }
 {}
 
-/// A witness that the premises of the law on runs can be met, all at once: over the table of any daemon whose seat is of it two workers
+/// A witness that the premises of `run_keeps_log` can be met, all at once: over any daemon's table, to which its seat belongs, two workers
 /// make one transfer; and with any number of slots two workers find no room for theirs at the end of the log, and leave a third.
 pub fn one_payment_is_made()
     ensures made { (d : Daemon ℕ (List ℕ) (plain_disk file_at) plain_sink) → IsOf d.flusher.table.now d.flusher.seat → HasMadePayment d }
@@ -155,7 +155,7 @@ pub fn one_payment_is_made()
 {}
 
 /// A law: the summary of generated transfers is told by their number and seed, in whatever order they ran. The list of their
-/// accounts opens them.
+/// accounts leaves such a base as they run over: `opening`, `start`.
 pub fn summary_in_any_order()
     ensures text { (n seed first : ℕ) (base : BaseState) (records : List Rec) (rows : List (ℕ × ℕ)) → n ≤ MOST_GENERATED
         → OpensGenerated base → base.end ≡ 2 * GENERATED_ACCOUNTS

@@ -61,7 +61,7 @@ pub record HasFed {D : Type 0} (g : Ghosts D) (base : Base D) (left left_new : O
   pub taken : Consumes left left_new fed
   pub follows : Follows g base fed s
 
--- it has so from the standby that no byte had come to, and nothing is left of the input
+-- it has, and nothing is left of the input
 pub record HasFedAll {D : Type 0} (g : Ghosts D) (base : Base D) (left left_new : Option (List ℕ)) (s : Standby D) : Type 0 where
   pub has : HasFed g base left left_new s
   pub all : IfSome left (λ bytes. left_new ≡ Some [])
@@ -95,7 +95,7 @@ pub record StopsFeeding {D : Type 0} (g : Ghosts D) (base : Base D) (left left_n
   pub wrote : Wrote g base (frames ++ cut) disk
   pub faults : CountsWhere (detail ≡ Disk) (g.faults base.disk) (g.faults disk)
 
--- why the input wasn't read to its end: a read failed, or a standby went no further
+-- why the whole input wasn't followed: a read failed, or a standby went no further
 abbrev pub IsFeedingFault : Detail → Type 0
 IsFeedingFault detail = (detail ≡ Read) ⊎ ((fault : StandbyFault) × (stream_detail fault ≡ detail))
 
@@ -114,7 +114,7 @@ pub record FeedEnds {D S T : Type 0} (g : Ghosts D) (h : SourceGhosts S) (Made :
   pub read : CountsWhere (IsErrOf result Read) (h.faults input) (h.faults script_new)
   pub same : t.disk.ghost_name ≡ s.disk.ghost_name
 
--- what `follow` answers where nothing is written
+-- what `follow` answers where nothing is printed
 abbrev pub AnswersUnsaid : {D : Type 0} → Ghosts D → D → D → Option (List ℕ) → Option (List ℕ) → Detail → Type 0
 AnswersUnsaid g old new left left_new detail = (text : Option (List ℕ))
     → AnswersFollow g (outside old left text) (outside new left_new text) detail
@@ -123,7 +123,7 @@ AnswersUnsaid g old new left left_new detail = (text : Option (List ℕ))
 abbrev pub IsUnopened : Detail → Type 0
 IsUnopened detail = (detail ≡ Disk) ⊎ ((fault : RecoverFault) × (recover_detail fault ≡ detail))
 
--- why nothing is written
+-- why nothing is printed
 abbrev pub IsUnsaid : Detail → Type 0
 IsUnsaid detail = IsUnopened detail ⊎ IsFeedingFault detail
 

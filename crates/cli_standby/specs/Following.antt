@@ -52,7 +52,7 @@ IsCause opened left frames cut NoMemory = cut ≡ []
 IsCause opened left frames cut detail = ⊥
 
 -- It stopped behind these frames, which stay: each image holds the list with them, and the one in flight whole or not at all. Nothing was
--- written.
+-- printed.
 pub record Stopped {D : Type 0} (g : Ghosts D) (detail : Detail) (old new : Outside D) : Type 0 where
   pub opened : OpenedList
   pub frames : List (List Rec)

@@ -9,14 +9,14 @@ use Rattle.standby.specs.AppliedFrames.{HoldsFront}
 use Rattle.cli_shared.specs.Opening.{OnlyLooks}
 
 -- What a crash might have left at each moment: until this list was opened, an image of before; from then on, when the disk was this, the
--- list with a front of these frames.
+-- list with a prefix of these frames.
 pub record LeavesFronts {D : Type 0} (g : Ghosts D) (opened : OpenedList) (frames : List (List Rec)) (old new : D) : Type 0 where
   pub disk : D
   pub looks : OnlyLooks g old disk
   pub each : (c : List ℕ) → g.images disk c → HoldsLawful c opened
   pub moments : Leaves g.moment g.images_since (HoldsFront opened frames) disk new
 
--- Up to a moment, when the disk was this, it was only looked at. Whatever a crash leaves from then on holds a lawful list.
+-- Up to a moment, when the disk was this, it was only looked at. Whatever a crash might have left since holds a lawful list.
 pub record StaysALog {D : Type 0} (g : Ghosts D) (old new : D) : Type 0 where
   pub disk : D
   pub looks : OnlyLooks g old disk

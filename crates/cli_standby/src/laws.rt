@@ -14,8 +14,8 @@ ghost use Rattle.cli_standby.specs.Leaving.{StaysALog};
 use cli_shared::Detail;
 use log_disk::LogDisk;
 
-/// A law: where the input is a part of what is shipped of a log's list from the end of a front on, and the list that was opened is that
-/// front, what `follow` leaves in an image is a front of the list. So a standby is never ahead of the log that was shipped.
+/// A law: where the input is a prefix of what is shipped of a log's list from the end of a prefix on, and the list that was opened is
+/// that prefix, what `follow` leaves in an image is a prefix of the list. So a standby is never ahead of the log that was shipped.
 pub fn follows_what_was_shipped()
     ensures { (list : OpenedList) (before later : List Rec) (log input more : List ℕ) (frames : List (List Rec)) (image : List ℕ)
         → HoldsLawful log list → list.records ≡ before ++ later → input ++ more ≡ stream_of (list_end (with_front list before)) later
@@ -23,7 +23,7 @@ pub fn follows_what_was_shipped()
         → (front rest : List Rec) × (list.records ≡ before ++ front ++ rest) × HoldsLawful image (with_front list (before ++ front)) }
 {}
 
-/// A law: where `follow` didn't only look at the disk, it has opened a log, and whatever a crash leaves from that moment on holds a lawful
+/// A law: where `follow` didn't only look at the disk, it has opened a log, and whatever a crash might have left since holds a lawful
 /// list. So `recover` finds no fault in it (`run_is_recovered` of `cli_laws`).
 pub fn follow_leaves_a_log<D: LogDisk>()
     ensures { (old new : Outside D) (detail : Detail) → AnswersFollow D.LogDisk old new detail

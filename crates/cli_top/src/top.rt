@@ -64,7 +64,7 @@ pub fn aether<R: Threads + Wait + Clock + Sync, D: LogDisk, S: Source, K: Sink, 
     ensures untouched { (AsksNew words.now → ⊥) → (AsksRun words.now → ⊥) → (AsksDemo words.now → ⊥) → (AsksCut words.now → ⊥)
         → (AsksUpgrade words.now → ⊥) → (AsksFollow words.now → ⊥) → disk.new ≡ disk.old }
 
-    // `recover`: for the bytes of the input, the text that is written, and what is left of both; and a lawful list is recovered.
+    // `recover`: for the bytes of the input, the text that is written, and what is left of them; and a lawful list is recovered.
     ensures recover { IsCommandLine words.now Recover → IfSome (S.left script.old) (λ bytes.
         AnswersRecover bytes (S.left script.new) (K.held_bytes out.old) (K.held_bytes out.new) result.detail) }
     ensures of_recover { IsCommandLine words.now Recover → IsAnswerToRecover result.detail }
@@ -135,7 +135,7 @@ pub fn aether<R: Threads + Wait + Clock + Sync, D: LogDisk, S: Source, K: Sink, 
         → (Rose (K.faults out.old) (K.faults out.new) → ⊥) → (Rose (D.faults disk.old) (D.faults disk.new) → ⊥)
         → (result.detail ≡ Detail.Fine) ⊎ (result.detail ≡ Detail.NoMemory) }
 
-    // `cut` and `upgrade`: for the bytes of the input, which are those of another log, the text that is written, what a crash may leave of
+    // `cut` and `upgrade`: for the bytes of the input, meant to be another log's, the text that is written, what a crash may leave of
     // the disk, and how long its file gets.
     ensures cut { (log : List ℕ) → IsCommandLine words.now (Cut log)
         → DoesCut D.LogDisk S.Source K.Sink log (world disk.old script.old out.old) (world disk.new script.new out.new) result.detail }
@@ -181,7 +181,7 @@ pub fn aether<R: Threads + Wait + Clock + Sync, D: LogDisk, S: Source, K: Sink, 
         → (Rose (S.faults script.old) (S.faults script.new) → ⊥) → (Rose (K.faults out.old) (K.faults out.new) → ⊥)
         → (Rose (D.faults disk.old) (D.faults disk.new) → ⊥) → IsFollowDone result.detail) }
 
-    // By the commands other than `run` nothing is written but where all is fine or the writing failed.
+    // By the commands other than `run` nothing is printed but where all is fine or the writing failed.
     ensures silent { (AsksRun words.now → ⊥) → StaysSilent (K.held_bytes out.old) (K.held_bytes out.new) result.detail }
 
     // What is said of an honest disk may be said of it again at the next call.

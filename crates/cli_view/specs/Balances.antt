@@ -4,7 +4,7 @@ use Rattle.log_record.specs.declared.rec.Placed.{Placed}
 use Rattle.lock_core.specs.Sums.{Opening}
 use Rattle.ledger_view.specs.Entries.{balance_up_to}
 
--- the first rows are the balances of their accounts at the LSN
+-- the rows have the balances of the first accounts at the LSN
 abbrev pub AreBalances : Opening → List Placed → ℕ → List (ℕ × ℕ) → Type 0
 AreBalances opening h lsn rows =
     (account : ℕ) → account < length rows → balance_up_to opening h account lsn ≡ Some (slice_index_or rows account (0, 0)).0
