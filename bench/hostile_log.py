@@ -15,7 +15,7 @@ The kinds of numbers:
   far          one after another, from 2000000000 on
   colliding    in one place of the kit's HashMap, whose seed is no secret (bench/colliding.c finds them)
   deep         in groups of 16 that agree in all bits but their first four, in no order: in `txn_tables` the ways to such a group's
-               numbers part at the 9th node
+               numbers part at the 13th node
 
 It prints the processor time of `recover` in milliseconds, the system's included, and its ratio to that of numbers at random. Programs, kinds and rounds
 are taken in turn, so that what else the machine does falls on all of them. The status is 1 where a log of chosen numbers costs more than

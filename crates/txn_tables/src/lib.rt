@@ -1,4 +1,4 @@
-//! A number for each transaction, however its numbers were chosen.
+//! A number for each transaction, however the transactions' own numbers were chosen.
 #![tactic(auto)]
 
 mod node;

@@ -3,8 +3,8 @@
 ghost use Rattle.std.specs.Prelude.{◌≡◌, ℕ};
 ghost use Rattle.txn_tables.specs.Nodes.{ahead, Links};
 
-/// How many ways lead on from a node: one for each value of two bits.
-pub const WAYS: u32 = 4;
+/// How many ways lead on from a node: one for each value of a bit.
+pub const WAYS: u32 = 2;
 
 /// The number of a transaction, what is kept of it, and how many places further on the next node of each way stands, 0 where
 /// there is none.
@@ -36,7 +36,7 @@ impl Node {
         self.ways[(path % WAYS) as usize]
     }
 
-    /// From now on the search goes so many places further on, with this path left.
+    /// Has the search go so many places further on, with this path left.
     pub fn link(&mut self, path: u32, places: u32)
         ensures { Links self.old self.new path places }
     {

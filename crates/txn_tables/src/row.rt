@@ -37,7 +37,7 @@ impl Row {
         }
     }
 
-    /// Puts a number. The row becomes no longer than up to this place.
+    /// Puts a number. The row grows at most up to this place.
     pub fn put(&mut self, place: u32, number: u32) -> Result<(), NoMemory>
         ensures put { OnOk result (PutsNumber self.old self.new place number) }
         ensures kept { OnErr result (self.new.numbers.items ≡ self.old.numbers.items) }

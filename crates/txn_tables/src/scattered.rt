@@ -9,12 +9,12 @@ use crate::row::Row;
 use lsn_space::NoMemory;
 use std::alloc::Global;
 
-/// How many roots there are: one for each value of a number's last 12 bits.
-pub const ROOTS: u32 = 4096;
+/// How many roots there are: one for each value of a number's last 16 bits.
+pub const ROOTS: u32 = 65536;
 
 /// What is kept of transactions whose numbers may lie anywhere. Each has a node. The search for it begins at the root of the
-/// number's last 12 bits, and goes on from each node of another transaction by the next two bits, so that however the numbers
-/// are chosen, it passes no more than 10 nodes of others.
+/// number's last 16 bits, and goes on from each node of another transaction by the next bit, so that however the numbers are
+/// chosen, it passes no more than 16 nodes of others.
 #[derive(Drop)]
 pub struct Scattered {
     /// At which node the search for a number with these last bits begins, 1 for the first of all, 0 where there is none.
@@ -127,7 +127,7 @@ impl Scattered {
         Ok(())
     }
 
-    /// How many places behind this one the next node is appended. There is such a number as long as it has 32 bits.
+    /// How many places behind this one the next node is appended. There is such a number as long as it fits in 32 bits.
     fn places_from(&self, at: usize) -> Option<u32>
         requires { at < length self.now.nodes.items }
         ensures { MatchOption result (2 ^ 32 ≤ length self.now.nodes.items - at) (λ places. places ≡ length self.now.nodes.items - at) }

@@ -12,7 +12,7 @@ use std::alloc::Global;
 pub const FIRST_PLACES: u32 = 4096;
 
 /// A number for each transaction, 0 where none was put. Transactions from near the first that is put, up to a number that
-/// grows by two with each that is put there, get a place in a row. Others are kept as they are scattered, so that the memory
+/// grows by two with each that is put there, get a place in a row. Others are kept as scattered nodes, so that the memory
 /// is in proportion to what was put.
 #[derive(Drop)]
 pub struct TxnTable {
