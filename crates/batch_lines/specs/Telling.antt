@@ -11,8 +11,8 @@ use Rattle.end_lines.specs.declared.tally.Tally.{Tally}
 use Rattle.end_lines.specs.declared.voice.Voice.{Voice}
 use Rattle.end_lines.specs.Telling.{TellsAll, TellsFront}
 
--- The end records in these units, the first of which is at this LSN, were counted, and their lines written; after an Err those of a front,
--- and not all of their lines.
+-- The end records in these units, the first of which is at this LSN, were counted, and their lines written; after an Err those of a
+-- prefix, and not all of their lines.
 pub record TellsBatch {K : Type 0} (h : SinkGhosts K) (voice : Voice) (from : ℕ) (units : List ℕ) (sink sink' : K) (tally tally' : Tally)
     (result : Result ℕ WriteFault) : Type 0 where
   pub told : IfOk result (λ lines. (text : List ℕ) × Appends (h.held_bytes sink) (h.held_bytes sink') text

@@ -15,8 +15,8 @@ use log_record::{COMMIT, Header, OVER, Rec, SHORT};
 use lsn_space::Lsn;
 use segment_file::Batch;
 
-/// Counts the end records of the flusher's batch, whose first unit is at this LSN, and writes a line for each. The lines go to the
-/// sink in blocks; where a write fails, more records may have been counted than have their line.
+/// Counts the end records of the flusher's batch, whose first unit is at this LSN, and with `Voice::Lines` writes a line for each. Lines
+/// go to the sink in blocks; where a write fails, more records may have been counted than have their line.
 pub fn tell<D: LogDisk, K: Sink>(
     flusher: &Flusher<D>,
     from: Lsn,
@@ -34,7 +34,7 @@ pub fn tell<D: LogDisk, K: Sink>(
     tell_batch(&flusher.batch, from, voice, sink, tally)
 }
 
-/// Counts the end records of these units, the first of which is at this LSN, and writes a line for each.
+/// Counts the end records of these units, the first of which is at this LSN, and with `Voice::Lines` writes a line for each.
 fn tell_batch<K: Sink>(
     batch: &Batch,
     from: Lsn,
@@ -64,7 +64,7 @@ fn tell_batch<K: Sink>(
 }
 
 /// The record that begins at that index, where it ends a transaction, and how many units it has. Its first unit alone
-/// says that, so the units of the other records aren't read.
+/// says that, so no further unit of a record is read.
 fn end_at(batch: &Batch, at: u32) -> (Option<Rec>, u8)
     requires { (rec : Rec) × BeginsWith (drop at batch.now.units) rec }
     ensures { (rec : Rec) × BeginsWith (drop at batch.now.units) rec × (result.0 ≡ ended rec) × (result.1 ≡ length (spelling rec)) }

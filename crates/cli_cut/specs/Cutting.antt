@@ -20,7 +20,7 @@ pub record IsCutOf (list : OpenedList) (opening : Opening) : Type 0 where
   pub txn : opening.txn ≡ (opening_after (opening_of list.opening) (placed list)).txn
   pub accounts : ShowsAccounts opening.accounts (base_with (opening_of list.opening) (placed list)) (placed list)
 
--- the source is a log with this lawful list; of a source that tells nothing, any
+-- the source is a log with this lawful list; one that tells nothing may be a log with any
 abbrev pub IsSource : Option (List ℕ) → OpenedList → Type 0
 IsSource left list = IfSome left (λ bytes. HoldsLawful bytes list)
 

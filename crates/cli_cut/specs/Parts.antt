@@ -15,7 +15,7 @@ use Rattle.cli_shared.specs.Answers.{ReadsAll}
 use Rattle.cli_cut.specs.Upgrading.{IsUpgradeOf}
 use Rattle.cli_cut.specs.declared.reading.Parts.{Parts}
 
--- the units are some Genesis records, and behind so many units the records that are no Genesis, or none
+-- the units are some Genesis records, and behind so many units others, the first of which is no Genesis, or none
 pub record SplitsGenesis (units : List ℕ) (front : ℕ) : Type 0 where
   pub genesis : List Rec
   pub later : List Rec

@@ -1,4 +1,4 @@
-//! What `recover` answers of a log that was cut or upgraded.
+//! What `recover` answers of a log that `cut` or `upgrade` made.
 ghost use Rattle.std.specs.Prelude.{◌≡◌, List, [], ℕ};
 ghost use Rattle.lsn_space.specs.Opening.{Opening};
 ghost use Rattle.segment_file.specs.Log.{cut_log, HoldsLog};
@@ -19,13 +19,13 @@ pub fn cut_recovers_the_same()
         → IsCutOf list opening → HoldsLog made (cut_log opening) → Recovers a bytes → Recovers b made → a.next_txn ≡ b.next_txn }
 {}
 
-/// A law: a log that was made of another is a lawful list with no record.
+/// A law: a log with an opening alone, as `cut` makes, holds a lawful list with no record.
 pub fn cut_is_lawful()
     ensures { (made : List ℕ) (opening : Opening) → HoldsLog made (cut_log opening)
         → HoldsLawful made (record { opening = opening; records = [] }) }
 {}
 
-/// A law: the list of a log that was upgraded is lawful, and of it `recover` answers what it answers of the log that it was made of.
+/// A law: the list of a log that `upgrade` made is lawful, and of it `recover` answers what it answers of the log that was read.
 pub fn upgrade_recovers_the_same()
     ensures lawful { (bytes written : List ℕ) (list made : OpenedList) → HoldsLawful bytes list → IsUpgradeOf list made
         → HoldsLog written (log_of made) → HoldsLawful written made }

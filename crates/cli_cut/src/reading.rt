@@ -97,7 +97,7 @@ fn genesis_size(units: &[u64]) -> Option<usize>
     }
 }
 
-/// The head of the new log: what the list leaves behind so many units. And room for a batch.
+/// The head of the new log: what the first so many units of the list leave. And room for a batch.
 fn ask(alloc: Global, listed: &Listed, front: usize) -> Result<(Head, Batch), NoMemory>
     requires { IsGenesisFront listed.now front }
     ensures head { IfOk result (λ made. (genesis later : List Rec) → AreUnitsOf listed.now.units (genesis ++ later)
@@ -110,7 +110,7 @@ fn ask(alloc: Global, listed: &Listed, front: usize) -> Result<(Head, Batch), No
     Ok((head, batch))
 }
 
-/// What the list leaves behind its first so many units, which are those of its Genesis records.
+/// What the first so many units of the list leave, which are those of its Genesis records.
 fn opening_behind(alloc: Global, listed: &Listed, front: usize) -> Result<Opening, NoMemory>
     requires { IsGenesisFront listed.now front }
     ensures held { IfOk result IsSnapshot }
@@ -118,7 +118,7 @@ fn opening_behind(alloc: Global, listed: &Listed, front: usize) -> Result<Openin
         → front ≡ length (units_of genesis) → IsCutOf (list_of listed.now genesis) opening) }
 {
     let units = listed.units.as_slice().split_at(front).0;
-    // A front of a lawful list is lawful, so that only memory may be wanting.
+    // A prefix of a lawful list is lawful, so that only memory may be wanting.
     let Ok(judge) = judge_of_units(alloc, &listed.opening, units) else {
         return Err(NoMemory);
     };

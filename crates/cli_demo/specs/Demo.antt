@@ -50,16 +50,16 @@ pub record OnlyMakes {D : Type 0} (g : Ghosts D) (old new : D) : Type 0 where
   pub count : Costs g 7 11 old new
   pub grows : GrowsAtMostTo g (generated_end + 1) old new
 
--- the image holds the new log and a front of what the run inserted; at most 4 writes and syncs succeeded for each record of it, and 11
+-- the image holds the new log and a prefix of what the run inserted; at most 4 writes and syncs succeeded for each record of it, and 11
 -- more, of at most 4 calls for each and 15 more
 pub record HoldsMade {D : Type 0} (g : Ghosts D) (jobs : NumberedJobs) (sharing : Sharing) (list : List Rec) (old new : D)
     (image : List ℕ) : Type 0 where
   pub run : HoldsRun generated_opening jobs sharing list image
   pub count : Costs g (4 * length run.front + 11) (4 * length run.front + 15) old new
 
--- The log was made and transfers were begun: a front of them was shared out among the workers. Each image of a moment is one of before, or
--- no log, or holds the new log and a front of one and the same list, which goes on from it by these transfers. At the exit the file is no
--- longer than before, or ends at most so far behind the tail of the new log: 13 bytes for each unit of the front that an image holds, and
+-- The log was made and transfers were begun: a prefix of them was shared out among the workers. Each image of a moment is one of before, or
+-- no log, or holds the new log and a prefix of one and the same list, which goes on from it by these transfers. At the exit the file is no
+-- longer than before, or ends at most so far behind the tail of the new log: 13 bytes for each unit of the prefix that an image holds, and
 -- one batch in flight, of 6 bytes and 8 for each unit of the ring.
 pub record RanGenerated {D : Type 0} (g : Ghosts D) (n seed : ℕ) (options : RunOptions) (old new : D) : Type 0 where
   pub jobs : NumberedJobs

@@ -28,7 +28,7 @@ use std::thread::Threads;
 use std::time::Clock;
 use txn_script::GENERATED_ACCOUNTS;
 
-/// Makes a log of generated accounts, makes so many transfers over it that the seed generates, and then answers their summary. It
+/// Makes a log of generated accounts, makes over it so many transfers of this seed, and then answers their summary. It
 /// waits for the workers.
 pub fn demo_command<R: Threads + Wait + Clock + Sync, D: LogDisk, K: Sink, G: Gate + Sync>(
     rt: &R,

@@ -53,7 +53,7 @@ Concludes h ended text old new (LogEnd tail total) = StoppedAs ended (LogEnd tai
 Concludes h ended text old new Fine = NothingStopped ended × Appends (h.held_bytes old) (h.held_bytes new) text
 Concludes h ended text old new detail = ⊥
 
--- it was concluded, and one fault of the sink is counted just where that text was not written whole
+-- it was concluded, and one fault of the sink is counted just where the writing of that text failed
 pub record HasConcluded {K : Type 0} (h : SinkGhosts K) (ended : RunEnd) (text : List ℕ) (old new : K) (detail : Detail) : Type 0 where
   pub concludes : Concludes h ended text old new detail
   pub write : CountsWhere ((detail ≡ Write) × (ended.fault ≡ None)) (h.faults old) (h.faults new)

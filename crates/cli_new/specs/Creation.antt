@@ -10,7 +10,7 @@ use Rattle.cli_shared.specs.declared.report.Detail.{Detail}
 use Rattle.cli_shared.specs.declared.report.Detail.TheVariants.{Fine, NoMemory, Script, Read, Write, Exists}
 use Rattle.cli_shared.specs.Creation.{new_list}
 
--- the input is the text of these balances; of an input that tells nothing, of any balances
+-- the input is the text of these balances; one that tells nothing may be that of any balances
 abbrev pub IsInput : Option (List ℕ) → List ℕ → Type 0
 IsInput left balances = IfSome left (λ bytes. IsBalancesText bytes balances)
 

@@ -47,8 +47,8 @@ pub record AreAsked (opened : OpenedList) (left left_new : Option (List ℕ)) (j
   pub first : jobs.first ≡ next_txn opened
   pub numbered : jobs.first + length jobs.script ≤ LAST_TXN
 
--- The image holds the opened list and a front of what the run inserted. What was written is a prefix of the text of the image's list, so
--- each commit that was told is in it. At most 4 writes and syncs succeeded for each record of the front, and 7 more, and of calls at most
+-- The image holds the opened list and a prefix of what the run inserted. What was written is a prefix of the text of the image's list, so
+-- each commit that was told is in it. At most 4 writes and syncs succeeded for each record of that, and 7 more, and of calls at most
 -- as many beside those that the opening took.
 pub record HoldsTold {D : Type 0} (g : Ghosts D) (opened : OpenedList) (jobs : NumberedJobs) (sharing : Sharing) (list : List Rec)
     (old new : Outside D) (image : List ℕ) : Type 0 where
@@ -56,10 +56,10 @@ pub record HoldsTold {D : Type 0} (g : Ghosts D) (opened : OpenedList) (jobs : N
   pub told : AppendsPrefix old.text new.text (run_text opened run.front)
   pub count : Costs g (4 * length run.front + 7) (most_calls g old.disk + 4 * length run.front + 7) old.disk new.disk
 
--- Transfers were begun: a front of the script was shared out among the workers. Each image of a moment is one of before, or holds the list
--- that was opened and a front of one and the same list, which goes on from it as the script says; so of two of the latter the one is a
+-- Transfers were begun: a prefix of the script was shared out among the workers. Each image of a moment is one of before, or holds the list
+-- that was opened and a prefix of one and the same list, which goes on from it as the script says; so of two of the latter the one is a
 -- prefix of the other. At the exit the file is no longer than before, or ends at most so far behind the tail of the list that was opened:
--- 13 bytes for each unit of the front that an image holds, and one batch in flight, of 6 bytes and 8 for each unit of the ring.
+-- 13 bytes for each unit of the prefix that an image holds, and one batch in flight, of 6 bytes and 8 for each unit of the ring.
 pub record Ran {D : Type 0} (g : Ghosts D) (options : RunOptions) (old new : Outside D) : Type 0 where
   pub opened : OpenedList
   pub held : HoldsLawful (g.reads old.disk) opened

@@ -13,7 +13,7 @@ use Rattle.cli_ending.specs.Conclusion.{Concludes, closed_text}
 use Rattle.cli_threads.specs.declared.transfers.Prepared.{Prepared}
 use Rattle.cli_threads.specs.Ending.{HasEnded}
 
--- the transfers ended so, each told, which left this sink, and this was concluded then
+-- the transfers ended so, by a daemon that tells each, which left this sink, and this was concluded then
 pub record HasFinished {D : Type 0} {K : Type 0} (g : Ghosts D) (h : SinkGhosts K) (prepared : Prepared) (opened : OpenedList) (tail : Tail)
     (wait : Bool) (disk disk_new : D) (sink sink_new : K) (detail : Detail) : Type 0 where
   pub ended : RunEnd

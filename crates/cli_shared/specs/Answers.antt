@@ -29,7 +29,7 @@ status_of (NoSuchLsn lsn) = 13
 status_of (StreamUnlawful lsn why) = 14
 status_of (NoAccount account) = 15
 
--- nothing is written, but where all is fine or the writing failed
+-- nothing is printed, but where all is fine or the writing failed
 abbrev pub StaysSilent : Option (List ℕ) → Option (List ℕ) → Detail → Type 0
 StaysSilent old new Fine = Unit {0}
 StaysSilent old new Write = Unit {0}

@@ -16,7 +16,7 @@ abbrev pub most_finding : ℕ
 most_finding = 4
 
 -- The file of that name, which is made where it is missing, was opened and looked at. Where that succeeded the first gate isn't open, and
--- whatever a crash leaves it is the same from then on.
+-- at the return it is the same whatever a crash leaves.
 pub record FindsNone {D T : Type 0} (g : Ghosts D) (log : List ℕ) (old new : D) (result : Result T Detail) : Type 0 where
   pub looks : Looks g most_finding old new
   pub open looks use *

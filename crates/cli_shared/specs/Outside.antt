@@ -36,7 +36,7 @@ abbrev pub GrowsByGate : {D : Type 0} → Ghosts D → D → D → Type 0
 GrowsByGate g old new = (g.reads new ≡ g.reads old)
     ⊎ ((tail : Tail) × (log : Log) × LogStandsAt tail log (g.reads old) × GrowsAtMostTo g (tail.at + 1) old new)
 
--- nothing came behind the list: nothing was written, and each image of a moment is one of before or holds the list that a read gave
+-- nothing came behind the list: nothing was printed, and each image of a moment is one of before or holds the list that a read gave
 pub record OnlySettles {D : Type 0} (g : Ghosts D) (old new : Outside D) : Type 0 where
   pub silent : Keeps old.text new.text
   pub images : Leaves g.moment g.images_since (λ bytes. g.images old.disk bytes ⊎ HoldsAsRead g old.disk bytes) old.disk new.disk

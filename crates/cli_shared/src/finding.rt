@@ -14,7 +14,7 @@ use lsn_space::Word;
 use segment_file::{DiskFault, has_open_gate};
 
 /// Opens the file of that name, which is made where it is missing, and tells whether a log may be there. What it
-/// reads is stable from then on.
+/// reads is then all that a crash leaves.
 fn finds_log<D: LogDisk>(disk: &mut D, log: &Word) -> Result<bool, DiskFault>
     ensures opens { D.honest disk.old → IfOk result (λ yes. IsTrue yes ↔ BeginsOpen (D.reads disk.old)) }
     ensures settled { D.honest disk.old → OnOk result (IsOnlyImage (D.reads disk.new) (D.images disk.new)) }
@@ -28,7 +28,7 @@ fn finds_log<D: LogDisk>(disk: &mut D, log: &Word) -> Result<bool, DiskFault>
     has_open_gate(disk)
 }
 
-/// Opens the file of that name, which is made where it is missing, and finds that no log is there. From then on the first gate
+/// Opens the file of that name, which is made where it is missing, and finds that no log is there. At the return the first gate
 /// is the same whatever a crash leaves.
 pub fn finds_none<D: LogDisk>(disk: &mut D, log: &Word) -> Result<(), Detail>
     ensures { FindsNone D.LogDisk log.now disk.old disk.new result }

@@ -14,7 +14,7 @@ use lsn_space::Word;
 use segment_file::{OpenFault, open_image};
 use std::alloc::Global;
 
-/// Opens the log of that name, which has to be there, and answers what it says. From then on a crash leaves what was read.
+/// Opens the log of that name, which has to be there, and answers what it says. At the return a crash leaves what was read.
 pub fn open_log<D: LogDisk>(alloc: Global, log: &Word, disk: &mut D) -> Result<Recovered, Detail>
     ensures opened { IfOk result (λ opened. Opens D.LogDisk opened disk.old disk.new) }
     ensures fault { IfErr result (HasOpeningFault D.LogDisk disk.old) }

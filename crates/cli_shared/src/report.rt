@@ -32,7 +32,7 @@ pub enum Detail {
     /// The bytes don't begin as a log.
     NotALog,
 
-    /// In a log of the second format what its list begins with is cut, or a number in it is out of its range.
+    /// In a log of the second format what stands before its list is cut, or a number in it is out of its range.
     BadSnapshot,
 
     /// No batch stands behind the open gate at this byte.
@@ -53,7 +53,7 @@ pub enum Detail {
     /// A log is there already: the file begins with an open gate.
     Exists,
 
-    /// The part of the stream that begins at this byte, the first of those that do, is cut or outside the grammar.
+    /// The part of the stream that begins at this byte is the first that is cut or outside the grammar.
     BadStream { offset: u64 },
 
     /// The log ends at `have`, and the stream begins at another LSN, `from`.
@@ -117,7 +117,7 @@ impl Report {
     }
 }
 
-/// How the program ends where nothing is read from the bytes of a log.
+/// How the program ends where nothing is recovered from bytes.
 pub fn detail_of(fault: RecoverFault) -> Detail
     ensures { result ≡ recover_detail fault }
 {

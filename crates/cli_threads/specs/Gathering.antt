@@ -48,7 +48,7 @@ abbrev pub takes_all : View → List View → View
 takes_all view [] = view
 takes_all view (other ∷ others) = takes_all (takes_in view other) others
 
--- The flusher's seat took in the seats of all workers, which had all read the stop word that it stored, the first pass took back theirs, and
+-- The flusher's seat took in all workers' seats, none of which had last read a stop word but its own, the first pass took back theirs, and
 -- this is what the work of each came to.
 pub record GathersAll {Y Z : Type 0} (table : LogTable) (old new : Seat) (jobs_old jobs_new : Jobs) (workers : Vec Worker Y)
     (came : Vec Worked Z) : Type 0 where
@@ -62,7 +62,7 @@ pub record GathersAll {Y Z : Type 0} (table : LogTable) (old new : Seat) (jobs_o
   pub places : places_back jobs_new ≡ places_back jobs_old ++ all_places workers.items
   pub marks : marks_back jobs_new ≡ marks_back jobs_old ++ all_marks workers.items
 
--- The places taken are the front of the script of so many, each once; and it is all of it where a mark was taken.
+-- The places taken are a prefix of the script of so many, each once; and they are all of it where a mark was taken.
 pub record AreFront (count : ℕ) (places marks : List ℕ) : Type 0 where
   pub front : ℕ
   pub within : front ≤ count

@@ -1,4 +1,4 @@
--- A run before the first worker has started.
+-- A run before the first worker has started, and once all workers have served.
 use Rattle.std.specs.Prelude.{◌≡◌, ℕ, ◌+◌, ◌*◌, ◌^◌, ◌≤◌, Bool, List, [], None, All, length, map, vec_len, vec_capacity}
 use Rattle.std.specs.List.{AllByRecursion}
 use Rattle.log_disk.specs.declared.disk.LogDisk.{Ghosts}

@@ -42,14 +42,14 @@ abbrev pub HasNoneBehind : NumberedJobs → Sharing → List Placed → Type 0
 HasNoneBehind jobs sharing h = (place : ℕ) → sharing.front ≤ place → own_records_of (number_at jobs place) h ≡ []
 
 -- The list goes on from the opened one as the script says: each transfer ran whole, or was cut short, each worker's in turn; those
--- behind the front of the script did not begin.
+-- behind the prefix of the script that was taken have no record.
 pub record GoesOn (opened : OpenedList) (jobs : NumberedJobs) (sharing : Sharing) (list : OpenedList) : Type 0 where
   pub sound : IsSoundAfter (opening_before opened) (placed opened) (placed list)
   pub serial : IsPartlySerial (opening_before opened) (placed opened) jobs.first (transfers_of jobs) (placed list)
   pub in_turn : ComeInTurn jobs sharing (placed list)
   pub rest : HasNoneBehind jobs sharing (placed list)
 
--- the bytes hold the opened list and then a front of what the run inserted
+-- the bytes hold the opened list and then a prefix of what the run inserted
 pub record HoldsRun (opened : OpenedList) (jobs : NumberedJobs) (sharing : Sharing) (list : List Rec) (bytes : List ℕ) : Type 0 where
   pub front : List Rec
   pub rest : List Rec
@@ -67,8 +67,8 @@ pub record IsLeft {D : Type 0} (g : Ghosts D) (voice : Voice) (opened : OpenedLi
   pub count : Costs g (4 * length run.front + 4) (4 * length run.front + 4) before after
   pub grows : GrowsAtMostTo g (most_end at (end_of run.front) ring) before after
 
--- The list goes on from the opened one as the script says. At each moment an image holds the opened list and a front of it, so that of two
--- such the one is a prefix of the other; and at the exit each image holds all that was told.
+-- The list goes on from the opened one as the script says. At each moment an image holds the opened list and a prefix of what was
+-- inserted, so that of two such the one is a prefix of the other; and at the exit each image holds all that was told.
 pub record RunKeepsLog {D : Type 0} (g : Ghosts D) (voice : Voice) (opened : OpenedList) (jobs : NumberedJobs) (sharing : Sharing)
     (list : List Rec) (at ring : ℕ) (before after : D) (old new : Option (List ℕ)) : Type 0 where
   pub goes_on : GoesOn opened jobs sharing (with_records opened list)

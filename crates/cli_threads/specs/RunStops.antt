@@ -20,7 +20,7 @@ use Rattle.cli_threads.specs.Sharing.{Sharing}
 abbrev pub EndsAs : NumberedJobs → ℕ → List Placed → Bool → Type 0
 EndsAs jobs place h is = has_end (own_records_of (number_at jobs place) h) ≡ is
 
--- in a front of the list which ends at or above this tail the account has this balance
+-- in a prefix of the list which ends at or above this tail the account has this balance
 pub record HadBalance (list : OpenedList) (tail account balance : ℕ) : Type 0 where
   pub front : List Rec
   pub rest : List Rec
@@ -28,11 +28,11 @@ pub record HadBalance (list : OpenedList) (tail account balance : ℕ) : Type 0 
   pub above : tail ≤ list_end (with_front list front)
   pub balance_is : IsBalanceOf (base_in (with_front list front)) (placed (with_front list front)) account balance
 
--- and so each account of the leg has its own of these balances, each in a front of its own
+-- and so each account of the leg has its own of these balances, each in a prefix of its own
 abbrev pub HadBalances : OpenedList → ℕ → (ℕ → ℕ) → ℕ × ℕ × ℕ → Type 0
 HadBalances list tail balances leg = HadBalance list tail leg.0 (balances leg.0) × HadBalance list tail leg.1 (balances leg.1)
 
--- Each account of the transfer at this place has its balance in a front of the list that ends at or above this tail. By the outcome of that
+-- Each account of the transfer at this place has its balance in a prefix of the list ending at or above this tail. By the outcome of that
 -- transfer run alone on these balances its next record, behind those that the list has of it, has so many units.
 pub record HasNextOf (list : OpenedList) (jobs : NumberedJobs) (place tail units : ℕ) : Type 0 where
   pub balances : ℕ → ℕ
@@ -43,7 +43,7 @@ pub record HasNextOf (list : OpenedList) (jobs : NumberedJobs) (place tail units
       ≡ outcome_records (number_at jobs place) (transfer_of (job_at jobs place)) (outcome_alone (transfer_of (job_at jobs place)) balances)
   pub size : units ≡ size_of next
 
--- a group of this total, in which the record of this size was one of others: of two workers at least, each of which has one record in it
+-- so many workers, two at least, can have a group of this total with a record of this size: each other one adds at most 26 units
 abbrev pub IsOfWorkers : ℕ → ℕ → ℕ → Type 0
 IsOfWorkers workers size total = (1 < workers) × IsTotalOf workers size total
 
@@ -62,7 +62,7 @@ pub record FoundNoRoom (list : OpenedList) (jobs : NumberedJobs) (workers ring s
   pub next : HasNextOf list jobs place tail units
   pub asked : IsTotalAmong ring slots workers units total
 
--- the transfer at this place of the front was begun and not ended, since it found no room
+-- the transfer at this place, one of those taken, has no end record, since it found no room
 pub record WasCutForRoom (list : OpenedList) (jobs : NumberedJobs) (front workers ring slots place : ℕ) : Type 0 where
   pub inside : place < front
   pub unended : EndsAs jobs place (placed list) false
@@ -70,8 +70,8 @@ pub record WasCutForRoom (list : OpenedList) (jobs : NumberedJobs) (front worker
   pub total : ℕ
   pub no_room : FoundNoRoom list jobs workers ring slots place tail total
 
--- The transfers at these places, `cut` and others, were cut off, and all others of the front ended. Each found no room, and the first
--- of them this: so many units behind this tail. They are at most as many as the workers, and just as many where transfers of the
+-- The transfers at these places, `cut` and others, were cut off, and all others that were taken ended. Each found no room, and `cut`
+-- none for so many units behind this tail. They are at most as many as the workers, and just as many where transfers of the
 -- script are left.
 pub record StopsAtLogEnd (opened : OpenedList) (jobs : NumberedJobs) (sharing : Sharing) (list : List Rec) (ring slots tail total : ℕ)
     : Type 0 where

@@ -84,7 +84,7 @@ pub record HasShare (jobs : NumberedJobs) (workers : ℕ) (share : Share) (view 
 abbrev pub sharing_of : ℕ → List Share → Sharing
 sharing_of front shares = record { front = front; taken = map (λ (share : Share). share.taken) shares }
 
--- The flusher's seat took in all workers' seats, and these are their shares: together a front of the script, and all of it where a
+-- The flusher's seat took in all workers' seats, and these are their shares: together a prefix of the script, and all of it where a
 -- worker was not cut off.
 pub record HasGathered (jobs : NumberedJobs) (front : ℕ) (shares : List Share) (view : View) : Type 0 where
   pub someone : 1 ≤ length shares

@@ -15,7 +15,7 @@ use Rattle.cli_threads.specs.declared.serving.Started.{Started}
 use Rattle.cli_threads.specs.declared.serving.Started.TheVariants.{Running, NoThread}
 use Rattle.cli_threads.specs.Waiting.{HaveWaited, made_of}
 
--- the worker did its work, which came to this, and has ended; where it waits, accounts went back once the ends were durable
+-- the worker did its work, which came to this, and has ended; where it waits, each transfer not cut off has waited (`HaveWaited`)
 pub record HasServed (table : LogTable) (queue : Queue) (wait : Bool) (worker : Worker) (worked : Worked) : Type 0 where
   pub seat : IsOf table worker.seat
   pub ended : (view_of worker.seat).standing.role ≡ Ended

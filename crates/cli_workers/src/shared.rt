@@ -22,7 +22,7 @@ pub struct Run<'a, R, G> {
 
 impl<'a, R, G> Run<'a, R, G> {
     /// What workers share that make the transfers of this queue on this table, each with a flag of its number. With `wait` each
-    /// keeps the accounts of a transfer until its end is durable.
+    /// keeps the accounts of a transfer until its end is durable, or it is cut off.
     pub fn make(
         rt: &'a R,
         table: &'a LogTable,
@@ -47,7 +47,7 @@ impl<'a, R, G> Run<'a, R, G> {
         }
     }
 
-    /// Whether a worker keeps the accounts of a transfer until its end is durable.
+    /// Whether a worker keeps the accounts of a transfer until its end is durable, or it is cut off.
     pub fn waits(&self) -> bool
         ensures { result ≡ self.now.wait }
     {

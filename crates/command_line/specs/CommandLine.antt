@@ -161,7 +161,7 @@ pub record IsCommandLine (words : List (List ℕ)) (command : Command) : Type 0 
 abbrev pub AreTaken : List (List ℕ) → Type 0
 AreTaken words = (command : Command) × IsCommandLine words command
 
--- a subcommand that is given numbers
+-- a subcommand that takes numbers
 abbrev pub HasNumbers : Subcommand → Type 0
 HasNumbers this =
     (this ≡ subcommand.Run) ⊎ (this ≡ subcommand.Demo) ⊎ (this ≡ subcommand.Ship) ⊎ (this ≡ subcommand.AsOf) ⊎ (this ≡ subcommand.Statement)
@@ -185,7 +185,7 @@ abbrev pub IsMismatchOf : List (List ℕ) → RefusedWords → Type 0
 IsMismatchOf words refused.Usage = fault_of aether_command words ≢ []
 IsMismatchOf words refused.NoMemory = Unit {0}
 
--- why words ask nothing
+-- why words are refused; want of memory says nothing of them
 abbrev pub IsRefusalOf : List (List ℕ) → RefusedWords → Type 0
 IsRefusalOf words refused.Usage = AreTaken words → ⊥
 IsRefusalOf words refused.NoMemory = Unit {0}

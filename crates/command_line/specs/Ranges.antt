@@ -1,4 +1,4 @@
--- What may be asked of `run`.
+-- What may be asked of `run` and `demo`.
 use Rattle.std.specs.Prelude.{◌≡◌, ◌≤◌, ◌^◌, ℕ}
 use Rattle.lsn_space.specs.declared.lsn.TheConstants.{LEAST_RING, GREATEST_RING}
 use Rattle.command_line.specs.declared.options.RunOptions.{RunOptions}

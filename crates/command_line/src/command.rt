@@ -1,4 +1,4 @@
-//! The commands, and why words ask none.
+//! The commands, and why words are refused.
 use crate::options::RunOptions;
 use lsn_space::Word;
 
@@ -77,7 +77,7 @@ pub(crate) enum Subcommand {
     Statement,
 }
 
-/// Why words ask nothing.
+/// Why words are refused; want of memory says nothing of them.
 #[derive(Clone, Copy, Debug, PartialEq, Eq)]
 pub enum RefusedWords {
     /// The command doesn't take them, or a number isn't written as it should be, or is outside its range.

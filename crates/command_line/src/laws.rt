@@ -7,8 +7,8 @@ ghost use Rattle.command_line.specs.declared.command.Command.{Command};
 ghost use Rattle.command_line.specs.declared.options.TheConstants.{DEFAULT_RING, DEFAULT_SLOTS, DEFAULT_WORKERS, MOST_SLOTS, MOST_WORKERS};
 ghost use Rattle.command_line.specs.declared.parsing.TheConstants.{GREATEST_ACCOUNT, GREATEST_SEED};
 
-/// A law: words ask one thing at most. Those that the command takes ask something, but for subcommands with numbers that they
-/// don't take.
+/// A law: words ask one thing at most. Those that the command takes ask something, unless they name a subcommand that
+/// takes numbers.
 pub fn one_command()
     ensures one { (words : List (List ℕ)) (one other : Command) → IsCommandLine words one → IsCommandLine words other → one ≡ other }
     ensures some { (words : List (List ℕ)) → AreKnown words → AreTaken words ⊎ NamesNumbers words }

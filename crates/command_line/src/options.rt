@@ -31,10 +31,10 @@ pub struct RunOptions {
     /// The length of the ring in units, a power of two from `LEAST_RING` to `GREATEST_RING`.
     pub ring: u32,
 
-    /// How many slots there are, at most `MOST_SLOTS`, at which workers that meet at the tail go on as one group. At 0 each goes alone.
+    /// How many slots there are, at most `MOST_SLOTS`, at which workers that meet at the tail may go on as one group. At 0 each goes alone.
     pub slots: u32,
 
-    /// Whether a worker gives accounts back only once the end of its transaction is durable. `demo` has no such flag.
+    /// Whether a worker keeps a transfer's accounts until its end is durable, or it is cut off. `demo` has no such flag.
     pub wait: bool,
 }
 

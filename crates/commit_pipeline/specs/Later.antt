@@ -46,7 +46,7 @@ pub record HasReason {D : Type 0} {K : Type 0} (g : Ghosts D) (h : SinkGhosts K)
   pub disk : CountsWhere (new.fault ≡ Some DiskFault) (g.faults old.flusher.disk.now) (g.faults new.flusher.disk.now)
   pub sink : CountsWhere (new.fault ≡ Some WriteFault) (h.faults old.sink.now) (h.faults new.sink.now)
 
--- what a flush that failed may have written to the disk
+-- how many calls a flush that failed may have made of the disk
 abbrev pub extra : Option DaemonFault → ℕ
 extra None = 0
 extra (Some DiskFault) = 4
@@ -60,9 +60,9 @@ abbrev pub ring_of : {D : Type 0} → {K : Type 0} → {g : Ghosts D} → {h : S
 ring_of d = (view_of d.flusher.seat).constants.ring
 
 -- Turns of a daemon to which nothing had befallen. `more` are the records that they sent, and `cut` those in flight at a fault of the
--- disk. At each moment an image holds the log that stood at the tail and a front of them. At a fault of the sink the end records of a front
--- of them were counted, and a part of the lines is written, not all. No call that failed was made again. The tail moved, and the file grew,
--- by at most 13 bytes for each unit sent, and the file by one batch in flight more.
+-- disk. At each moment an image holds the log that stood at the tail and a prefix of them. At a fault of the sink the end records of a
+-- prefix of them were counted, and a part of the lines is written, not all. No call that failed was made again. The tail moved, and the
+-- file grew, by at most 13 bytes for each unit sent, and the file by one batch in flight more.
 pub record Ran {D : Type 0} {K : Type 0} (g : Ghosts D) (h : SinkGhosts K) (old new : Daemon D K g h) : Type 0 where
   pub was_fine : old.fault ≡ None
   pub more : List Rec

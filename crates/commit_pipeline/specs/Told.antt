@@ -20,7 +20,7 @@ pub record SentSince (begun now : View) : Type 0 where
   pub constants : now.constants ≡ begun.constants
   pub sent : now.sending.sent ≡ begun.sending.sent ++ units_of more
 
--- of what was sent since then, exactly the lines of the end records were written
+-- of what was sent since then, exactly what the voice writes was written
 pub record HasToldAll {K : Type 0} (h : SinkGhosts K) (first sink : K) (voice : Voice) (begun now : View) : Type 0 where
   pub since : SentSince begun now
   pub told : Appends (h.held_bytes first) (h.held_bytes sink) (text_of voice (sent_to begun) since.more)

@@ -39,8 +39,8 @@ GoesOn (Behind exposed durable) = ⊤
 abbrev pub HasCounted : {D : Type 0} → {K : Type 0} → {g : Ghosts D} → {h : SinkGhosts K} → Daemon D K g h → Type 0
 HasCounted d = d.tally.done + d.tally.refused ≤ length (sent_of d.flusher)
 
--- a turn may be made: nothing has befallen the daemon, it has not stopped the log, it has counted no more end records than units were
--- sent, and the lines of all that was sent are written
+-- a turn may be made: a flush may be, nothing has befallen the daemon, it has not stopped the log, it has counted no more end records
+-- than units were sent, and the lines of all that was sent are written
 pub record MayTurn {D : Type 0} {K : Type 0} {h : SinkGhosts K} (g : Ghosts D) (d : Daemon D K g h) : Type 0 where
   pub flusher : MayFlush g d.flusher
   pub fine : d.fault ≡ None
@@ -55,7 +55,7 @@ pub record IsMade {D : Type 0} {K : Type 0} {g : Ghosts D} {h : SinkGhosts K} (d
   pub seat : d.begun.value ≡ d.flusher.seat
   pub unsent : sent_of d.flusher ≡ []
 
--- it is the same daemon, with the same disk and sink, made when it was
+-- it is the same daemon, with the same disk, sink, voice and snapshots from its making
 pub record IsSameDaemon {D : Type 0} {K : Type 0} {h : SinkGhosts K} (g : Ghosts D) (old new : Daemon D K g h) : Type 0 where
   pub flusher : IsSame g old.flusher new.flusher
   pub sink : new.sink.ghost_name ≡ old.sink.ghost_name

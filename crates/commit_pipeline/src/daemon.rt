@@ -57,7 +57,7 @@ impl<'a, D: LogDisk, K: Sink> Daemon<'a, D, K> {
         }
     }
 
-    /// The flusher's seat takes in the seat of a worker that has ended.
+    /// The flusher's seat takes in the seat of a worker that has ended, or a note.
     pub fn take_in(&mut self, other: Seat)
         requires seat { IsOf self.old.flusher.table.now self.old.flusher.seat }
         requires other { IsOf self.old.flusher.table.now other }
@@ -81,8 +81,8 @@ impl<'a, D: LogDisk, K: Sink> Daemon<'a, D, K> {
         DaemonParts { flusher, sink }
     }
 
-    /// How many transactions are done, by the end records that were sent. With those that were refused they are at most the end of what
-    /// was sent.
+    /// How many transactions are done, by the end records counted. With those that were refused they are at most the LSN at which
+    /// what was sent ends.
     pub fn done(&self) -> u64
         ensures done { result ≡ self.now.tally.done }
         ensures within { HasCounted self.now → result + self.now.tally.refused ≤ durable self.now }

@@ -34,7 +34,7 @@ is_refused phase.Refused = true
 abbrev pub step_told : SlotWord → MemberStep
 step_told state = Hears (is_refused state.phase) state.total
 
--- the state tells a group, and does not
+-- by this state a group is told; and, below, by this one none is
 abbrev pub TellsGroup : SlotWord → Type 0
 TellsGroup state = (state.phase ≡ phase.Published) ⊎ (state.phase ≡ phase.Refused)
 
@@ -57,13 +57,13 @@ pub record IsToHear (table : LogTable) (joined : Joined) (state : SlotWord) (vie
   pub member : IsMember table joined.slot joined.offset joined.n (step_told state) view
   pub told : TellsGroup state
 
--- The seat is the same worker's, and has seen no less than any seat of this worker which had seen no more of tail and durable when it
--- joined with the piece.
+-- The seat is the same worker's, and has seen no less than any earlier state of it whose tail and durable, as seen, were not above those
+-- of the piece.
 abbrev pub HasSeenNoLess : Piece → Seat → Seat → Type 0
 HasSeenNoLess piece old new = (first : Seat) → IsSameWorker first old → (view_of first).seen.tail ≤ piece.tail
     → (view_of first).seen.durable ≤ piece.durable → IsSameWorker first new
 
--- The member heard where the range of its group begins: its piece lies there, and is not below the tail as the member had seen it when it
+-- The member heard where the range of its group begins: its piece lies in it, and it isn't below the tail as the member had seen it when it
 -- joined. The tail behind the whole range counts as seen, and the member's record has its place.
 pub record HasHeardBase (joined : Joined) (piece : Piece) (old new : Seat) (member : Member) : Type 0 where
   pub slot_is : member.slot ≡ joined.slot

@@ -15,8 +15,8 @@ use Rattle.consol_array.specs.declared.inserting.Way.{Way}
 use Rattle.consol_array.specs.declared.inserting.Way.TheVariants.{Alone, InGroup}
 use Rattle.consol_array.specs.Members.{IsAtStep}
 
--- the seat has joined the group at its slot for the next record of its last job, of n units, and has seen no less before than the piece
--- says
+-- the seat has joined the group at a slot for the next record of its last job, of n units; the piece has tail and durable as the seat saw
+-- them last
 pub record JoinsNext (table : LogTable) (old new : Seat) (n : ℕ) (joined : Joined) : Type 0 where
   pub slot_below : joined.slot < table.slots
   pub size_is : joined.n ≡ n
@@ -45,7 +45,7 @@ pub record TellsRefusal {T : Type 0} (old new : Seat) (ring n : ℕ) (result : R
   pub refused : IfErr result (IsRefusedNow old new ring n)
   pub stop : SeesNoStop old new
 
--- another worker was faster, and there was no group to join; the seat is as before but for what it saw
+-- another worker was faster, and the seat has joined no group; it is as before but for what it saw
 pub record HasLostRound (old new : Seat) : Type 0 where
   pub kept : KeepsEntries old new
   pub below : (view_of old).seen.tail < LAST

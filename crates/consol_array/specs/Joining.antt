@@ -1,4 +1,4 @@
--- When a seat may join the group at its slot, and what it leaves behind that has joined or has not.
+-- When a seat may join the group at its slot, and what is left once it has joined, or has not.
 use Rattle.std.specs.Prelude.{◌≡◌, ◌≢◌, ◌⊎◌, ℕ, ◌+◌, ◌/◌, ◌<◌, ◌≤◌, false, Result, IfOk, IfErr}
 use Rattle.slot_word.specs.declared.phase.Phase.TheVariants.{Gathering}
 use Rattle.slot_word.specs.declared.slot_word.SlotWord.{SlotWord}

@@ -28,7 +28,7 @@ pub record HasEmptied (old new : Seat) : Type 0 where
   pub over : HasExposed at (view_of marked_seat) (view_of exposed_seat)
   pub reopens : Becomes exposed_seat new (reopened (view_of exposed_seat))
 
--- a member of a group that has its range released its piece, and the last one did then what was left to do
+-- a member of a group with a range released its piece, and the last one did then what was left to do
 pub record HasReleased (table : LogTable) (n : ℕ) (old new : Seat) (last : Bool) : Type 0 where
   pub mid : Seat
   pub lets_go : LetsGo table n old mid last

@@ -14,8 +14,8 @@ use lsn_space::Lsn;
 use slot_word::{Phase, SlotWord};
 use std::sync::Wait;
 
-/// Waits until the group of the seat is told, and hears what became of it. Between two looks it lets other
-/// threads run, after a few looks that are spun.
+/// Waits until the group of the seat is told, and hears what became of it. Between the first looks it
+/// spins, and between later ones it lets other threads run.
 #[inline(always)]
 pub fn hear<R: Wait>(rt: &R, table: &LogTable, seat: &mut Seat, joined: Joined) -> Heard
     requires seat { IsOf table.now seat.old }

@@ -36,7 +36,7 @@ pub(crate) enum Way {
 }
 
 /// Inserts the next record of the seat's last job, which has these units, behind what other workers have
-/// reserved, and answers its LSN once it is released. It goes alone first; after an exchange of the tail that
+/// reserved, and answers where it begins once it is released. It goes alone first; after an exchange of the tail that
 /// was lost, in a table with slots, it joins the group at its slot where that takes it, and waits for its
 /// leader. A group that is refused is refused to all its members, with the group's numbers.
 #[inline(always)]

@@ -1,6 +1,6 @@
-//! Groups of workers that want room in the log at the same time. Who lost an exchange of the tail joins the
+//! Groups of workers that want room in the log at the same time. Who lost an exchange of the tail tries to join the
 //! group at its slot; one exchange then reserves for all members, each copies its own record into its piece,
-//! and the last one to release exposes the whole range and opens the slot again.
+//! and the last one to release marks the whole range, exposes what is ready, and opens the slot again.
 #![tactic(auto)]
 
 mod call;

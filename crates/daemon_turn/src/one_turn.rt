@@ -20,7 +20,7 @@ pub enum Turn {
 }
 
 /// Flushes, and then writes a line for each end record in what was sent. A fault is told to the workers by the stop
-/// word before it is answered, and no further turn may be made.
+/// word before it is answered, and no further turn may be made. With `Voice::Count` no line is written.
 pub fn make_turn<D: LogDisk, K: Sink>(
     flusher: &mut Flusher<D>,
     voice: Voice,
@@ -33,7 +33,7 @@ pub fn make_turn<D: LogDisk, K: Sink>(
     ensures ready { OnOk result (MayGoOn D.LogDisk flusher.new tally.new) }
     ensures same { IsSame D.LogDisk flusher.old flusher.new }
 
-    // Also where it fails no more end records were counted than units were sent.
+    // Even where it fails, no more end records were counted than units were sent.
     ensures counted { tally.new.done + tally.new.refused ≤ length (sent_of flusher.new) }
 {
     let Ok(flushed) = flusher.flush() else {

@@ -1,4 +1,4 @@
-//! Accounts are taken and given back. A worker holds an account only until its commit has a place in
+//! Accounts are taken and given back. A worker need hold an account only until its commit has a place in
 //! the log, not until it is durable.
 #![tactic(auto)]
 

@@ -35,7 +35,7 @@ abbrev pub end_lines : ℕ → List Rec → List ℕ
 end_lines at [] = []
 end_lines at (rec ∷ records) = end_line (at + size_of rec) rec ++ end_lines (at + size_of rec) records
 
--- 1 for the record of a transaction that is done
+-- 1 for the end record of a transaction that is done
 abbrev pub is_done : Rec → ℕ
 is_done (Genesis account balance) = 0
 is_done (Update txn account delta prev) = 0
@@ -44,7 +44,7 @@ is_done (Short txn leg) = 0
 is_done (Over txn leg) = 0
 is_done (Note txn text) = 0
 
--- 1 for the record of a transaction that was refused
+-- 1 for the end record of a transaction that was refused
 abbrev pub is_refused : Rec → ℕ
 is_refused (Genesis account balance) = 0
 is_refused (Update txn account delta prev) = 0

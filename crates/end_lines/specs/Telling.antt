@@ -10,7 +10,7 @@ use Rattle.end_lines.specs.EndLines.{text_of, lines_in, done_in, refused_in}
 abbrev pub counted : Tally → List Rec → Tally
 counted tally records = record { done = tally.done + done_in records; refused = tally.refused + refused_in records }
 
--- of the records from this LSN on exactly the lines were written, so many, and each end record was counted
+-- of the records from this LSN on exactly what the voice writes was written, so many lines, and each end record was counted
 pub record TellsAll (voice : Voice) (at : ℕ) (records : List Rec) (text : List ℕ) (lines : ℕ) (before after : Tally) : Type 0 where
   pub text_is : text ≡ text_of voice at records
   pub lines_are : lines ≡ lines_in voice records

@@ -6,7 +6,7 @@ use arrayvec::ArrayVec;
 use log_record::Rec;
 use lsn_space::{Lsn, decimal};
 
-/// At least the length of the longest line: a word, two spaces, the LF, and three numbers of at most 20 digits.
+/// At least the length of the longest line: a word, three spaces, the LF, and three numbers of at most 20 digits.
 const LINE_ROOM: usize = 72;
 
 pub(crate) type Line = ArrayVec<u8, LINE_ROOM>;

@@ -10,8 +10,8 @@ use log_disk::{OutputBlock, Sink, WriteFault};
 use log_record::Rec;
 use lsn_space::Lsn;
 
-/// Puts the line of a record that ends at this LSN into the block, where it ends a transaction, and answers how many lines
-/// that is. A block without room for it goes to the sink before.
+/// With `Voice::Lines` puts the line of a record that ends at this LSN into the block, where it ends a transaction; answers how
+/// many lines that is. A block without room for it goes to the sink before.
 pub fn tell_record<K: Sink>(
     rec: &Rec,
     end: Lsn,

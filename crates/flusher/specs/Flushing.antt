@@ -43,7 +43,7 @@ pub record MayFlush {D : Type 0} (g : Ghosts D) (f : Flusher D g) : Type 0 where
   pub shut : g.honest f.disk.now → IsShut f.tail.at (g.images f.disk.now)
   pub room : f.table.now.ring ≤ f.batch.room
 
--- it is the same seat, which took in no other's entries or jobs
+-- it is a seat of the same table, with the same constants, entries and books
 pub record IsSameSeat (old new : Seat) : Type 0 where
   pub table_is : new.base.table_id ≡ old.base.table_id
   pub slots : new.base.me.1 ≡ old.base.me.1
@@ -51,8 +51,8 @@ pub record IsSameSeat (old new : Seat) : Type 0 where
   pub entries : (view_of new).entries ≡ (view_of old).entries
   pub books : (view_of new).books ≡ (view_of old).books
 
--- it is the same table and seat, with the same workers, and the same disk with the same file, whose time went on; the flusher was made
--- when it was
+-- it is the same table and seat, with the same workers, and the same disk with the same file, whose time went on; the snapshot of the
+-- disk at the flusher's making is the same
 pub record IsSame {D : Type 0} (g : Ghosts D) (old new : Flusher D g) : Type 0 where
   pub table : new.table ≡ old.table
   pub seat : IsSameSeat old.seat new.seat
@@ -64,7 +64,7 @@ pub record IsSame {D : Type 0} (g : Ghosts D) (old new : Flusher D g) : Type 0 w
   pub first : new.first.value ≡ old.first.value
 
 -- At each moment an image holds the log that stood at the tail, or it and the whole batch. The file ends at most behind the batch and the
--- next gate.
+-- next gate, where it wasn't longer.
 pub record WritesWhole {D : Type 0} (g : Ghosts D) (units : List ℕ) (old new : Flusher D g) : Type 0 where
   pub moments : g.honest old.disk.now → (log : Log) → LogStands old.tail log (g.images old.disk.now)
       → Leaves g.moment g.images_since (HoldsLogOrMore log units) old.disk.now new.disk.now
@@ -82,8 +82,8 @@ pub record FindsNothing {D : Type 0} {g : Ghosts D} (old new : Flusher D g) (at 
   pub rest : ChangesSeat old new
 
 -- The units from durable to exposed, as loaded, which spell records, are written behind the tail, and then durable is raised to their end.
--- As it is raised the rule of the table holds of all seats' views, this seat's among them; so what was sent is lawful and serial where no
--- job number stands twice in these views.
+-- As it is raised the rule of the table holds of some views of all seats, this seat's among them; so what was sent is lawful and partly
+-- serial where no job number stands twice in these views.
 pub record Sends {D : Type 0} (g : Ghosts D) (old new : Flusher D g) (from to : ℕ) : Type 0 where
   pub units : List ℕ
   pub durable : from ≡ sent_to (view_of old.seat)
@@ -102,8 +102,8 @@ pub record Sends {D : Type 0} (g : Ghosts D) (old new : Flusher D g) (from to : 
   pub lawful : SpellLawfully (base_of (key_of old.table.now)) at_once.views (sent_of new)
 
 -- The units up to exposed, as loaded, were read, no more than the ring has, which spell records, and the disk failed to take them; durable
--- stands, and the seat keeps what it read. As the last was read the rule of the table held of all seats' views, this seat's among them; so
--- what was sent and read is lawful and serial where no job number stands twice in these views.
+-- stands, and the seat keeps what it read. Once all were read the rule of the table held of some views of all seats, this seat's among
+-- them; so what was sent and read is lawful and partly serial where no job number stands twice in these views.
 pub record Loses {D : Type 0} (g : Ghosts D) (old new : Flusher D g) : Type 0 where
   pub to : ℕ
   pub units : List ℕ

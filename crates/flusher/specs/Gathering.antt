@@ -19,7 +19,7 @@ pub record MayGather (from to : ℕ) (view : View) : Type 0 where
   pub released : to ≤ view.sending.exposed
 
 -- They were read, and are the units of the batch; once they end at exposed they are whole entries. Then the rule of the table, which was
--- made with this key, holds of all seats' views, this seat's among them.
+-- made with this key, holds of some views of all seats, this seat's among them.
 pub record Gathers (key : Start) (from to : ℕ) (old new : Seat) (before after : BatchState) : Type 0 where
   pub units : List ℕ
   pub whole : to ≡ from + length units

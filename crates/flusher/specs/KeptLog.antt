@@ -17,21 +17,21 @@ sent_by seat = (view_of seat).sending.sent
 abbrev pub read_by : Seat → List ℕ
 read_by seat = (view_of seat).sending.read
 
--- the bytes hold this log, and then the units of a front of the records
+-- the bytes hold this log, and then the units of a prefix of the records
 pub record HoldsFront (before : Log) (records : List Rec) (bytes : List ℕ) : Type 0 where
   pub front : List Rec
   pub rest : List Rec
   pub whole : records ≡ front ++ rest
   pub holds : HoldsLog bytes (with_units before (units_of front))
 
--- the bytes hold the opened log and a front of the records sent, or all of these and the whole batch in flight
+-- the bytes hold the opened log and a prefix of the records sent, or all of these and the whole batch in flight
 abbrev pub HoldsSome : Log → List Rec → List ℕ → List ℕ → Type 0
 HoldsSome opened records read bytes = HoldsFront opened records bytes
     ⊎ HoldsLog bytes (with_units (with_units opened (units_of records)) read)
 
--- A log, the opened one, was in each image when the flusher was made, and what was read then is one. Each image since then holds it and a
--- front of the records sent, or these and the batch in flight. Each image now holds it and all that was sent, or that and the batch in
--- flight; where none is in flight the log goes on at the tail.
+-- A log, the opened one, was in each image when the flusher was made, and what a read gave then is one. Each image since then holds it and
+-- a prefix of the records sent, or all of these and the batch in flight. Each image now holds it and all that was sent, or that and the
+-- batch in flight; where none is in flight the log goes on at the tail.
 pub record KeepsLog {D : Type 0} (g : Ghosts D) (first disk : D) (tail : Tail) (sent read : List ℕ) : Type 0 where
   pub opened : Log
   pub began : (c : List ℕ) → g.images first c → HoldsLog c opened

@@ -10,7 +10,7 @@ use log_disk::LogDisk;
 
 impl<'a, D: LogDisk> Flusher<'a, D> {
     /// Whether workers are active, and where none is, whether all that is exposed is on the disk. At is the end of the
-    /// log: no worker was active when exposed was loaded, and none will be.
+    /// log: no worker was active when exposed was loaded, and none made so far will be.
     pub fn drained(&mut self) -> Drained
         requires ready { MayFlush D.LogDisk self.old }
         requires told { knows_all_enrolled (view_of self.old.seat).standing ≡ true }

@@ -42,6 +42,6 @@ fn gather(table: &LogTable, seat: &mut Seat, batch: &mut Batch, from: Lsn, to: L
         let unit = table.load_ring(seat, Lsn::new(at));
         batch.push(unit);
     }
-    // What the batch holds is a lawful list before it goes to the disk.
+    // So what was sent and read is lawful before it goes to the disk, where no job number stands twice.
     table.look(seat);
 }

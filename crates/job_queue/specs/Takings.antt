@@ -85,7 +85,7 @@ pub record IsBalanced (v : Takings) : Type 0 where
   pub marks : CountsMarks v
   pub once : (x : ℕ) → times_in x v ≤ 1
 
--- it has each number below some one of those put, once, and no others
+-- of the numbers put it has those below some number, each once, and no others
 pub record HasAllBelow (v : Takings) : Type 0 where
   pub next : ℕ
   pub within : next ≤ v.count + v.marks

@@ -9,10 +9,10 @@ use lsn_space::NoMemory;
 use std::alloc::Global;
 use std::sync::Wait;
 
-/// A queue of places and marks. They are numbers of 32 bits, as transfers are, so that a place takes little memory.
+/// A queue of places and marks. They have 32 bits, as transaction numbers do, so that a place takes little memory.
 pub type Line = RuledArrayQueue<u32, Takings, OneByOne>;
 
-/// The places from 0 up to `count`, and behind them so many marks, in a queue with room for them all.
+/// The places below `count`, and behind them so many marks, in a queue with room for them all.
 pub(crate) fn filled<R: Wait>(
     rt: &R,
     alloc: Global,
@@ -24,7 +24,7 @@ pub(crate) fn filled<R: Wait>(
     ensures first { IfOk result (λ made. made.1.id ≡ 0) }
     ensures put { IfOk result (λ made. view made.1 ≡ fresh true count workers 0 workers) }
 {
-    // More numbers than 32 bits tell apart have no room in any memory.
+    // More numbers than 32 bits tell apart count as want of memory.
     let Some(all) = count.checked_add(workers) else {
         return Err(NoMemory);
     };

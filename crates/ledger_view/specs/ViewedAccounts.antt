@@ -22,7 +22,7 @@ abbrev pub balance_to : ℕ → List Entry → ℕ → ℕ
 balance_to first [] lsn = first
 balance_to first (entry ∷ entries) lsn = if nat_le entry.end lsn then balance_to entry.balance entries lsn else first
 
--- each entry adds its net to the balance before it, and ends behind the entry before it, which ends at or above this LSN
+-- each entry adds its net to the balance before it, which is in its range; none ends below the one before it, the first not below this LSN
 abbrev pub AddUp : ℕ → ℕ → List Entry → Type 0
 AddUp least first [] = Unit {0}
 AddUp least first (entry ∷ entries) =

@@ -65,8 +65,8 @@ impl Accounts {
         }
     }
 
-    /// Appends to the entries of an account that of a Commit of these changes, which is kept as this row. Only before the first is the
-    /// balance reckoned from which it leads on.
+    /// Appends to the entries of an account that of a Commit of these changes, which is kept as this row. Only for the first is the
+    /// balance before it computed.
     pub fn enter(&mut self, account: u32, changes: &[Change], row: Row) -> Result<(), NoMemory>
         requires known { account < length self.old }
         requires few { length changes.now ≤ MOST_UPDATES }

@@ -1,4 +1,4 @@
-//! Laws of the definitions. The functions do nothing.
+//! Laws. The function of the first does nothing; the other two call the view and the plain program.
 
 ghost use Rattle.std.specs.Prelude.{◌≡◌, ◌≤◌, ◌-◌, [], ℕ, List, Some, None, length, reverse, IfOk, MatchOption};
 ghost use Rattle.lsn_space.specs.declared.lsn.TheConstants.{LAST};

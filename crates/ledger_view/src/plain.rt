@@ -240,8 +240,8 @@ fn plain_entry(opening: &Opening, entries: &[Placed], i: usize, account: u32) ->
     })
 }
 
-/// What a view answers as `entries` behind an opening and these records, given as entries in the order of the log, each of which leaves
-/// the account a balance in its range, as in a lawful list. It takes time in proportion to the third power of their number.
+/// What a view answers as `entries` behind an opening and these records, given as entries in the order of the log, where each Commit on
+/// the account leaves it a balance in its range, as in a lawful list. It takes time in proportion to the third power of their number.
 pub fn plain_entries(
     alloc: Global,
     opening: &Opening,

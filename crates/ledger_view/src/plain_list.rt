@@ -7,7 +7,7 @@ use lsn_space::NoMemory;
 use std::alloc::Global;
 use std::marker::Model;
 
-/// Entries that the plain program found, of any list, lawful or not. Contracts see the list of them.
+/// Entries that the plain program found, of a list that needn't be lawful. Contracts see the list of them.
 #[derive(Debug, Drop)]
 pub struct EntryList {
     items: Vec<Entry>,

@@ -39,7 +39,7 @@ fn marks_to(marks: &[Lsn], lsn: Lsn) -> usize
     marks.partition_point(|mark| mark.units() <= lsn.units())
 }
 
-/// How many rows stand between one mark and the next.
+/// How many rows it is from one mark to the next.
 pub const MARKED: usize = 16;
 
 /// The rows of an account, in the order of their Commits. Contracts see the list of them.

@@ -61,7 +61,7 @@ pub record LeavesSome (changes : List Change) (rows : List (ℕ × ℕ)) : Type 
   pub leaves : LeavesRange changes account (row rows account).0
 
 -- The rows are those of the history: each account's balance by its equation, in its range, and its last Commit. A judge keeps this from
--- record to record, with or without a lawful list; who only reads the rows of a lawful list has `ShowsAccounts`.
+-- record to record, and it asks for no lawful list; who only reads the rows of a lawful list has `ShowsAccounts`.
 pub record KeepsRows (rows : List (ℕ × ℕ)) (base : BaseState) (h : List Placed) : Type 0 where
   pub count : length rows ≡ base.accounts
   pub range : AreRowsInRange rows

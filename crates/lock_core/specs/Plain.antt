@@ -1,4 +1,4 @@
--- The same tests in the plain words of the format: over the whole list, with no recursion through its fronts.
+-- What the tests say of last Commits and pairs, in the plain words of the format: over the whole list, not prefix by prefix.
 use Rattle.std.specs.Prelude.{◌≡◌, ◌&&◌, ℕ, zero, suc, if◌then◌else◌, not, Bool, true, false, List, [], ◌∷◌, length}
 use Rattle.log_record.specs.declared.rec.Placed.{Placed}
 use Rattle.lock_core.specs.declared.update.Change.{Change}

@@ -1,4 +1,4 @@
--- Serial lists: each transfer answers as one thread that runs them in the order of their end records.
+-- Serial lists: each transfer answers as if one thread ran them in the order of their end records.
 use Rattle.std.specs.Prelude.{◌≡◌, ◌≢◌, ℕ, ◌+◌, true, ◌⊎◌, List, [], ◌∷◌, ◌++◌}
 use Rattle.std.specs.List.{AllByRecursion}
 use Rattle.log_record.specs.declared.rec.Rec.{Rec}
@@ -32,7 +32,7 @@ pub record IsRunWhole (base : BaseState) (h : List Placed) (task : NumberedTrans
   pub records : in_order (all_without_prev (end.rec ∷ own_records_of task.number front)) []
       ≡ outcome_records task.number task.job (outcome_alone task.job (balance_of base front))
 
--- the history has a front of the transfer's Note and Updates, and no end record of it
+-- the history has a prefix of the transfer's Note and Updates, and no end record of it
 pub record IsCutShort (h : List Placed) (task : NumberedTransfer) : Type 0 where
   pub rest : List Rec
   pub front : in_order (all_without_prev (own_records_of task.number h)) rest

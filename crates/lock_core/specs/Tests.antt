@@ -74,7 +74,7 @@ CountsLegs h (Note txn text) = Unit {0}
 abbrev pub IsOpposite : Change → Change → Type 0
 IsOpposite before change = (change.delta ≡ neg_ℤ before.delta) × (change.account ≢ before.account)
 
--- What was taken from one account is added to another by the very next change, and a change that isn't such takes.
+-- What was taken from one account is added to another by the very next change, and every other change takes.
 abbrev pub IsPaired : List Change → Change → Type 0
 IsPaired [] change = lowers change.delta ≡ true
 IsPaired (newest ∷ older) change = MatchBool (lowers newest.delta) (IsOpposite newest change) (lowers change.delta ≡ true)

@@ -191,7 +191,7 @@ impl Job {
         }
     }
 
-    /// Makes this the transfer of one leg and no note. What it has of that already isn't written again.
+    /// Makes this the transfer of one leg and no note. Where it has no note, none is written.
     pub fn become_single(&mut self, leg: Leg)
         ensures { self.new ≡ record { legs = leg ∷ []; note = None } }
     {

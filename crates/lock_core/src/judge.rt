@@ -22,7 +22,7 @@ use lsn_space::{Balances, Lsn, NoMemory};
 use std::alloc::Global;
 
 /// Takes a list of records behind an opening, one by one, as long as it is lawful, and keeps what it says: balances, last
-/// Commits, and the greatest transaction number. A record takes a time that does not grow with the list.
+/// Commits, and the greatest transaction number. Averaged over the list, a record's time does not grow with it.
 #[derive(Drop)]
 pub struct Judge {
     ledger: Ledger,

@@ -25,7 +25,7 @@ ghost use Rattle.lock_core.specs.Soundness.{HasPredecessors, IsSoundAfter};
 ghost use Rattle.lock_core.specs.AnyOrder.{taken, given, legs_of, HasRoomFor, IsDoneIn, done_records, weight_of};
 ghost use Rattle.lock_core.specs.Witness.{genesis_log, transfer, transfer_history, snapshot, cut, behind_cut, again_behind_cut};
 
-/// A law: a front of a lawful list is lawful.
+/// A law: a prefix of a lawful list is lawful.
 pub fn lawful_front()
     ensures list { (opening : Opening) (later front : List Placed) → IsLawful opening (later ++ front) → IsLawful opening front }
     ensures records { (opening : Opening) (start : ℕ) (front later : List Rec) → IsLawful opening (history_from start [] (front ++ later))
@@ -53,8 +53,8 @@ pub fn another_number()
         → IsLawful (opening_after opening l) h }
 {}
 
-/// A law: of a lawful list, what follows a front that it shares no transaction with, and has no Genesis, is lawful behind the
-/// state that the front leaves and any number below all of its own. So what stands behind the Genesis records of a whole log is
+/// A law: of a lawful list, what follows a prefix that it shares no transaction with, and has no Genesis, is lawful behind the
+/// state that the prefix leaves and any number below all of its own. So what stands behind the Genesis records of a whole log is
 /// lawful behind the opening that they leave.
 pub fn lawful_split()
     ensures any { (opening : Opening) (txn : ℕ) (h l : List Placed) → IsLawful opening (h ++ l) → 0 < (base_with opening l).accounts
@@ -100,7 +100,7 @@ pub fn sums_go_on()
 {}
 
 /// A law: what one more record does. A record that is no Commit, of a transaction that isn't committed, changes neither
-/// what is committed nor a sum nor a last Commit. A Commit commits its transaction, adds what its Updates move, and is the
+/// what is committed nor a sum nor a last Commit. A transaction's first Commit commits it, adds what its Updates move, and is the
 /// last Commit on their accounts.
 pub fn one_more_record()
     ensures plain_committed { (entry : Placed) (h : List Placed) (txn : ℕ) → commits entry.rec ≡ false
@@ -155,7 +155,7 @@ pub fn predecessors()
 {}
 
 /// A law: lists share no transaction where the numbers of the one are below a number, and those of the other are not. What
-/// follows a base state and is partly serial has the given transfers' numbers alone.
+/// follows a base state and is partly serial has no number below that of the first given transfer.
 pub fn numbers_apart()
     ensures below { (h : List Placed) (first : ℕ) → greatest_txn h < first → AllByRecursion (λ entry. txn_of entry.rec < first) h }
     ensures from { (base : BaseState) (first : ℕ) (jobs : List PlainTransfer) (h : List Placed)
@@ -165,7 +165,7 @@ pub fn numbers_apart()
         → AllByRecursion (λ entry. txn_of entry.rec < first) l → ShareNoTransaction h l }
 {}
 
-/// A law: the outcome of a transfer, and its records, depend on the balances of its own accounts alone.
+/// A law: no other account's balance changes the outcome of a transfer, or its records.
 pub fn own_accounts_alone()
     ensures outcome { (job : PlainTransfer) (balance other : ℕ → ℕ)
         → AllByRecursion (λ leg. (balance leg.0 ≡ other leg.0) × (balance leg.1 ≡ other leg.1)) job.legs
@@ -175,13 +175,13 @@ pub fn own_accounts_alone()
         → planned_records txn job last_commit balance ≡ planned_records txn job last_commit other }
 {}
 
-/// A law: the records of a transfer leg by leg are those of its outcome.
+/// A law: the records of a transfer leg by leg, `prev` left out, are those of its outcome.
 pub fn planned_records_are()
     ensures { (txn : ℕ) (job : PlainTransfer) (last_commit balance : ℕ → ℕ)
         → all_without_prev (planned_records txn job last_commit balance) ≡ outcome_records txn job (outcome_alone job balance) }
 {}
 
-/// A law: what is lawful behind the opening that a lawful list of records leaves keeps the list sound.
+/// A law: behind balances in their range, what is lawful behind the opening that a lawful list of records leaves keeps the list sound.
 pub fn sound_after()
     ensures { (opening : Opening) (before later : List Placed) → BeginsInRange opening.state → IsLawful opening before
         → 0 < (base_with opening before).accounts → AllByRecursion (λ entry. IsSpellable entry.rec) (later ++ before)
@@ -214,8 +214,8 @@ pub fn records_to_come()
     ensures size { (rec : Rec) → size_of (without_prev rec) ≡ size_of rec }
 {}
 
-/// A law: a front of a partly serial history is partly serial. A serial history is one in which each transfer has its end
-/// record.
+/// A law: a prefix of a partly serial history is partly serial. A serial history is a partly serial one in which each transfer has
+/// its end record.
 pub fn partly_serial_front()
     ensures front { (base : BaseState) (tasks : List NumberedTransfer) (later h : List Placed) → IsPartlySerialAfter base tasks (later ++ h)
         → IsPartlySerialAfter base tasks h }
@@ -226,8 +226,8 @@ pub fn partly_serial_front()
         → IsSerialAfter base tasks h }
 {}
 
-/// A law: transfers for which there is room are all done, in whatever order they come. What they leave doesn't depend on it:
-/// each balance, each sum over the records that doesn't ask for `prev`, and the end of the list.
+/// A law: transfers for which there is room are done in each serial history, and done or cut short in each partly serial one.
+/// What a serial one leaves doesn't depend on the order: each balance, each sum over records that doesn't ask for `prev`, and the end.
 pub fn done_in_any_order()
     ensures partly { (base : BaseState) (first : ℕ) (jobs : List PlainTransfer) (h : List Placed) → HasRoomFor base jobs
         → IsPartlySerialAfter base (numbered first jobs) h
@@ -263,7 +263,7 @@ pub fn one_transfer_is_serial()
     ensures room { HasRoomFor (base_state_of no_opening (history genesis_log)) (transfer ∷ []) }
 {}
 
-/// A witness that what follows a cut log can be met, and that its number counts: behind the log that was cut after that transfer,
+/// A witness that a list may follow a cut log, and that the cut's number counts: behind the log that was cut after that transfer,
 /// 30 from account 1 to account 0 is lawful; under a number that the log had, it is `ended`.
 pub fn cut_log_goes_on()
     ensures snapshot { IsSnapshot snapshot }

@@ -3,14 +3,14 @@
 /// The tests of a record, in the order in which they are made.
 #[derive(Clone, Copy, Debug, PartialEq, Eq)]
 pub enum Why {
-    /// The first record is the Genesis of account 0; a Genesis follows Genesis records alone and has
-    /// the next account number.
+    /// Behind an opening with accounts no record is a Genesis. Behind none the first is that of account 0; a Genesis follows Genesis
+    /// records alone and has the next account number.
     Genesis,
 
-    /// The account of an Update has a Genesis.
+    /// The account of an Update has a Genesis, or is the opening's.
     Account,
 
-    /// The transaction has no end record yet.
+    /// The transaction has no end record yet, and a greater number than the opening's.
     Ended,
 
     /// The transaction has as many Updates as the record allows or says.
@@ -30,7 +30,7 @@ pub enum Why {
     Balance,
 }
 
-/// Why a judge takes a record not.
+/// Why a judge doesn't take a record.
 #[derive(Clone, Copy, Debug, PartialEq, Eq)]
 pub enum JudgeFault {
     /// With the record the list isn't lawful, and this is the first test that the record fails.

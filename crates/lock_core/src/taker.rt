@@ -17,7 +17,7 @@ use log_record::Rec;
 use lsn_space::{Lsn, NoMemory};
 use std::alloc::Global;
 
-/// Takes a list of records behind an opening, one by one, as long as it is lawful, and keeps of it what it is for.
+/// Takes a list of records behind an opening, one by one, as long as it is lawful, and keeps of the list what it needs.
 pub trait TakesRecords: Drop {
     /// It has taken this history behind this opening.
     ghost has_taken: { Opening → Self → List Placed → Type 0 };

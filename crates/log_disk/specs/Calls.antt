@@ -5,7 +5,7 @@ use Rattle.log_disk.specs.Disk.{IsOnlyImage, Leaves}
 use Rattle.log_disk.specs.Faults.{HasCause}
 use Rattle.log_disk.specs.declared.disk.LogDisk.{Ghosts}
 
--- at most so many writes and syncs, and so many calls: the disk stays as honest as it was, and what was attached still is
+-- at most so many writes and syncs that succeeded, and so many calls: the disk stays as honest as it was, and what was attached still is
 pub record Uses {D T E : Type 0} (g : Ghosts D) (most most_calls : ℕ) (old new : D) (result : Result T E) : Type 0 where
   pub count : g.honest old → Costs g most most_calls old new
   pub later : g.moment old ≤ g.moment new

@@ -1,7 +1,7 @@
 -- What the calls of a disk do to its file and to what a crash may leave. An image is a list of bytes that a crash may leave.
 use Rattle.std.specs.Prelude.{◌≡◌, ◌⊎◌, ◌↔◌, ℕ, ◌+◌, ◌≤◌, max, List, ◌++◌, length, take, drop, Result, MatchResult}
 
--- the bytes with these in place of what stood from this offset on; at the end, where the bytes end before it
+-- the bytes with these in place of as many from this offset on; at the end, where the bytes end before it
 abbrev pub put : ℕ → List ℕ → List ℕ → List ℕ
 put at bytes old = take at old ++ bytes ++ drop (at + length bytes) old
 

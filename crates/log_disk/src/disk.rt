@@ -1,4 +1,4 @@
-//! The trait of a disk. Each call says by `MakesCall` what it does; `read_at` says it in clauses of its own.
+//! The trait of a disk. Each call but `read_at`, which has clauses of its own, says by `MakesCall` what it does.
 ghost use Rattle.std.specs.Prelude.{◌≡◌, ◌≤◌, ◌-◌, ◌↔◌, List, Option, ℕ, length, min, take, drop, IfOk};
 ghost use Rattle.log_disk.specs.Attachment.{Attached, Attaches};
 ghost use Rattle.log_disk.specs.Faults.{HasCause, raised};
@@ -9,7 +9,7 @@ use crate::Failed;
 use lsn_space::Word;
 
 /// A file on a disk, which a crash may leave otherwise than it is read. A range that was written may
-/// hold any bytes until a sync, and a file that grew may have any length up to its new one; the other
+/// hold any bytes until a sync, and a file that grew may have any length from its old to its new; the other
 /// bytes stay. What is said of content holds where the disk is honest. No clause says that of a real
 /// disk, of which nothing is known.
 pub trait LogDisk {

@@ -1,4 +1,4 @@
-//! A text goes to its sink in blocks, and not in a write for each line. Whoever writes a text has a block of its own, and
+//! A text of many lines goes to its sink in blocks, and not in a write for each line. Whoever writes one has a block of its own, and
 //! writes it out before it answers.
 ghost use Rattle.std.specs.Prelude.{◌≡◌, ◌≤◌, ◌+◌, ◌++◌, [], length, OnOk, OnErr};
 ghost use Rattle.std.specs.Io.KnownBytes.{Appends};

@@ -14,7 +14,7 @@ pub trait Sink {
     /// How often a call has failed.
     ghost faults: { Self → ℕ };
 
-    /// Appends a front of the piece, which isn't empty, and tells how many bytes. A write that fails
+    /// Appends a prefix of the piece, which isn't empty, and tells how many bytes. A write that fails
     /// appends nothing.
     fn write(&mut self, piece: &[u8]) -> Result<usize, Failed>
         requires { 0 < length piece.now }

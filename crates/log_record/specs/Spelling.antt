@@ -62,7 +62,7 @@ IsPrintable byte = (32 ≤ byte) × (byte ≤ 126)
 abbrev pub IsNoteText : List ℕ → Type 0
 IsNoteText text = (1 ≤ length text) × (length text ≤ LONGEST_NOTE) × All IsPrintable text
 
--- the fields of the record are in their ranges, so that its spelling is one
+-- the fields of the record are in their ranges, so that it has a spelling
 abbrev pub IsSpellable : Rec → Type 0
 IsSpellable (Genesis account balance) = IsAccount account × IsBalance balance
 IsSpellable (Update txn account delta prev) = IsTxn txn × IsAccount account × IsDelta delta × (prev ≤ LAST)

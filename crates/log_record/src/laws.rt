@@ -9,7 +9,7 @@ ghost use Rattle.log_record.specs.declared.units.TheConstants.{LONGEST_RECORD};
 ghost use Rattle.log_record.specs.LogList.{units_of, end_of, starts_of, ranges_of, prefix_to, IsBoundary};
 ghost use Rattle.log_record.specs.Spelling.{spelling, IsSpellable, BeginsWith};
 
-/// A law: no spelling is a front of another, and each record has one. So what was spelled is read
+/// A law: no spelling is a prefix of another, and each record has one. So what was spelled is read
 /// back whatever follows it, and units determine the list of records that they spell.
 pub fn one_spelling()
     ensures front { (r s : Rec) (x y : List ℕ) → IsSpellable r → IsSpellable s
@@ -26,7 +26,7 @@ pub fn spelling_bounds()
 {}
 
 /// A law: the records of a log list lie one after another from 0 to its end, and the list up to an
-/// LSN is a front of it, which at a boundary ends exactly there.
+/// LSN is a prefix of it, which at a boundary ends exactly there.
 pub fn log_list_laws()
     ensures starts { (L : List Rec) → length (starts_of L) ≡ length L }
     ensures tiling { (L : List Rec) → IsTiling (λ (r : ℕ × ℕ). r.0) (λ (r : ℕ × ℕ). r.1) 0 (ranges_of L) (end_of L) }

@@ -153,7 +153,7 @@ fn over(header: Header, body: &[u64], rec: &mut Rec) -> Result<(), BadRec>
     Ok(())
 }
 
-/// The header alone, of a transaction and with legs, or a leg, in its field.
+/// Whether these are a header alone, of a transaction and with a number of legs, or of a leg, in its field.
 fn is_end(header: Header, body: &[u64]) -> bool
     ensures { IsTrue result ↔ (IsTxn header.txn × IsLeg header.field × (body.now ≡ [])) }
 {

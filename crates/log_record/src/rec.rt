@@ -6,7 +6,7 @@ use lsn_space::Lsn;
 /// A record of the log.
 #[derive(Debug, PartialEq, Eq, Drop)]
 pub enum Rec {
-    /// The account exists from here on, with this balance. Genesis records begin a log.
+    /// The account exists from here on, with this balance. Genesis records begin a log of the first format.
     Genesis {
         account: u32,
         balance: u32,

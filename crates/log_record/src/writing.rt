@@ -50,7 +50,7 @@ pub fn spell_into(rec: &Rec, units: &mut Units)
     }
 }
 
-/// Spells an Update, of which no record is made, in place of what the units hold.
+/// Spells an Update, without a `Rec` of it, in place of what the units hold.
 pub fn spell_update(units: &mut Units, txn: u32, account: u32, delta: i32, prev: Lsn)
     requires { IsAccount account }
     ensures { units.new ≡ spelling (Update txn account delta prev) }
@@ -58,7 +58,7 @@ pub fn spell_update(units: &mut Units, txn: u32, account: u32, delta: i32, prev:
     put_pair(units, header(UPDATE, 2, account, txn), change(delta, prev));
 }
 
-/// So a Commit.
+/// Likewise a Commit.
 pub fn spell_commit(units: &mut Units, txn: u32, legs: u32)
     requires { IsLeg legs }
     ensures { units.new ≡ spelling (Commit txn legs) }
@@ -66,7 +66,7 @@ pub fn spell_commit(units: &mut Units, txn: u32, legs: u32)
     put_first(units, header(COMMIT, 1, legs, txn));
 }
 
-/// So a Short.
+/// Likewise a Short.
 pub fn spell_short(units: &mut Units, txn: u32, leg: u32)
     requires { IsLeg leg }
     ensures { units.new ≡ spelling (Short txn leg) }
@@ -74,7 +74,7 @@ pub fn spell_short(units: &mut Units, txn: u32, leg: u32)
     put_first(units, header(SHORT, 1, leg, txn));
 }
 
-/// So an Over.
+/// Likewise an Over.
 pub fn spell_over(units: &mut Units, txn: u32, leg: u32)
     requires { IsLeg leg }
     ensures { units.new ≡ spelling (Over txn leg) }
@@ -82,7 +82,7 @@ pub fn spell_over(units: &mut Units, txn: u32, leg: u32)
     put_first(units, header(OVER, 1, leg, txn));
 }
 
-/// So a Note with this text.
+/// Likewise a Note with this text.
 pub fn spell_note(units: &mut Units, txn: u32, text: &[u8])
     requires { IsNoteText text.now }
     ensures { units.new ≡ spelling (Note txn text.now) }

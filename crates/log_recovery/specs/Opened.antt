@@ -35,7 +35,7 @@ placed list = history_from list.opening.lsn [] list.records
 abbrev pub with_records : OpenedList → List Rec → OpenedList
 with_records list more = record { opening = list.opening; records = list.records ++ more }
 
--- these records, as a front of the list's, behind what stands before it
+-- these records, as a prefix of the list's, behind what stands before it
 abbrev pub with_front : OpenedList → List Rec → OpenedList
 with_front list front = record { opening = list.opening; records = front }
 

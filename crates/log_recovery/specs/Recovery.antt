@@ -32,7 +32,7 @@ pub record HoldsLawful (bytes : List ℕ) (opened : OpenedList) : Type 0 where
   pub list : HoldsList bytes opened
   pub lawful : IsLawful (opening_of opened.opening) (placed opened)
 
--- the end, the accounts and the next transaction number of the lawful list that the bytes hold, and where they end
+-- the end, the accounts and the next transaction number of the lawful list that the bytes hold, and where the file goes on
 pub record Recovers (recovered : Recovered) (bytes : List ℕ) : Type 0 where
   pub list : OpenedList
   pub held : HoldsLawful bytes list
@@ -41,7 +41,7 @@ pub record Recovers (recovered : Recovered) (bytes : List ℕ) : Type 0 where
   pub next_txn : recovered.next_txn ≡ (opening_after (opening_of list.opening) (placed list)).txn + 1
   pub accounts : ShowsAccounts recovered.accounts.rows (base_with (opening_of list.opening) (placed list)) (placed list)
 
--- the judge has taken the lawful list that the bytes hold, and they end at this tail
+-- the judge has taken the lawful list that the bytes hold, and the file goes on at this tail
 pub record JudgesBytes (judge : Judge) (tail : Tail) (bytes : List ℕ) : Type 0 where
   pub list : OpenedList
   pub held : HoldsLawful bytes list
@@ -73,7 +73,7 @@ pub record HasRecords (listed : Listed) (records : List Rec) : Type 0 where
   pub list : AreUnitsOf listed.units records
   pub end : listed.tail.next ≡ list_end (list_of listed records)
 
--- the list that the bytes hold, lawful or not, and where they end
+-- the list that the bytes hold, lawful or not, and where the file goes on
 pub record ListsBytes (listed : Listed) (bytes : List ℕ) : Type 0 where
   pub records : List Rec
   pub held : HoldsList bytes (list_of listed records)

@@ -23,7 +23,7 @@ pub(crate) fn place_of(begin: Lsn, units: &[u64], rest: &[u64]) -> Lsn
     Lsn::new(begin.units() + (units.len() - rest.len()) as u32)
 }
 
-/// The first place behind a front of records at which no record begins, where there is one. The list begins at that LSN.
+/// The first place behind a prefix of records at which no record begins, where there is one. The list begins at that LSN.
 pub(crate) fn first_bad(begin: Lsn, units: &[u64], front: &[u64]) -> Option<Lsn>
     requires front { IsFront units.now front.now }
     requires fits { begin + length units.now ≤ LAST }

@@ -38,8 +38,8 @@ took_account account word view =
 abbrev pub after_account : ℕ → ℕ → ℕ → View → View
 after_account account from n view = if n == from then took_account account from view else saw_account account n view
 
--- the account as it goes back: under the number of the seat's last job, with its balance as it was taken, tail and durable as they are
--- seen now, and whether the log has that job's Commit
+-- the account as it goes back: under the number of the seat's last job, with its balance as it was taken, tail and durable as last
+-- seen, and whether the log has that job's Commit
 abbrev pub given_as : ℕ → View → Given
 given_as account view = record {
   txn = view.books.last.number;

@@ -83,7 +83,7 @@ pub record IsUpToDate (base : BaseState) (h : List Placed) (account word : ℕ) 
   pub balance : IsBalanceOf base h account (balance_in word)
   pub last_commit : last_commit_of base h account ≡ last_commit_in word
 
--- The account's balance as it was taken is that of some front of the list, which ends at or above the tail as the seat had seen it when
+-- The account's balance as it was taken is that of some prefix of the list, which ends at or above the tail as the seat had seen it when
 -- it gave the account back.
 pub record IsOfFront (base : BaseState) (h : List Placed) (given : Given) : Type 0 where
   pub later : List Placed
@@ -98,7 +98,7 @@ WentBack base h given = given.committed ≡ false → IsOfFront base h given
 
 -- Where no job number stands twice: the list is a lawful continuation of the base state, and every balance is in its range. What it
 -- has of a seat's last job is what the seat placed. Each free account's word is that of the list, and each held account follows it; one
--- that was given back uncommitted had the balance of a front. Each job is run whole or cut short, and there are no other transactions.
+-- that was given back uncommitted had the balance of a prefix. Each job is run whole or cut short, and there are no other transactions.
 pub record AccountsFollowList (base : BaseState) (words : ℕ → ℕ) (h : List Placed) (all : List Books) : Type 0 where
   pub lawful : IsLawful (as_opening base) h
   pub range : AreInRange base h

@@ -48,7 +48,7 @@ pub record IsLedger (base : BaseState) (h : List Placed) (tasks : List NumberedT
   pub accounts : KeepsRows rows base h
 
 -- There is a row for each account. Where no number of the gathered jobs stands twice, the gathered list is their ledger, and each account
--- that was given back uncommitted had the balance of a front of that list.
+-- that was given back uncommitted had the balance of a prefix of that list.
 pub record HasLedger (base : BaseState) (view : View) (rows : List (ℕ × ℕ)) : Type 0 where
   pub count : length rows ≡ base.accounts
   pub ledger : ((number : ℕ) → times_taken number view.books.jobs ≤ 1)

@@ -21,7 +21,7 @@ enrolled view = record view {
 abbrev pub retired : View → View
 retired view = record view { standing = record view.standing { role = Ended }; seen = counted view.seen }
 
--- the flusher's view once it has made a worker; nobody is known to be at rest any more
+-- the flusher's view once it has made a worker; it no longer knows that nobody is at work
 abbrev pub hires : ℕ → View → View
 hires worker view = record view {
   standing = record view.standing { made = worker ∷ view.standing.made };

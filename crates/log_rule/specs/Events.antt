@@ -40,7 +40,7 @@ abbrev pub hands_of : ℕ → List View → List Hand
 hands_of seat [] = []
 hands_of seat (view ∷ views) = record { actor = seat; task = task_in view.call } ∷ hands_of (seat + 1) views
 
--- what of the machine's state belongs to bases
+-- what of the machine's state names no actor
 abbrev pub ring_of : Start → Words → Log → RingLog
 ring_of key words log = record {
   start = key.start;
@@ -78,11 +78,11 @@ pub data Event : Type 0 where
 abbrev pub reserves : ℕ → ℕ → Event
 reserves seat n = One (Ring (Reserve seat n))
 
--- the seat fills the next unit of what it reserved
+-- the seat fills the next unit of its range or its piece
 abbrev pub fills : ℕ → Event
 fills seat = One (Ring (Fill seat))
 
--- the seat releases what it reserved, and marks it
+-- the seat marks its range, or its group's, as released
 abbrev pub marks : ℕ → Event
 marks seat = One (Ring (Mark seat))
 

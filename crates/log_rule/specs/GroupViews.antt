@@ -58,7 +58,7 @@ unheard_books (Ready leader total outcome) piece books = granted_books outcome p
 unheard_books (Told total outcome remaining) piece books = granted_books outcome piece books
 unheard_books (Emptied last) piece books = books
 
--- the books of a member at this step; one that has heard has placed its record itself
+-- the books of a member at this step; one that has heard has its record in its own books, if it was placed
 abbrev pub member_books : GroupPhase → Piece → MemberStep → Books → Books
 member_books phase piece Closes books = unheard_books phase piece books
 member_books phase piece Waits books = unheard_books phase piece books

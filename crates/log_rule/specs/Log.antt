@@ -187,7 +187,7 @@ pub record IsSharedByMembers (groups : ℕ → Group) (range : LogRange) : Type 
 abbrev pub IsOwed : (ℕ → Group) → LogRange → Type 0
 IsOwed groups range = IsOwedBySeat range ⊎ IsSharedByMembers groups range
 
--- where the range is not released, there is who has to release it
+-- where the range is not released, somebody has to release it
 abbrev pub IsAtWork : (ℕ → Group) → LogRange → Type 0
 IsAtWork groups range = IsReleased range ⊎ IsOwed groups range
 

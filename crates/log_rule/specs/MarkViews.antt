@@ -8,7 +8,7 @@ use Rattle.log_rule.specs.declared.view.View.{View}
 use Rattle.log_rule.specs.GroupViews.{call_after, follow_up}
 use Rattle.log_rule.specs.Views.{counted, run_in, seen_exposed}
 
--- after a store of the mark of the seat's range, which is released by it
+-- after a store of the mark of the seat's range or its group's, which is released by it
 abbrev pub marked : View → View
 marked view = record view { seen = counted view.seen; entries = view.entries ++ run_in view.call; call = Marked (follow_up view.call) }
 

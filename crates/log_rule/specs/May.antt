@@ -83,8 +83,8 @@ pub record HasLooked (seen : Seen) : Type 0 where
   pub tail : seen.tail_step + 1 ≡ seen.steps
   pub durable : seen.durable_step ≡ seen.steps
 
--- The tail may be exchanged for the units of the next record of the seat's last job: it was looked at, and there is room by what was
--- seen.
+-- The tail may be exchanged for the units of the next record of the seat's last job: the seat isn't contended, it looked, and by what
+-- it saw there is room.
 pub record MayReserve (from to : ℕ) (view : View) : Type 0 where
   pub rests : IsAtRest view
   pub alone : view.contended ≡ false

@@ -26,7 +26,7 @@ pub record HadSeenUpTo (tail durable : ℕ) (member : Member) : Type 0 where
   pub tail_seen : member.piece.tail ≤ tail
   pub durable_seen : member.piece.durable ≤ durable
 
--- nor is the tail above the base of its group, or are both above those by which the group was refused
+-- so by what became of the group: the tail is not above its base, or neither is above that by which it was refused
 abbrev pub HadSeenUnder : Outcome → Member → Type 0
 HadSeenUnder (Granted base) member = member.piece.tail ≤ base
 HadSeenUnder (Refused tail durable) member = HadSeenUpTo tail durable member
@@ -46,7 +46,7 @@ IsTrueOutcome start tail durable ranges (Refused seen_tail seen_durable) = WasSe
 abbrev pub LacksRoom : ℕ → ℕ → ℕ → ℕ → Type 0
 LacksRoom ring total tail durable = (LAST < tail + total) ⊎ (durable + ring < tail + total)
 
--- a group that was refused has no room
+-- a group that was refused has no room by its refusal's tail and durable
 abbrev pub LacksRoomIfRefused : ℕ → ℕ → Outcome → Type 0
 LacksRoomIfRefused ring total (Granted base) = Unit {0}
 LacksRoomIfRefused ring total (Refused tail durable) = LacksRoom ring total tail durable

@@ -21,8 +21,8 @@ use Rattle.log_rule.specs.FirstAccounts.{HasAccounts}
 use Rattle.log_rule.specs.Sound.{IsSound}
 use Rattle.log_rule.specs.Words.{Words}
 
--- A table was made with this key, whose accounts are in range. At one moment the rule holds of its words, the views of all seats and the
--- log, and the view of the seat with this number is this one.
+-- The key's accounts are in range. There are words, views of all seats and a log of which the rule holds for a table made with the key,
+-- and the view of the seat with this number is this one.
 pub record HoldsAtOnce (key : Start) (seat : ℕ) (view : View) : Type 0 where
   pub accounts : HasAccounts key
   pub words : Words

@@ -19,7 +19,7 @@ is_worker Ended = true
 is_worker Note = false
 is_worker Spent = false
 
--- the worker may still step, or become one that may
+-- the worker is active, or may become so
 abbrev pub is_working : Role → Bool
 is_working Flusher = false
 is_working Fresh = true

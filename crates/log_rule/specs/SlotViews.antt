@@ -175,11 +175,11 @@ call_reserved base (Holding at after) = Holding at after
 call_reserved base (Raising from to after) = Raising from to after
 call_reserved base (Reopening slot) = Reopening slot
 
--- after an exchange of the tail that a leader made for its group; the new tail counts as seen
+-- after an exchange of the tail by which a leader reserved for its group; the new tail counts as seen
 abbrev pub reserved_group : ℕ → ℕ → View → View
 reserved_group from to view = record view { seen = seen_tail to view.seen; call = call_reserved from view.call }
 
--- after an exchange of the tail that was made: by a member for its group, else for the seat's next record
+-- after an exchange of the tail that succeeded: a leader's for its group, else one for the seat's next record
 abbrev pub exchanged : ℕ → ℕ → View → Call → View
 exchanged from to view Idle = reserved from to view
 exchanged from to view (Filling entry) = reserved from to view

@@ -37,7 +37,7 @@ pieces_at slot (Reopening other) = []
 
 -- ---- who makes a slot's next step
 
--- the seat makes the next step of a slot at this phase, and nobody else does
+-- the seat alone makes the next step of a slot at this phase, which ends it; while a group gathers others may join it
 abbrev pub is_led_by : ℕ → GroupPhase → Bool
 is_led_by seat Vacant = false
 is_led_by seat (Gathering leader total) = leader == seat

@@ -1,5 +1,5 @@
--- The view of a new seat, and how each kind of step on the log's words changes the view of its seat. `AccountViews` has the steps on jobs
--- and accounts, `CrewViews` those of a worker's life, and `MarkViews` those that release and expose.
+-- The first seat's view, and how each kind of step on the log's words changes the view of its seat. `AccountViews` has the steps on jobs
+-- and accounts, `CrewViews` those of a worker's life, `MarkViews` those that release and expose, and `SlotViews` those on slots.
 use Rattle.std.specs.Prelude.{◌==◌, ◌&&◌, ℕ, ◌+◌, ◌-◌, if◌then◌else◌, nat_lt, Bool, true, false, List, [], ◌∷◌, ◌++◌, length}
 use Rattle.std.specs.List.{list_all, list_any}
 use lib.Dec.{eqb}
@@ -210,7 +210,7 @@ has_sent to view = record view {
 abbrev pub has_stopped : ℕ → View → View
 has_stopped word view = record view { seen = counted view.seen; sending = record view.sending { stop = word } }
 
--- after an exchange of the tail that was made; the new tail counts as seen, and the next record of the seat's last job has its place
+-- after an exchange of the tail that succeeded; the new tail counts as seen, and the next record of the seat's last job has its place
 abbrev pub reserved : ℕ → ℕ → View → View
 reserved from to view = record view {
   seen = seen_tail to view.seen;

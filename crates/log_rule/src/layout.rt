@@ -1,5 +1,5 @@
-//! Where the words lie in the table. Words that many threads write stand far enough apart to lie on
-//! cache lines of their own. `proofs/Wording.antt` shows that no two words share a place.
+//! Where the words lie in the table. Ring and release marks are packed; the other words stand two cache
+//! lines from one another, or more. `proofs/WordPlaces.antt` shows that no two words share a place.
 
 ghost use Rattle.std.specs.Prelude.{◌≡◌, ◌≤◌, ◌+◌, ◌*◌, ◌%◌};
 ghost use Rattle.lsn_space.specs.declared.lsn.TheConstants.{LEAST_RING, GREATEST_RING};
@@ -14,7 +14,7 @@ pub const MOST_SLOTS: u32 = 16;
 /// Words from one shared word to the next, two cache lines.
 pub const STRIDE: usize = 16;
 
-/// The end of the last reservation. The base crate's own moves load word 0.
+/// The end of the last reservation. `split_seat` and `join_seat` of `atomic_table` load word 0.
 pub const TAIL: usize = 0;
 /// Everything below is filled.
 pub const EXPOSED: usize = STRIDE;
@@ -29,7 +29,7 @@ pub const CREW: usize = 4 * STRIDE;
 /// accounts' words.
 pub const RING: usize = 5 * STRIDE;
 
-/// A law: the words that many threads write stand 16 words apart.
+/// A law: the stride of the words that aren't packed is 16.
 pub fn fixed_layout()
     ensures stride { STRIDE ≡ 16 }
 {}

@@ -5,7 +5,7 @@ use lock_core::Job;
 use log_record::Rec;
 use std::collections::LinkedList;
 
-/// A record for which one seat reserved a range: from `start` on, `size` of them, of which
+/// A record and its range of the log: `size` units from `start` on, of which
 /// `units` are copied into the ring so far.
 pub struct Entry {
     pub start: u64,
@@ -17,7 +17,7 @@ pub struct Entry {
 /// The call that a seat has under way.
 pub enum Call {
     Idle,
-    /// A range is reserved, and being copied into the ring.
+    /// A range is reserved for a record, which is being copied into the ring.
     Filling(Entry),
     /// The seat has joined the group at a slot, and not released its piece.
     Joined {
@@ -49,7 +49,7 @@ pub enum Call {
 }
 
 pub enum Role {
-    /// The table's first seat, the only one that splits and merges.
+    /// The table's first seat, the only one that makes workers and merges.
     Flusher,
     /// A worker's seat that is not enrolled yet.
     Fresh,
@@ -80,8 +80,8 @@ pub struct Standing {
 
 /// The last value seen in each word, and of the LSNs at which of the seat's steps; of the marks the last
 /// one, and at which LSN it was found; of the accounts' words the last one, and whose it was; of the slots'
-/// states the last one, and whose it was; of their bases the last one; every LSN that was seen, newest
-/// first; and each refusal of a group that the seat heard as its member, newest first.
+/// states the last one, and whose it was; of their bases the last one; every LSN seen
+/// in tail, exposed, durable or a base; and each refusal of a group that the seat heard as its member.
 pub struct Seen {
     pub steps: u64,
     pub tail: u64,
@@ -141,7 +141,7 @@ pub struct Given {
 }
 
 /// The jobs that the seat took, the accounts that it holds and those that it gave back, each newest
-/// first; the last job that it took, of number 0 where it took none, and the records of that job in the
+/// first until a merge; the last job that it took, of number 0 where it took none, and the records of that job in the
 /// log, newest first.
 pub struct Books {
     pub jobs: LinkedList<TakenJob>,
@@ -155,11 +155,11 @@ pub struct View {
     pub constants: Constants,
     pub standing: Standing,
     pub seen: Seen,
-    /// The ranges that the seat reserved, filled and released, in order.
+    /// The seat's records in the log that are filled and released, in order.
     pub entries: LinkedList<Entry>,
     pub call: Call,
     /// Whether the seat, in a table with slots, has lost an exchange of the tail that it made alone, and has
-    /// neither joined a group at its slot since nor seen that it can't.
+    /// neither tried to join a group at its slot since nor seen that it can't.
     pub contended: bool,
     pub sending: Sending,
     pub books: Books,

@@ -32,7 +32,7 @@ pub record LoadsStop (table : LogTable) (word : ℕ) (after : View) (old new : S
   pub open loads use *
   pub stays : (view_of old).seen.stop ≢ 0 → word ≡ (view_of old).seen.stop
 
--- As the seat changes the word so, the rule holds of all seats' views, with this one's as it is then.
+-- As the seat changes the word so, the rule holds of some views of all seats, this one's, as it is then, among them.
 pub record ChangesAtOnce (table : LogTable) (place : Word) (change : ℕ → ℕ) (after : View) (effect : Event) (old new : Seat) : Type 0 where
   pub changes : ChangesWord table place change after effect old new
   pub open changes use *

@@ -110,7 +110,7 @@ impl LogTable {
         self.table
             .shared
             .join_seat::<TakeIn>(&mut seat.base, other.base);
-        // Joining tells nothing of the rule, as a step does.
+        // Joining tells nothing of the rule; a step does.
         self.table.shared.load::<TellStop>(&mut seat.base, STOP);
     }
 }

@@ -30,7 +30,7 @@ pub struct LogTable {
     pub(crate) ring: u32,
     pub(crate) slots: u32,
     pub(crate) accounts: u32,
-    /// The accounts as they were at first. Their room takes those at the end.
+    /// The accounts as they were at first. `close` puts those at the end in their place.
     pub(crate) rows: Balances,
     ghost wide: { (LEAST_RING ≤ ring) × (ring ≤ GREATEST_RING) },
     ghost few_slots: { slots ≤ MOST_SLOTS },

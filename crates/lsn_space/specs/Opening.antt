@@ -19,7 +19,7 @@ no_opening = record { lsn = 0; txn = 0; accounts = [] }
 abbrev pub IsRow : ℕ → ℕ × ℕ → Type 0
 IsRow lsn row = (row.0 ≤ MOST_BALANCE) × (row.1 ≤ lsn)
 
--- an opening that has accounts: as many as a log may have, each with a balance in its range and a mark at most where the list begins
+-- an opening with accounts, at most as many as a log may have, each with a balance in its range and a mark at most where the list begins
 pub record IsSnapshot (opening : Opening) : Type 0 where
   pub lsn : opening.lsn ≤ LAST
   pub txn : opening.txn < 2 ^ 32

@@ -1,5 +1,5 @@
-//! Addresses in the log, units of eight bytes, numbers as text, and the small types that every
-//! other crate passes around: an LSN, a word of the command line, the accounts' balances.
+//! Addresses in the log, units of eight bytes, numbers as text, and small types that most
+//! other crates pass around: an LSN, a word of the command line, the accounts' balances.
 #![tactic(auto)]
 
 mod balances;

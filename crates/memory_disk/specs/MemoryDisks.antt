@@ -27,7 +27,7 @@ file_of d = file_after d.start d.history
 abbrev pub ImagesOf : DiskState → List ℕ → Type 0
 ImagesOf d = Images d.start d.history
 
--- how often what a crash may leave has changed
+-- how many writes and syncs the history has
 abbrev pub moment_of : DiskState → ℕ
 moment_of d = length d.history
 

@@ -66,8 +66,8 @@ impl Model for MemoryDisk {
 }
 
 impl MemoryDisk {
-    /// A disk that holds these bytes, all of them stable. Each write takes its length and `RECORD` of the
-    /// room, each sync `RECORD`. The calls whose numbers are in `failing` fail, counted from 1.
+    /// A disk that holds these bytes, all of them stable. Each write that succeeds takes its length and `RECORD` of the
+    /// room, each such sync `RECORD`. The calls whose numbers are in `failing` fail, counted from 1.
     pub fn make(
         alloc: Global,
         bytes: &[u8],
@@ -165,7 +165,7 @@ impl MemoryDisk {
         self.is_attached = true;
     }
 
-    /// Keeps the first half of a write that fails, where there is room for its record.
+    /// Keeps the first half of a write that fails, where there is room for the whole.
     fn keep_half(&mut self, at: usize, bytes: &[u8])
         requires { at ≤ length (file_of self.old) }
         ensures same { self.new ≡ record self.old { history = self.new.history; room = self.new.room } }
@@ -265,7 +265,7 @@ impl LogDisk for MemoryDisk {
         Ok(copy_from(&self.held, at as usize, buf))
     }
 
-    // A write that fails leaves the first half of its bytes, where there is room for its record.
+    // A write that fails leaves the first half of its bytes, where there is room for all of them.
     fn write_at(&mut self, at: u64, bytes: &[u8]) -> Result<(), Failed>
         requires { at ≤ length (file_of self.old) }
         ensures written { OnOk result (file_of self.new ≡ put at bytes.now (file_of self.old)) }

@@ -76,7 +76,7 @@ impl Sink for MemorySink {
         ensures bytes { WriteAppends (Some self.old.held) (Some self.new.held) result piece.now }
         ensures cause { HasCause self.old.faults self.new.faults result }
 
-        // Beside the trait's: it fails exactly where it was told to, and takes as much as it can.
+        // Beside the trait's: it fails exactly where it was told to or is full, and takes as much as it can.
         ensures fails { IsErr result ↔ WriteFails self.old }
         ensures count { IfOk result (λ n. n ≡ min (length piece.now) (self.old.room - length self.old.held)) }
         ensures calls { self.new.calls ≡ raised self.old.calls }

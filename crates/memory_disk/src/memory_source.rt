@@ -87,7 +87,7 @@ impl Source for MemorySource {
         ensures spent { self.old.read_allowance ≡ 0 → IsErr result }
         ensures cause { HasCause self.old.faults self.new.faults result }
 
-        // Beside the trait's: it fails exactly where it was told to, and gives as much as it may.
+        // Beside the trait's: it fails exactly where it was told to or the allowance is 0, and gives as much as it may.
         ensures fails { IsErr result ↔ ReadFails self.old }
         ensures count { IfOk result (λ n. n ≡ min (min (length self.old.left) self.old.piece) (length buf.old)) }
         ensures calls { self.new.calls ≡ raised self.old.calls }

@@ -145,7 +145,7 @@ pub record HasInHand (lsn : ℕ) (view : View) : Type 0 where
   pub step : view.seen.exposed_step ≡ view.seen.steps
 
 -- Exposed was at this LSN as the seat saw it last, in its last step but one. Its last step looked for a mark there and found none above it:
--- no released range begins there.
+-- no released range began there.
 pub record IsLastExposed (lsn : ℕ) (seen : Seen) : Type 0 where
   pub exposed : seen.exposed ≡ lsn
   pub just_before : seen.exposed_step + 1 ≡ seen.steps
@@ -177,7 +177,7 @@ pub record HasOnlySeen (old new : Seat) : Type 0 where
   pub stop : SeesNoStop old new
   pub contended : (view_of new).contended ≡ (view_of old).contended
 
--- The seat has nothing left to expose, which it did since its view was `old`. It has nothing under way, or where the range was a group's it
+-- Since `old` the seat has exposed, and it has nothing left to expose. It has nothing under way, or where the range was a group's it
 -- is about to open the slot again.
 pub record HasExposed (lsn : ℕ) (old new : View) : Type 0 where
   pub call : new.call ≡ call_after (follow_up old.call)

@@ -7,7 +7,7 @@ use Rattle.log_table.specs.Seats.{view_of}
 use Rattle.ring_buffer.specs.Calls.{HasEntries, KeepsEntries, SeesNoStop, entry_of}
 use Rattle.ring_buffer.specs.declared.refused.Refused.{Refused}
 
--- the seat has besides its entries of before the next record of its last job, of n units, at this LSN
+-- the seat has its old entries and, behind them, the next record of its last job, of n units, at this LSN
 abbrev pub HasInserted : Seat → Seat → ℕ → ℕ → Type 0
 HasInserted old new n at = HasEntries old new ((view_of old).entries ++ entry_of at (next_of (view_of old).books) ∷ [])
     (placing (at + n) (next_of (view_of old).books) (view_of old).books)

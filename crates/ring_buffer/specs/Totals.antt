@@ -19,6 +19,6 @@ IsTotalFor ring slots Known size total = (total ≡ size) ⊎ IsOfGroup ring slo
 abbrev pub IsHeard : List HeardRefusal → ℕ → ℕ → Type 0
 IsHeard refusals size total = Contains refusals (record { size = size; total = total })
 
--- a group's total is one of whose refusal the seat with this view heard
+-- the same, where the group is one of whose refusal the seat with this view heard
 abbrev pub IsTotalOfSeat : View → ℕ → ℕ → Type 0
 IsTotalOfSeat view size total = IsTotalFor view.constants.ring view.constants.slots (IsHeard view.seen.refusals) size total

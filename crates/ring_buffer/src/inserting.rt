@@ -17,9 +17,9 @@ use lsn_space::Lsn;
 use schedule_hook::{Gate, Place};
 
 /// Inserts the next record of the seat's last job, which has these units, behind what other workers
-/// have reserved, and answers its LSN once it is released. It waits for nobody, and returns: where
+/// have reserved, and answers where it begins once it is released. It waits for nobody, and returns: where
 /// another was faster it reserves again, and what others have yet to release they expose. It is for a
-/// table without slots: with them the seat would be contended, and couldn't reserve alone again.
+/// table without slots: with them a lost exchange leaves the seat contended, so it couldn't reserve alone again.
 pub fn insert_alone<G: Gate>(
     table: &LogTable,
     seat: &mut Seat,

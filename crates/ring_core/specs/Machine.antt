@@ -48,7 +48,7 @@ after_mark s actor (Some r) = state (marked (log_of s) r.base) (with_stage actor
 abbrev pub after_look_exposed : RingState → ℕ → RingState
 after_look_exposed s actor = turned s actor (Holds s.exposed)
 
--- where the reservation at the LSN in hand is marked the actor is about to raise exposed from there, else it has done
+-- where the reservation at the LSN in hand is marked the actor is about to raise exposed from there, else it has nothing in hand
 abbrev pub after_look_mark : RingState → ℕ → Option ℕ → RingState
 after_look_mark s actor None = s
 after_look_mark s actor (Some at) = turned s actor (after_look at (is_marked at s.reservations))

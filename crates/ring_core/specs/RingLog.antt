@@ -13,7 +13,7 @@ pub record Reservation : Type 0 where
   pub filled : ℕ
   pub released : Bool
 
--- the reservations in order, and the three LSNs of the log
+-- where the log starts, how long its ring is, the reservations in order, and the tail, exposed and durable
 pub record RingLog : Type 0 where
   pub start : ℕ
   pub ring : ℕ

@@ -2,7 +2,7 @@
 
 use lsn_space::Lsn;
 
-/// What one actor does to the ring in one atomic action.
+/// What happens to the ring in one atomic action: one actor's, but for `Flushed`.
 #[derive(Clone, Copy, Debug, PartialEq, Eq)]
 pub enum RingEvent {
     /// Actor `by` reserves the next `n` units.

@@ -8,7 +8,7 @@ ghost use Rattle.ring_core.specs.Laws.{IsSound, LooksLastAtExposed};
 ghost use Rattle.ring_core.specs.declared.event.RingEvent.{RingEvent};
 
 /// The machine's laws: from any start and with any ring, every list of events leads to one state,
-/// and this state is sound.
+/// and this state is sound where the start is at most `LAST`.
 pub fn ring_laws()
     ensures reaches { (start ring : ℕ) (events : List RingEvent) → (s : RingState) × RunsRing (start_state start ring) events s }
     ensures one_state { (old s t : RingState) (events : List RingEvent) → RunsRing old events s → RunsRing old events t → s ≡ t }

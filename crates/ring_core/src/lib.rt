@@ -1,4 +1,4 @@
-//! The log buffer's ring as a pure machine. Its state, its events and its laws stand in `specs/`;
+//! The log buffer's ring as a pure machine. Its state, what its events do and its laws stand in `specs/`;
 //! `RingLog` is the half of it that belongs to bases, `RingRun` replays one list of events, and
 //! `ring_laws` says what holds after every list.
 #![tactic(auto)]

@@ -1,4 +1,4 @@
-//! The log of the ring: its marks, and the reserved ranges that aren't exposed yet.
+//! The log of the ring: all reserved ranges, and the tail, exposed and durable.
 
 ghost use Rattle.std.specs.Prelude.{◌≡◌, ◌<◌, ◌↔◌, length, IsTrue, IfSome, OnOk, OnErr, slice_get, option_and_then};
 ghost use Rattle.std.specs.Bool.{OnTrue, OnFalse};
@@ -166,7 +166,7 @@ impl RingLog {
         true
     }
 
-    /// Whether one of the reservations ends at `place`, or the first starts there.
+    /// Whether one of the reservations ends at `place`, or the log starts there.
     fn is_boundary(&self, place: u32) -> bool
         ensures { IsTrue result ↔ IsLogBoundary self.now place }
     {

@@ -19,7 +19,7 @@ pub struct Plan {
     /// What is written of each record that ends one of them.
     pub voice: Voice,
 
-    /// Whether a worker gives accounts back only once the end of its transaction is durable.
+    /// Whether a worker keeps a transfer's accounts until its end is durable, or it is cut off.
     pub wait: bool,
 }
 

@@ -5,7 +5,7 @@ use Rattle.lock_core.specs.AccountRows.{row}
 use Rattle.lock_core.specs.Sums.{sum_below}
 use Rattle.run_summary.specs.declared.summary.Counts.{Counts}
 
--- the sum over so many accounts, each balance as often as the account's number and 1 say: it tells which account has what
+-- the sum over so many accounts, each balance as often as the account's number and 1 say: it depends on which account has what
 abbrev pub mix_below : ℕ → (ℕ → ℕ) → ℕ
 mix_below accounts balance = sum_below accounts (λ account. (account + 1) * balance account)
 

@@ -13,9 +13,9 @@ pub enum Place {
     Placed,
     /// It joined a group.
     Joined,
-    /// It told its group where it was placed.
+    /// It told its group where it was placed, or why it was refused.
     Published,
-    /// Its range is copied into the ring.
+    /// Its record is copied into the ring.
     Filled,
     /// It marked its range as released.
     Marked,

@@ -15,7 +15,7 @@ HoldsBatches log batches bytes = (held : HoldsLog bytes log) × (held.reads.batc
 abbrev pub HoldsNoneOrBatches : Log → List (List ℕ) → List ℕ → Type 0
 HoldsNoneOrBatches log batches bytes = (BeginsAsLog bytes → ⊥) ⊎ HoldsBatches log batches bytes
 
--- and their first gate that isn't open is at this tail
+-- the bytes hold this log in these batches, and their first gate that isn't open is at this tail
 abbrev pub BatchesStandAt : Tail → Log → List (List ℕ) → List ℕ → Type 0
 BatchesStandAt tail log batches bytes = (stands : LogStandsAt tail log bytes) × (stands.held.reads.batches ≡ batches)
 

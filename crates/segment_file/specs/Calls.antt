@@ -1,4 +1,4 @@
--- What the calls of this crate do to a disk that only look at it, or write bytes at a place. `g` is what a disk shows;
+-- What the calls of this crate do that only look at a disk, or write bytes at a place. `g` is what a disk shows;
 -- `old` and `new` are the disk before and after.
 use Rattle.std.specs.Prelude.{◌≡◌, ◌≤◌, ◌↔◌, ℕ, ◌+◌, ◌*◌, List, [], ◌∷◌, length, max, Bool, IsTrue, Result, IfOk, OnOk}
 use Rattle.log_disk.specs.Costs.{Costs}
@@ -16,7 +16,7 @@ use Rattle.segment_file.specs.declared.layout.TheConstants.{OPEN}
 abbrev pub LiesWithin : {D : Type 0} → Ghosts D → ℕ → D → Type 0
 LiesWithin g at disk = g.honest disk → at ≤ length (g.reads disk)
 
--- the gate at this place is not open and stable, or lacks in each image
+-- the gate at this place isn't open, and its byte is the same in each image, or missing in each
 abbrev pub HasStableGate : {D : Type 0} → Ghosts D → ℕ → D → Type 0
 HasStableGate g at disk = g.honest disk → IsStableGate at (g.images disk)
 
@@ -57,7 +57,7 @@ pub record WritesUnsynced {D T E : Type 0} (g : Ghosts D) (at : ℕ) (bytes : Li
   pub later : g.moment old ≤ g.moment new
   pub cause : HasCause (g.faults old) (g.faults new) result
 
--- the body is written behind the gate at this place, and is stable before the gate's byte is
+-- the body is written behind the gate at this place, and is stable before the gate is opened
 pub record WritesGated {D T E : Type 0} (g : Ghosts D) (at : ℕ) (body : List ℕ) (old new : D) (result : Result T E) : Type 0 where
   pub written : g.honest old → OnOk result (g.reads new ≡ put at (OPEN ∷ []) (put (at + 1) body (g.reads old)))
   pub settled : g.honest old → OnOk result (IsOnlyImage (g.reads new) (g.images new))

@@ -28,7 +28,7 @@ pub record OpensImage {D T : Type 0} (g : Ghosts D) (old new : D) (result : Resu
   pub attached : g.attached new ≡ g.attached old
   pub faults : CountsWhere (IsErrOf result DiskFault) (g.faults old) (g.faults new)
 
--- the gate at this place is closed for good: a byte is written there where it lacks, and else nothing changes
+-- after Ok the gate at this place is shut: a closed one is written where it is missing or a last byte 0x4F, and else nothing changes
 pub record ClosesGate {D T E : Type 0} (g : Ghosts D) (at : ℕ) (old new : D) (result : Result T E) : Type 0 where
   pub moments : g.honest old → Leaves g.moment g.images_since (StaysClosed at (g.images old)) old new
   pub shut : g.honest old → OnOk result (IsShut at (g.images new))
@@ -43,7 +43,7 @@ pub record ClosesGate {D T E : Type 0} (g : Ghosts D) (at : ℕ) (old new : D) (
   pub cause : HasCause (g.faults old) (g.faults new) result
   pub length : g.honest old → GrowsAtMostTo g (at + 1) old new
 
--- so is the gate at a log's tail, and the log stands as before at each moment
+-- so is the gate at a log's tail; at each moment a crash leaves the log, and at the return it stands as before
 pub record SettlesTail {D E : Type 0} (g : Ghosts D) (at next : ℕ) (old new : D) (result : Result Tail E) : Type 0 where
   pub moments : g.honest old → (log : Log) → LogStands (tail_at at next) log (g.images old)
       → Leaves g.moment g.images_since (λ c. HoldsLog c log) old new

@@ -1,4 +1,4 @@
--- The bytes of a log file: batches of units, each behind a gate byte. The files of the first format, whose list begins with nothing.
+-- The bytes of a log file: batches of units, each behind a gate byte. The files of the first format, with nothing before the list.
 use Rattle.std.specs.Prelude.{◌≡◌, ◌<◌, ◌≤◌, ◌⊎◌, ℕ, ◌+◌, ◌^◌, List, [], ◌∷◌, ◌++◌, length, codes}
 use Rattle.std.specs.List.{flat_map, AllByRecursion}
 use Rattle.std.specs.Int.{w32, to_be_bytes}

@@ -56,7 +56,7 @@ pub record IsBadSnapshot (bytes : List ℕ) : Type 0 where
   pub second : BeginsAsSecond bytes
   pub none : (opening : Opening) (rest : List ℕ) → IsSnapshot opening → bytes ≡ OPEN ∷ head opening ++ rest → ⊥
 
--- the bytes read this log up to an open gate at this place, and no batch follows that the log has room for
+-- the bytes are this log up to an open gate at this place, and no batch follows that the log has room for
 pub record IsBadBatchBehind (bytes : List ℕ) (log : Log) (offset : ℕ) : Type 0 where
   pub body : List ℕ
   pub some : 0 < length body

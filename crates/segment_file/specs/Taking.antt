@@ -12,7 +12,7 @@ pub record TakesFront (bytes : List ℕ) (opening : Opening) (units rest : List 
   pub whole : bytes ≡ front ++ rest
   pub total : opening.lsn + length units ≤ LAST
 
--- a batch goes from the front of the bytes to the end of the units of a log that begins at this LSN, and the rest of the bytes is left
+-- a batch goes from the start of the bytes to the end of the units of a log that begins at this LSN, and the rest of the bytes is left
 pub record TakesBatch (begin : ℕ) (old bytes new rest : List ℕ) : Type 0 where
   pub units : List ℕ
   pub counted : IsCountedBatch units

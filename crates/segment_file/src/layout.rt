@@ -11,7 +11,7 @@ pub const CLOSED: u8 = 0;
 /// The magic bytes that a file begins with behind its first gate.
 pub const MAGIC: usize = 7;
 
-/// The place of the last of them.
+/// The index of the last among them.
 pub const LAST_OF_MAGIC: usize = 6;
 
 /// The bytes of a unit.

@@ -1,4 +1,4 @@
-//! The log file: batches of units, each behind a gate byte. A batch counts where its gate is open.
+//! The log file: batches of units, each behind a gate byte. A batch counts where its gate and all before it are open.
 //! `scan` reads what a file's bytes hold by the grammar of `specs/Log.antt`.
 #![tactic(auto)]
 

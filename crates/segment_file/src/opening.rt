@@ -86,7 +86,7 @@ fn read_up_to<D: LogDisk>(alloc: Global, disk: &mut D, len: u64) -> Result<Vec<u
     Ok(bytes)
 }
 
-/// Adds the front of the buffer.
+/// Adds the first `count` bytes of the buffer.
 fn add_front(bytes: &mut Vec<u8>, buffer: &[u8], count: usize) -> Result<(), OpenFault>
     requires { count ≤ length buffer.now }
     ensures items { OnOk result (bytes.new.items ≡ bytes.old.items ++ take count buffer.now) }

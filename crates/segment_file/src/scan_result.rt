@@ -47,7 +47,7 @@ pub enum ScanFault {
     /// They don't begin with an open gate and the magic bytes of a format.
     NotALog,
 
-    /// In a file of the second format what the list begins with is cut, or a number in it is out of its range.
+    /// In a file of the second format the head is cut, or a number in it is out of its range.
     BadSnapshot,
 
     /// No batch stands behind the open gate at this place in the file.

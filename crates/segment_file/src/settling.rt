@@ -1,4 +1,4 @@
-//! A gate that is closed for good, so that what is written behind it doesn't count.
+//! A gate that is shut, so that what is written behind it doesn't count.
 
 ghost use Rattle.std.specs.Prelude.{◌≡◌, ◌≤◌, ◌^◌, ◌∷◌, ◌⊎◌, ◌↔◌, [], IsTrue};
 ghost use Rattle.segment_file.specs.Calls.{HasStableGate, LiesWithin, LooksFor};

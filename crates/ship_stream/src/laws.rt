@@ -12,7 +12,7 @@ ghost use Rattle.ship_stream.specs.Stream.{records_of, HasFrames, IsStream};
 ghost use Rattle.ship_stream.specs.declared.layout.TheConstants.{SHIPPED_UNITS};
 
 /// A law: bytes have one reading. As much has come of them as one reading says; they have one first bad part at most, and a
-/// stream has none; the frames of a front of a stream are a front of its frames.
+/// stream has none; frames that a stream begins with are the first of its frames.
 pub fn one_stream()
     ensures come { (bytes : List ℕ) (a b : Came) → HasCome bytes a → HasCome bytes b → a ≡ b }
     ensures front { (bytes : List ℕ) (first other : ℕ) (frames begun : List (List Rec)) (rest : List ℕ)
@@ -23,7 +23,7 @@ pub fn one_stream()
     ensures place { (bytes : List ℕ) (a b : ℕ) → IsBadStream bytes a → IsBadStream bytes b → a ≡ b }
 {}
 
-/// A law: what is shipped is a stream of the records, in frames of at most `SHIPPED_UNITS` units each.
+/// A law: what is shipped, up to `LAST`, is a stream of the records, in frames of at most `SHIPPED_UNITS` units each.
 pub fn shipped_stream()
     ensures stream { (first : ℕ) (records : List Rec) → AllByRecursion IsSpellable records → first + end_of records ≤ LAST
         → IsStream (stream_of first records) first (frames_of records) }

@@ -1,5 +1,5 @@
 //! The stream in which a log is shipped to another: its grammar, and its writer.
-//! `put_stream` writes what `specs/Packing.antt` says; `specs/Stream.antt` is the grammar.
+//! `put_stream` writes what `specs/Frames.antt` says; `specs/Stream.antt` is the grammar.
 #![tactic(auto)]
 
 mod laws;

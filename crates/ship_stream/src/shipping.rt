@@ -1,4 +1,4 @@
-//! The writer. It has the units of a list from a boundary on, and no memory of its own.
+//! The writer. It has the units of a list from a boundary on, and takes no memory.
 
 ghost use Rattle.std.specs.Prelude.{◌≡◌, ◌<◌, ◌≤◌, ◌+◌, ◌++◌, ◌^◌, ◌∷◌, [], ℕ, List, length, OnOk, OnErr};
 ghost use Rattle.std.specs.List.{flat_map};

@@ -65,7 +65,7 @@ pub record IsPlaced (quarter : ℕ) (reservations : List Reservation) (ms : List
   pub gathered : IsGathered quarter ms total
   pub covers : IsTrueOutcome reservations outcome total total units
 
--- from then on those of who hasn't released lie apart, and what remains is their sum
+-- once the group is told, the pieces of those who haven't released lie apart, and what remains is their sum
 pub record IsReleasing (quarter : ℕ) (reservations : List Reservation) (ms : List Member) (total : ℕ)
     (outcome : Outcome) (remaining units : ℕ) : Type 0 where
   pub apart : LieApart 0 ms total

@@ -19,7 +19,7 @@ abbrev pub IsTrueWork : RingLog → Option ℕ → ℕ → Type 0
 IsTrueWork l None base = Unit {0}
 IsTrueWork l (Some slot) base = IsSomeAnd (find (is_at base) l.reservations) IsFull
 
--- an LSN in hand is one that exposed has passed; who is about to raise exposed from there has seen a mark there
+-- an LSN in hand is a boundary, at most exposed; who is about to raise exposed from there has seen a mark there
 abbrev pub IsTrueStage : RingLog → Option ℕ → Stage → Type 0
 IsTrueStage l reopens Idle = Unit {0}
 IsTrueStage l reopens (Works base) = IsTrueWork l reopens base

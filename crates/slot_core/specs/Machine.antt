@@ -38,7 +38,7 @@ pub record MayJoin (s : SlotState) (actor slot n : ℕ) : Type 0 where
 abbrev pub fits : RingLog → ℕ → ℕ → ℕ → Bool
 fits l total tail durable = nat_le (tail + total) LAST && nat_le (tail + total) (durable + l.ring)
 
--- a leader places its group by a tail and a durable that were present ones once; where the group fits, this tail is the present one
+-- a leader places its group by a tail and a durable that are at most the present ones; where the group fits, this tail is the present one
 pub record MayPlace (s : SlotState) (tail durable : ℕ) (m : Membership) : Type 0 where
   pub places : m.stage ≡ Places
   pub tail_seen : tail ≤ s.log.tail
@@ -152,7 +152,7 @@ abbrev pub after_mark : SlotState → ℕ → Task → Option ℕ → SlotState
 after_mark s actor task None = s
 after_mark s actor task (Some base) = record s { log = marked s.log base; hands = with_task actor (in_ring Marked task) s.hands }
 
--- where the reservation at this LSN is marked the actor is about to raise exposed from there, else it has done in the ring
+-- where the reservation at this LSN is marked the actor is about to raise exposed from there, else it has nothing more to do in the ring
 abbrev pub after_look_mark : SlotState → ℕ → Task → Option ℕ → SlotState
 after_look_mark s actor task None = s
 after_look_mark s actor task (Some at) = turned s actor (in_ring (after_look at (is_marked at s.log.reservations)) task)
@@ -163,7 +163,7 @@ after_raise s actor task None = s
 after_raise s actor task (Some at) =
     record s { log = raised s.log at; hands = with_task actor (in_ring (Holds (raised s.log at).exposed) task) s.hands }
 
--- the slot gathers again
+-- the slot is vacant again
 abbrev pub after_reopen : SlotState → ℕ → Option ℕ → SlotState
 after_reopen s actor None = s
 after_reopen s actor (Some slot) = moved s actor slot nothing empty_group

@@ -2,7 +2,7 @@
 
 use ring_core::RingEvent;
 
-/// What one actor does in one atomic action.
+/// What happens in one atomic action: one actor's, but for a flush.
 #[derive(Clone, Copy, Debug, PartialEq, Eq)]
 pub enum SlotEvent {
     /// Actor `by` joins the group at `slot` with `n` units.

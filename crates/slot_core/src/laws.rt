@@ -12,7 +12,7 @@ ghost use Rattle.slot_core.specs.Plain.{HasOwners, WorksAlone, IsOfOneSlot, IsOf
 ghost use Rattle.slot_core.specs.RingPart.{with_groups, ring_events, IsNoJoin};
 
 /// The machine's laws: from any start, with any ring and any number of slots, every list of events leads to one state, and this
-/// state is sound. Where nobody has anything in hand all is exposed, and every slot gathers with total 0.
+/// state is sound where the start is at most `LAST`. Where nobody has anything in hand all is exposed, and every slot is vacant.
 pub fn slot_laws()
     ensures reaches { (start ring slots : ℕ) (events : List GroupEvent)
         → (s : SlotState) × RunsGroups (start_state start ring slots) events s }

@@ -2,7 +2,7 @@
 use Rattle.std.specs.Prelude.{◌==◌, ℕ, ◌+◌, ◌-◌, ◌≤◌, if◌then◌else◌, Option, Some, None}
 use Rattle.slot_parts.specs.Tasks.{Outcome, Granted, Refused, GroupPhase, Vacant, Gathering, Closed, Placed, Ready, Told, Emptied, MemberStage, Closes, Waits, Task, nothing, joined, task_emptying}
 
--- n more units have a place in the group: it gathers, and its total stays within a quarter of the ring
+-- n more units have a place in the group: it is vacant or gathers, and its total stays within a quarter of the ring
 abbrev pub HasPlace : ℕ → ℕ → GroupPhase → Type 0
 HasPlace quarter n Vacant = n ≤ quarter
 HasPlace quarter n (Gathering leader total) = total + n ≤ quarter

@@ -11,7 +11,7 @@ use ring_core::Stage;
 /// The most units that a member brings into its group: those of the longest record.
 pub const LONGEST_PIECE: u32 = 26;
 
-/// A law: a piece has at most 26 units.
+/// A law: the bound on the units of a piece is 26.
 pub fn piece_numbers()
     ensures { LONGEST_PIECE ≡ 26 }
 {}
@@ -50,7 +50,7 @@ pub enum Task {
     /// It is a member of a group.
     Joined(Membership),
     /// It is at this stage of the ring machine. Where a slot is named it was the last of a group to release, works on the group's
-    /// range, and opens the slot again when it has nothing more to do in the ring.
+    /// range, if it has one, and opens the slot again when it has nothing more to do in the ring.
     InRing { reopens: Option<u32>, stage: Stage },
 }
 

@@ -18,7 +18,7 @@ pub enum Phase {
     /// the slot can gather again.
     Published,
 
-    /// The log had no room for the group, so there is nothing to fill: each member releases once it has heard this.
+    /// The log had no room for the group, as its leader saw it, so there is nothing to fill: each member releases once it has heard this.
     Refused,
 }
 

@@ -16,7 +16,7 @@ const TOTAL_AT: u64 = 31;
 const UNITS_BITS: u64 = 0x7fff_ffff;
 
 impl SlotWord {
-    /// The slot whose word this is. Not every word is one's.
+    /// The slot whose word this is. Not every word is a slot's.
     pub fn unpack(word: u64) -> SlotWord
         requires { IsSlotWord word }
         ensures phase { result.phase ≡ phase_in word }

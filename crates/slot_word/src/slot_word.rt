@@ -65,7 +65,7 @@ impl SlotWord {
         }
     }
 
-    /// There was no room for the group, and the members that want this much haven't released.
+    /// There was no room for the group, as its leader saw it, and the members that want this much haven't released.
     pub fn refused(total: u32, remaining: u32) -> SlotWord
         requires total { total < 2 ^ 31 }
         requires remaining { remaining < 2 ^ 31 }

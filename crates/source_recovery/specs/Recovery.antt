@@ -31,7 +31,7 @@ pub record TellsReading (from : ReadingFault) (told : SourceFault) : Type 0 wher
   pub failed : from ≡ reading.Failed → told ≡ Failed
   pub only : told ≡ Failed → from ≡ reading.Failed
 
--- the source gave all its bytes, the judge has taken the lawful list that they hold, and the file goes on at this tail
+-- the source was read to its end, the judge has taken the lawful list that its bytes hold, and the file goes on at this tail
 abbrev pub JudgesSource : Option (List ℕ) → Option (List ℕ) → Judge → Tail → Type 0
 JudgesSource first now judge tail = (bytes : List ℕ) × GaveAll first now bytes × JudgesBytes judge tail bytes
 

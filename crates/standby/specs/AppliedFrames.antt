@@ -28,14 +28,14 @@ with_frames list frames = with_records list (records_of frames)
 abbrev pub place_behind : ℕ → List (List Rec) → ℕ
 place_behind at frames = at + 5 * length frames + 8 * end_of (records_of frames)
 
--- the bytes hold the list with the records of a front of these frames, and that is lawful
+-- the bytes hold the list with the records of a prefix of these frames, and that is lawful
 pub record HoldsFront (list : OpenedList) (frames : List (List Rec)) (bytes : List ℕ) : Type 0 where
   pub front : List (List Rec)
   pub rest : List (List Rec)
   pub whole : frames ≡ front ++ rest
   pub holds : HoldsLawful bytes (with_frames list front)
 
--- Only these frames came to the disk, each as one batch: at every moment each image holds the list with a front of them. At most 4
+-- Only these frames came to the disk, each as one batch: at every moment each image holds the list with a prefix of them. At most 4
 -- calls were made for each, and the file ends at most behind them and the next gate, where it wasn't longer before.
 pub record Wrote {D : Type 0} (g : Ghosts D) (base : Base D) (frames : List (List Rec)) (disk : D) : Type 0 where
   pub moments : g.honest base.disk → Leaves g.moment g.images_since (HoldsFront base.list frames) base.disk disk

@@ -88,8 +88,8 @@ IsReason list fed frames cut DiskFault = (frame : List Rec) × (rest : List ℕ)
     × HasFrames fed (list_end list) (frames ++ cut) rest
 IsReason list fed frames cut NoMemory = cut ≡ []
 
--- At the fault the frames before were applied, and stay. Each image holds them, and one that the disk failed to take whole or not at
--- all. One fault is counted where the disk failed, and else none.
+-- At the fault the frames before were applied, and stay. Each image holds them, and, whole or not at all, one that the disk failed to
+-- take. One fault is counted where the disk failed, and else none.
 pub record Stops {D : Type 0} (g : Ghosts D) (base : Base D) (fed : List ℕ) (fault : StandbyFault) (disk : D) : Type 0 where
   pub frames : List (List Rec)
   pub cut : List (List Rec)

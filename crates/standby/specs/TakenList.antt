@@ -25,7 +25,7 @@ IsFrameFault list records (StreamUnlawful lsn why) = IsUnlawfulAt (opening_befor
 IsFrameFault list records NoMemory = Unit {0}
 IsFrameFault list records fault = ⊥
 
--- the judge has taken the list, and each image holds it and goes on at the tail, behind a gate that stays shut
+-- the judge has taken the list, and each image holds it and goes on at the tail, where the gate is shut
 pub record KeepsList {D : Type 0} (g : Ghosts D) (list : OpenedList) (judge : Judge) (tail : Tail) (disk : D) : Type 0 where
   pub each : AllByRecursion IsSpellable list.records
   pub taken : HasTakenList list judge

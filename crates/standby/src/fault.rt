@@ -10,7 +10,7 @@ pub enum StandbyFault {
     /// end.
     BadStream { offset: u64 },
 
-    /// The stream begins at the one LSN, and the log ends at the other.
+    /// The stream begins at `from`, and the log ends at `have`, another LSN.
     Gap { have: Lsn, from: Lsn },
 
     /// The record of the stream that starts at this LSN is the first that fails a test, and this is the first test that it fails.

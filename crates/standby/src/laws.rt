@@ -7,8 +7,8 @@ ghost use Rattle.log_recovery.specs.Recovery.{HoldsLawful};
 ghost use Rattle.ship_stream.specs.Frames.{stream_of};
 ghost use Rattle.standby.specs.Following.{HoldsFollowed};
 
-/// A law: what is shipped of a log's list from the end of one of its fronts on, and followed, in part or whole, by a log that held
-/// that front, leaves a front of the list. So a standby is never ahead of the log that was shipped.
+/// A law: what is shipped of a log's list from the end of one of its prefixes on, and followed, in part or whole, by a log that held
+/// that prefix, leaves a prefix of the list. So a standby is never ahead of the log that was shipped.
 pub fn never_ahead()
     ensures { (list : OpenedList) (before later : List Rec) (log fed more bytes : List ℕ) → HoldsLawful log list
         → list.records ≡ before ++ later → fed ++ more ≡ stream_of (list_end (with_front list before)) later

@@ -40,7 +40,7 @@ abbrev pub TakesBytes : Part → ℕ → List ℕ → Type 0
 TakesBytes More used piece = used ≡ length piece
 TakesBytes part used piece = 0 < used
 
--- the reader has read something of a stream; after a fault it hasn't
+-- the reader has read bytes of a stream, or none yet; after a fault no clause says so
 abbrev pub CanRead : StreamReader → Type 0
 CanRead reader = (past : List ℕ) × (came : Came) × HasRead reader past came
 

@@ -25,7 +25,7 @@ part_bytes Count units begun = begun
 part_bytes (Units count) units begun = to_be_bytes w32 count ++ units_bytes units begun
 part_bytes End units begun = end_bytes
 
--- a frame that may have so many units here has some of them, and a front of another
+-- a frame that may have so many units here has fewer of them, and the first bytes of another
 pub record IsFrameBegun (lsn count : ℕ) (units begun : List ℕ) : Type 0 where
   pub under : length units < count
   pub most : count ≤ MOST_FRAME_UNITS

@@ -63,7 +63,7 @@ impl Begun {
         self.len = end;
     }
 
-    /// Adds a front of the piece, until there are so many bytes, and answers how many were taken.
+    /// Adds a prefix of the piece, until there are so many bytes, and answers how many were taken.
     pub fn fill(&mut self, piece: &[u8], size: usize) -> usize
         requires some { length self.old < size }
         requires most { size ≤ HEAD_BYTES }

@@ -17,7 +17,7 @@ use std::os::unix::fs::FileExt;
 const LAST_STREAM: i32 = 2;
 
 /// A file of the system, read and written at offsets. It tells nothing of its bytes, so nothing is
-/// said of them here but what the system promises: a write of which the system takes a part alone is a
+/// said of them here but what the system promises: a write of which the system refuses a part is a
 /// fault, and after `sync` the bytes and the length are on the disk. From `attach` until it is dropped
 /// it has the file's lock, so no other one attaches the file.
 #[derive(Drop)]

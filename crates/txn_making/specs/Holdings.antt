@@ -56,7 +56,7 @@ pub record HoldsKnown (accounts : ℕ) (holdings : List TakenAccount) (books : B
   pub holds : HoldsAll holdings books
   pub known : All (IsKnown accounts) holdings
 
--- the seat's last job has not begun, and no account of it is held; the log had not stopped when that was seen last
+-- the seat's last job has no record in the log but perhaps its Note, no account is held; the log had not stopped when that was seen last
 pub record MayTakeAll (view : View) : Type 0 where
   pub begins : HasBegunNothing view
   pub runs : view.seen.stop ≡ 0

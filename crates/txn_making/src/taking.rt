@@ -14,8 +14,8 @@ use txn_jobs::{Cause, MOST_PARTIES};
 use txn_parts::{Desk, Relief, TakenAccount, pause};
 
 /// Takes the accounts, which ascend, one after another, each once no other worker holds it, into a list that the caller has, in place
-/// of what that held. After an Err none is held. It is asked only where the log had not stopped when that was seen last, and so it
-/// leaves it.
+/// of what that held. After an Err none is held. It is asked only where the log had not stopped when that was seen last, and an Ok
+/// leaves it so.
 pub fn take_all<R: Wait, Q: Relief, G: Gate>(
     desk: &mut Desk<'_, R, Q, G>,
     accounts: &[u32],

@@ -14,7 +14,7 @@ view_at desk = view_of desk.seat.now
 abbrev pub books_at : {R Q G : Type 0} → Desk R Q G → Books
 books_at desk = (view_of desk.seat.now).books
 
--- so many accounts the table has
+-- how many accounts the table has
 abbrev pub accounts_at : {R Q G : Type 0} → Desk R Q G → ℕ
 accounts_at desk = desk.table.now.accounts
 

@@ -17,7 +17,7 @@ abbrev pub IsLogEnd : Refused → Cause → Type 0
 IsLogEnd refused (Stop word) = ⊥
 IsLogEnd refused (LogEnd tail total) = refused ≡ refusal.LogEnd tail total
 
--- there is no room in the ring, but in the log
+-- the refusal is for want of room in the ring, not in the log
 abbrev pub IsRingFull : Refused → Type 0
 IsRingFull (refusal.RingFull tail durable total) = ⊤
 IsRingFull (refusal.LogEnd tail total) = ⊥
@@ -30,7 +30,7 @@ StopsFor (LogEnd tail total) [] view = ⊥
 StopsFor (LogEnd tail total) (next ∷ rest) view =
     IsTotalOfSeat view (size_of next) total × (LAST < tail + total) × (tail ≡ view.seen.tail) × Contains view.seen.lsns tail
 
--- no record is left, and the log stopped
+-- the cause is that the log stopped
 abbrev pub HasStopped : {R Q G : Type 0} → Desk R Q G → Cause → Type 0
 HasStopped desk cause = StopsFor cause [] (view_of desk.seat.now)
 

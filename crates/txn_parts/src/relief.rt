@@ -30,7 +30,7 @@ pub trait Relief {
     ghost later_trans: { (p q r : Self) → later p q → later q r → later p r };
 }
 
-/// Spins for a moment, then sleeps for nearly as long as such a wait takes, and is awake when it ends.
+/// Spins for a moment, then sleeps for nearly as long as such a wait is expected to take, so as to be awake when it ends.
 #[derive(Drop)]
 pub struct YieldRelief<'a, C> {
     clock: &'a C,

@@ -48,8 +48,8 @@ pub record MayWork (accounts : ℕ) (queue : Queue) (rows : Rows) (view : View) 
   pub next : MayTakeNext accounts queue rows view
   pub room : HasRoomForRows (jobs_of queue) rows
 
--- The rows' pass took a place, and the jobs of the seat grew by exactly the one there, under its number. Its other books, its entries and
--- what it has under way are as they were.
+-- The rows' pass took a place, and the jobs of the seat grew by exactly the one there, under its number. It is the last job now, with no
+-- record; accounts held and given back, and entries, are as they were, and nothing is under way.
 pub record TakesNextJob (queue : Queue) (number : ℕ) (job : Job) (rows_old rows_new : Rows) (old new : Seat) : Type 0 where
   pub place : TakesPlace queue number job rows_old rows_new
   pub as_job : HasEntries old new (view_of old).entries (taking_job (record { number = number; job = job }) (view_of old).books)
@@ -152,6 +152,6 @@ pub record MakesTaken (number : ℕ) (job : Job) (wait : Bool) (result : Result 
   pub run : IfOk result (HasRunTaken number job wait (view_of old) (view_of new))
   pub cut : IfErr result (HasCutTaken number job wait (view_of old) (view_of new))
 
--- it was cut off before its first record, whether it was to wait or not
+-- it was cut off, whether it was to wait or not
 abbrev pub IsCutEarly : ℕ → Job → View → View → Cause → Type 0
 IsCutEarly number job old new cause = (wait : Bool) → HasCutTaken number job wait old new cause

@@ -42,7 +42,7 @@ LieInTurn jobs taken entries = (i j : ℕ) (before after : Entry) → i < j → 
     → before.start + before.size ≤ after.start
 
 -- The seat took the transfers at these places of the script, which rise, after others with numbers below the first. Its records are of
--- these, and lie one behind another below the tail as it saw it last, in the order of the places.
+-- these or have a number below the first; they lie one behind another below the tail as it saw it last, in the order of the places.
 pub record HasWorked (jobs : NumberedJobs) (taken : List ℕ) (view : View) : Type 0 where
   pub places : AreOfScript jobs taken
   pub rising : Rises taken

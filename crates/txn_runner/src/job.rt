@@ -103,7 +103,7 @@ fn end_transfer<R: Wait, Q: Relief, G: Gate>(
     })
 }
 
-/// Gives the accounts back behind the end record, where asked once that is durable, and answers what was durable just before.
+/// Gives the accounts back behind the end record, where asked once it is durable or the log stopped; answers what was durable just before.
 fn give_behind<R: Wait, Q: Relief, G>(
     desk: &mut Desk<'_, R, Q, G>,
     ended: &TransferEnd,

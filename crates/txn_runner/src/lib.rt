@@ -1,5 +1,5 @@
 //! Workers: each takes the next transfer of one queue as soon as it is free, and makes it over the table: it takes the
-//! accounts, inserts the records, and gives the accounts back once the end record has its place in the log.
+//! accounts, inserts the records, and gives the accounts back once the end record has its place in the log, or, where asked, is durable.
 #![tactic(auto)]
 
 mod job;

@@ -20,7 +20,7 @@ use txn_parts::{Desk, Numbered, Relief};
 /// Takes one transfer after another of the queue, each the next one, and makes it, until the rows' pass takes its mark: then no transfer is
 /// left for anyone. For each that ended there is a row, but for the last one where the worker waits and the log stops before it saw
 /// that end durable. Behind a transfer that was cut off the worker takes no other, nor its mark. It waits: for other workers in the
-/// queue, for accounts that they hold, for room in the ring, and, where asked, for the disk.
+/// queue, for accounts that they hold, in a group for its leader, for room in the ring, and, where asked, for the disk.
 pub fn work<'a, R: Wait, Q: Relief, G: Gate>(
     rt: &'a R,
     table: &'a LogTable,

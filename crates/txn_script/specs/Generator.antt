@@ -1,4 +1,4 @@
--- Transfers that are made from a number: it begins a row of numbers, and each number of the row makes a transfer.
+-- Transfers that are made from a number: a row of numbers follows it, and each number of the row makes a transfer.
 use Rattle.std.specs.Prelude.{◌≡◌, ℕ, zero, suc, ◌+◌, ◌-◌, ◌*◌, ◌/◌, ◌%◌, ◌<◌, None, List, [], ◌∷◌, map}
 use Rattle.lock_core.specs.Alone.{PlainTransfer}
 use Rattle.lock_core.specs.AnyOrder.{given, taken}
@@ -16,7 +16,7 @@ abbrev pub numbers_after : ℕ → ℕ → List ℕ
 numbers_after zero x = []
 numbers_after (suc n) x = number_after x ∷ numbers_after n (number_after x)
 
--- the leg that a number makes: two different accounts of those, and an amount from 1 to 9
+-- the leg that a number makes: two different accounts below GENERATED_ACCOUNTS, and an amount from 1 to 9
 abbrev pub leg_from : ℕ → ℕ × ℕ × ℕ
 leg_from x =
     (x % GENERATED_ACCOUNTS, (x % GENERATED_ACCOUNTS + 1 + (x / GENERATED_ACCOUNTS) % (GENERATED_ACCOUNTS - 1)) % GENERATED_ACCOUNTS, 1 + (x / 4096) % 9)
@@ -37,7 +37,7 @@ generated_transfers n seed = map transfer_of (generated_jobs n seed)
 abbrev pub generated_legs : ℕ → ℕ → List (ℕ × ℕ × ℕ)
 generated_legs n seed = map leg_from (numbers_after n seed)
 
--- so many accounts, each with the balance that they begin with
+-- there are GENERATED_ACCOUNTS accounts, each with GENERATED_BALANCE
 pub record OpensGenerated (base : BaseState) : Type 0 where
   pub accounts : base.accounts ≡ GENERATED_ACCOUNTS
   pub balance : (account : ℕ) → account < GENERATED_ACCOUNTS → base.balance account ≡ GENERATED_BALANCE

@@ -65,7 +65,7 @@ pub fn generated_jobs_laws()
     ensures allowed { (n seed : ℕ) → All (IsAllowedJob GENERATED_ACCOUNTS) (generated_jobs n seed) }
 {}
 
-/// A law: on accounts that begin with the same balance all generated transfers are done, in whatever order they come. What they
+/// A law: at most `MOST_GENERATED` generated transfers on accounts of `GENERATED_BALANCE` are all done, whatever their order. What they
 /// leave is told by their number and seed alone: each balance, and 5 units of the log for each of them. The balances keep their sum.
 pub fn generated_in_any_order()
     ensures room { (n seed : ℕ) (base : BaseState) → n ≤ MOST_GENERATED → OpensGenerated base

@@ -46,7 +46,7 @@ fn next_balance(balances: &Balances, line: &[u8]) -> Option<u32>
     }
 }
 
-/// A law: a text has one list of balances, or one first line outside, and not both.
+/// A law: no text has two lists of balances, two first lines outside, or one of each.
 pub fn balances_one_reading()
     ensures balances { (bytes ms ns : List ℕ) → IsBalancesText bytes ms → IsBalancesText bytes ns → ms ≡ ns }
     ensures line { (bytes : List ℕ) (a b : ℕ) → IsFirstBadBalance bytes a → IsFirstBadBalance bytes b → a ≡ b }

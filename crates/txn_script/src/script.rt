@@ -95,7 +95,7 @@ impl Script {
     }
 }
 
-/// Makes this the job at that place. It is no part of `fetch`, which clears the place of a copy as it begins.
+/// Makes this the job at that place. It is no part of `fetch`, which would clear the place of a copy as it begins.
 fn copy_at(jobs: &[Job], at: usize, job: &mut Job)
     requires { at < length jobs.now }
     ensures { slice_get jobs.now at ≡ Some job.new }
@@ -134,7 +134,7 @@ pub fn parse(alloc: Global, bytes: &[u8], accounts: u32) -> Result<Script, Parse
     Ok(script)
 }
 
-/// A law: a text has one list of transfers, or one first line outside, and not both.
+/// A law: for fewer than 2 ^ 32 accounts no text has two lists of transfers; for no number two first lines outside, or one of each.
 pub fn script_one_reading()
     ensures jobs { (accounts : ℕ) (bytes : List ℕ) (js ks : List Job) → accounts < 2 ^ 32 → IsScriptText accounts bytes js
         → IsScriptText accounts bytes ks → js ≡ ks }

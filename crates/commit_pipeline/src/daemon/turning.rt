@@ -10,7 +10,7 @@ use stop_word::DaemonFault;
 
 impl<'a, D: LogDisk, K: Sink> Daemon<'a, D, K> {
     /// Flushes, and then writes a line for each end record in what was sent. A fault is told to the workers by the stop
-    /// word before it is answered, and no further turn may be made.
+    /// word before it is answered, and no further turn may be made. With `Voice::Count` no line is written.
     pub fn turn(&mut self) -> Result<Turn, DaemonFault>
         requires ready { MayTurn D.LogDisk self.old }
         ensures turned { IfOk result (Turns D.LogDisk K.Sink self.old self.new) }

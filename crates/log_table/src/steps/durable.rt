@@ -44,8 +44,8 @@ impl LogTable {
     }
 
     /// Tells that all units read are on the disk, which are all up to exposed as the flusher's seat
-    /// loaded it last. As durable is stored the rule holds of all seats' views, with this one's as it is
-    /// then.
+    /// loaded it last. As durable is stored the rule holds of some views of all seats, this one's, as it
+    /// is then, among them.
     pub fn store_durable(&self, seat: &mut Seat, to: Lsn)
         requires seat { IsOf self.now seat.old }
         requires next { MaySend to (view_of seat.old) }

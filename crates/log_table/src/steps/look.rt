@@ -20,7 +20,7 @@ fn look_as<S: Stepper>(table: &LogTable, seat: &mut Seat)
 }
 
 impl LogTable {
-    /// Changes nothing. At this moment the rule holds of all seats' views, this one's among them.
+    /// Changes nothing. At this moment the rule holds of some views of all seats, this one's among them.
     pub fn look(&self, seat: &mut Seat)
         requires { IsOf self.now seat.old }
         ensures { ChangesAtOnce self.now Stop (λ found. found) (view_of seat.old) none seat.old seat.new }
