@@ -7,8 +7,7 @@ use Rattle.log_record.specs.declared.rec.Rec.{Rec}
 use Rattle.log_record.specs.declared.rec.Rec.TheVariants.{Genesis, Update, Commit, Short, Over, Note}
 use Rattle.log_record.specs.LogList.{AreUnitsOf, units_of, size_of}
 use Rattle.log_record.specs.Spelling.{spelling, IsSpellable, BeginsWith}
-use Rattle.log_record.proofs.Fronts.{spelling-parts_of}
-use Rattle.log_record.proofs.SpellingLemmas.{spelling-append-injective}
+use Rattle.log_record.proofs.SpellingLemmas.{spelling-append-injective, size_of-positive, begins_with-size_of_le}
 use Rattle.end_lines.specs.declared.tally.Tally.{Tally}
 use Rattle.end_lines.specs.declared.voice.Voice.{Voice}
 use Rattle.end_lines.specs.declared.voice.Voice.TheVariants.{Lines, Count}
@@ -16,19 +15,6 @@ use Rattle.end_lines.specs.EndLines.{text_of, lines_in, line_said, count_said, i
 use Rattle.end_lines.specs.Telling.{TellsAll, TellsFront, counted}
 use Rattle.batch_lines.proofs.HeadLemmas.{Silent}
 use Rattle.end_lines.proofs.LineLemmas.{text_of-append, text_of-one_record, lines_in-append, lines_in-one_record, counted-append}
-
--- a spelling has at least one unit
-pub size_of-positive : (rec : Rec) → 0 < size_of rec
-size_of-positive rec = omega (arith, ap length (spelling-parts_of rec))
-
-pub begins_with-size_of_le : (units : List ℕ) (rec : Rec) → BeginsWith units rec → size_of rec ≤ length units
-begins_with-size_of_le units rec begins = omega (arith, ap length begins.2, length-append (spelling rec) begins.1)
-
--- the record ends within the units
-pub record_end-within_units : (units : List ℕ) (at : ℕ) (rec : Rec) → at ≤ length units → BeginsWith (drop at units) rec
-    → at + size_of rec ≤ length units
-record_end-within_units units at rec within begins =
-    omega (arith, within, begins_with-size_of_le _ rec begins, length-drop at units)
 
 -- it ends at most one transaction
 ends-one : (rec : Rec) → is_done rec + is_refused rec ≤ 1

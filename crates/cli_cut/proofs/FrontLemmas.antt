@@ -11,6 +11,7 @@ use Rattle.log_record.specs.declared.rec.Placed.{Placed}
 use Rattle.log_record.specs.LogList.{AreUnitsOf, units_of, end_of}
 use Rattle.log_record.specs.Spelling.{IsSpellable}
 use Rattle.log_record.proofs.SpellingLemmas.{units_of-injective}
+use Rattle.log_record.proofs.LogListLemmas.{units_of-append}
 use Rattle.lock_core.specs.History.{end_from, entry_at, history_from}
 use Rattle.lock_core.specs.Lawful.{IsLawful, base_with}
 use Rattle.lock_core.specs.Sums.{BaseState, Opening, ShowsAccounts}
@@ -20,7 +21,6 @@ use Rattle.lock_core.proofs.Fronts.{history_from-append, history_from-split, law
 use Rattle.lock_core.proofs.ListLemmas.{all-split}
 use Rattle.log_recovery.specs.Opened.{OpenedList, list_end, log_of, placed, with_front, opening_before, base_in}
 use Rattle.log_recovery.specs.Recovery.{HoldsLawful}
-use Rattle.log_recovery.proofs.ListingLemmas.{units_of-append}
 use Rattle.log_recovery.proofs.OpenedLemmas.{placed-end, shown-snapshot, held-some_accounts}
 use Rattle.log_recovery.proofs.RecoveryLemmas.{log_opening-none_or_snapshot}
 use Rattle.cli_cut.specs.Parts.{SplitsGenesis}

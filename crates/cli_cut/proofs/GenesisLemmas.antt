@@ -7,10 +7,11 @@ use Rattle.log_record.specs.declared.rec.Rec.TheVariants.{Genesis}
 use Rattle.log_record.specs.LogList.{AreUnitsOf, units_of}
 use Rattle.log_record.specs.Spelling.{spelling, IsSpellable, BeginsWith}
 use Rattle.log_record.proofs.SpellingLemmas.{spelling-append-injective}
+use Rattle.log_record.proofs.LogListLemmas.{units_of-append}
 use Rattle.log_recovery.proofs.AnswerLemmas.{spelling_append-not_none}
-use Rattle.log_recovery.proofs.ListingLemmas.{units_of-append}
 use Rattle.lock_core.specs.Tests.{IsGenesis}
-use Rattle.lock_core.proofs.ListLemmas.{all-append, all-split}
+use Rattle.lock_core.proofs.ListLemmas.{all-split}
+use Rattle.lsn_space.proofs.TilingLemmas.{all-append}
 use Rattle.cli_cut.specs.Parts.{SplitsGenesis}
 
 -- ---- records

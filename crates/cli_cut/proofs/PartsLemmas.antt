@@ -4,14 +4,14 @@ use Rattle.lsn_space.specs.declared.lsn.TheConstants.{LAST}
 use Rattle.log_record.specs.declared.rec.Rec.{Rec}
 use Rattle.log_record.specs.LogList.{AreUnitsOf, units_of, end_of}
 use Rattle.log_record.specs.Spelling.{IsSpellable}
+use Rattle.log_record.proofs.LogListLemmas.{units_of-append}
 use Rattle.lock_core.proofs.ListLemmas.{all-split}
 use Rattle.segment_file.specs.declared.layout.TheConstants.{MOST_UNITS}
 use Rattle.log_recovery.specs.Opened.{OpenedList, list_end, with_front}
 use Rattle.log_recovery.specs.Recovery.{HoldsLawful, ListsBytes, Recovers, list_of}
 use Rattle.log_recovery.specs.declared.list_result.Listed.{Listed}
 use Rattle.log_recovery.proofs.AnswerLemmas.{one-list}
-use Rattle.log_recovery.proofs.ListingLemmas.{units_of-append}
-use Rattle.cli_shared.specs.Answers.{ReadsAll}
+use Rattle.log_disk.specs.Streams.{ReadsAll}
 use Rattle.cli_cut.specs.Cutting.{IsCutOf}
 use Rattle.cli_cut.specs.Parts.{ArePartsOf, IsGenesisFront, SplitsGenesis}
 use Rattle.cli_cut.specs.declared.reading.Parts.{Parts}

@@ -4,6 +4,7 @@ use Rattle.std.specs.List.{AllByRecursion}
 use Rattle.log_record.specs.declared.rec.Placed.{Placed}
 use Rattle.log_record.specs.LogList.{units_of, end_of}
 use Rattle.log_record.specs.Spelling.{IsSpellable}
+use Rattle.log_record.proofs.LogListLemmas.{units_of-append}
 use Rattle.lock_core.specs.History.{history_from}
 use Rattle.lock_core.specs.Lawful.{IsLawful, base_with, opening_after}
 use Rattle.lock_core.specs.Sums.{BaseState, Opening, ShowsAccounts, balance_of, last_commit_of}
@@ -18,7 +19,6 @@ use Rattle.log_recovery.specs.Opened.{OpenedList, list_end, log_of, placed, with
 use Rattle.log_recovery.specs.Recovery.{HoldsLawful, Recovers}
 use Rattle.log_recovery.specs.declared.recovery.Recovered.{Recovered}
 use Rattle.log_recovery.proofs.AnswerLemmas.{one-list}
-use Rattle.log_recovery.proofs.ListingLemmas.{units_of-append}
 use Rattle.log_recovery.proofs.OpenedLemmas.{state_with-base_left, held-some_accounts, spelled-history}
 use Rattle.cli_cut.specs.Upgrading.{IsUpgradeOf}
 use Rattle.cli_cut.proofs.FrontLemmas.{history_from-all, front-base, front-lawful, front-split, later-has_no_genesis}

@@ -11,6 +11,7 @@ use Rattle.log_record.specs.declared.rec.Rec.{Rec}
 use Rattle.log_record.specs.LogList.{AreUnitsOf, units_of, size_of}
 use Rattle.log_record.specs.Spelling.{spelling, IsSpellable, BeginsWith}
 use Rattle.log_record.proofs.BoundLemmas.{length-spelling}
+use Rattle.log_record.proofs.LogListLemmas.{units_of-append}
 use Rattle.segment_file.specs.declared.layout.TheConstants.{MOST_UNITS}
 use Rattle.segment_file.specs.declared.scan_result.Tail.{Tail}
 use Rattle.segment_file.specs.File.{BeginsAsLog, joined}
@@ -21,7 +22,6 @@ use Rattle.ship_stream.specs.Frames.{packed_behind}
 use Rattle.ship_stream.proofs.PackingLemmas.{packed_behind-fits, packed_behind-full_from_none}
 use Rattle.cli_cut.specs.Batches.{batches_of}
 use Rattle.cli_cut.proofs.GenesisLemmas.{BeginsWith-first_record}
-use Rattle.log_recovery.proofs.ListingLemmas.{units_of-append}
 
 -- ---- what stands between two records
 

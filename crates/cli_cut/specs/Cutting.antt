@@ -10,7 +10,7 @@ use Rattle.log_recovery.specs.Opened.{OpenedList, list_end, placed}
 use Rattle.log_recovery.specs.Recovery.{HoldsLawful}
 use Rattle.segment_file.specs.File.{BeginsAsLog}
 use Rattle.segment_file.specs.Log.{cut_log, HoldsLog}
-use Rattle.cli_shared.specs.Answers.{ReadsAll}
+use Rattle.log_disk.specs.Streams.{ReadsAll}
 use Rattle.cli_shared.specs.declared.report.Detail.{Detail}
 use Rattle.cli_shared.specs.declared.report.Detail.TheVariants.{Fine, NoMemory, Read, Write, NotALog, BadSnapshot, BadBatch, BadRec, Unlawful, Exists}
 

@@ -11,7 +11,7 @@ use Rattle.log_recovery.specs.Opened.{OpenedList, list_end}
 use Rattle.log_recovery.specs.Recovery.{HoldsLawful, Recovers, list_of}
 use Rattle.log_recovery.specs.declared.list_result.Listed.{Listed}
 use Rattle.log_recovery.specs.declared.recovery.Recovered.{Recovered}
-use Rattle.cli_shared.specs.Answers.{ReadsAll}
+use Rattle.log_disk.specs.Streams.{ReadsAll}
 use Rattle.cli_cut.specs.Upgrading.{IsUpgradeOf}
 use Rattle.cli_cut.specs.declared.reading.Parts.{Parts}
 

@@ -1,5 +1,5 @@
 //! The command `cut`: a log that begins with the accounts that another log leaves.
-ghost use Rattle.std.specs.Prelude.{◌≡◌, ◌≤◌, ◌+◌, IfOk, MatchResult, IsErrOf};
+ghost use Rattle.std.specs.Prelude.{IfOk, MatchResult, IsErrOf};
 ghost use Rattle.log_disk.specs.Costs.{Costs};
 ghost use Rattle.log_disk.specs.Faults.{CountsWhere};
 ghost use Rattle.lsn_space.specs.Opening.{IsSnapshot};
@@ -9,8 +9,8 @@ ghost use Rattle.cli_cut.specs.Command.{DoesCut};
 ghost use Rattle.cli_cut.specs.Cutting.{AllHoldCut, GrowsByCut, MayBeCut, ReadsCut};
 ghost use Rattle.cli_cut.specs.Trying.{TriesLog};
 
-use cli_shared::{Detail, ReadFault, detail_of, finds_none, read_all};
-use log_disk::{LogDisk, Sink, Source};
+use cli_shared::{Detail, detail_of, finds_none, read_all};
+use log_disk::{LogDisk, ReadFault, Sink, Source};
 use log_recovery::{put_accounts, recover_owned};
 use lsn_space::{Opening, Word};
 use segment_cut::create_cut;

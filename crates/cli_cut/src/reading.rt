@@ -1,6 +1,6 @@
 //! All that is read and asked for before anything of an upgraded log is written.
 
-ghost use Rattle.std.specs.Prelude.{◌≡◌, ◌≤◌, ◌+◌, ◌++◌, [], ℕ, List, length, IfSome, IfNone, IfOk, MatchResult, IsErrOf};
+ghost use Rattle.std.specs.Prelude.{◌≡◌, ◌+◌, ◌++◌, [], ℕ, List, length, IfSome, IfNone, IfOk, MatchResult, IsErrOf};
 ghost use Rattle.log_disk.specs.Faults.{CountsWhere};
 ghost use Rattle.lsn_space.specs.Opening.{IsSnapshot};
 ghost use Rattle.log_record.specs.declared.rec.Rec.{Rec};
@@ -14,8 +14,8 @@ ghost use Rattle.cli_shared.specs.Answers.{IsSourceFault};
 ghost use Rattle.cli_cut.specs.Cutting.{IsCutOf};
 ghost use Rattle.cli_cut.specs.Parts.{ArePartsOf, IsGenesisFront, SplitsGenesis};
 
-use cli_shared::{Detail, ReadFault, detail_of, read_all};
-use log_disk::Source;
+use cli_shared::{Detail, detail_of, read_all};
+use log_disk::{ReadFault, Source};
 use log_record::{Rec, read};
 use log_recovery::{Listed, Recovered, judge_of_units, recover_list};
 use lsn_space::{Lsn, NoMemory, Opening};

@@ -1,5 +1,4 @@
 //! The command `upgrade`: a log of the second format, with all records of another log.
-ghost use Rattle.std.specs.Prelude.{◌≡◌};
 ghost use Rattle.cli_shared.specs.World.{TellsFaults, world};
 ghost use Rattle.cli_cut.specs.Command.{DoesUpgrade};
 ghost use Rattle.cli_cut.specs.Parts.{ReadsLog};

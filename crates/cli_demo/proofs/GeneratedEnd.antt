@@ -1,23 +1,22 @@
 -- Generated transfers end far below the last LSN, also where some were cut short.
-use Rattle.std.proofs.Common.{◌≡◌, ◌≤◌, ◌<◌, ℕ, zero, suc, ◌||◌, ◌+◌, ◌*◌, false, ◌⊎◌, inl, inr, List, [], ◌∷◌, length, take, get_or, None, ◌-◌, refl, ap, ◌∙◌, arith, ne_eqb, length-append}
+use Rattle.std.proofs.Common.{◌≡◌, ◌≤◌, ◌<◌, ℕ, zero, suc, ◌+◌, ◌*◌, ◌⊎◌, inl, inr, List, [], ◌∷◌, length, take, get_or, None, ◌-◌, refl, ap, ◌∙◌, arith, length-append}
 use Rattle.std.specs.List.{AllByRecursion}
 use Rattle.log_record.specs.declared.rec.Rec.{Rec}
 use Rattle.log_record.specs.declared.rec.Rec.TheVariants.{Short, Over}
 use Rattle.log_record.specs.declared.rec.Placed.{Placed}
 use Rattle.log_record.specs.LogList.{size_of, units_of, end_of, IsBoundary}
-use Rattle.log_record.proofs.LogListLemmas.{boundary_is_front}
+use Rattle.log_record.proofs.LogListLemmas.{boundary_is_front, units_of-append}
 use Rattle.log_recovery.specs.Opened.{OpenedList, list_end, placed, with_records, IsListBoundary}
-use Rattle.log_recovery.proofs.ListingLemmas.{units_of-append}
 use Rattle.log_recovery.proofs.OpenedLemmas.{list_end-more}
-use Rattle.lock_core.specs.Alone.{PlainTransfer, Done, ShortAt, OverAt, Outcome, leg_updates, outcome_alone, outcome_records}
+use Rattle.lock_core.specs.Alone.{Done, ShortAt, OverAt, Outcome, leg_updates, outcome_alone, outcome_records}
 use Rattle.lock_core.specs.AnyOrder.{IsDoneIn, weight_of}
 use Rattle.lock_core.specs.History.{history_from}
 use Rattle.lock_core.specs.Serial.{NumberedTransfer, numbered, IsCutShort, IsPartlySerialAfter}
 use Rattle.lock_core.specs.Sums.{BaseState}
 use Rattle.lock_core.specs.Transactions.{own_records_of, all_without_prev, in_order}
-use Rattle.lock_core.proofs.Doing.{end_of-weight, partly_serial-done_or_cut_short}
+use Rattle.lock_core.proofs.Doing.{end_of-weight, partly_serial-done_or_cut_short, distinct-numbered}
 use Rattle.lock_core.proofs.NextRecords.{size-without_prev}
-use Rattle.lock_core.proofs.Weighing.{AreDistinct, each_task, has_number, weight_of-append, weight_of-history, weight_of-in_order, weight_of-tasks, weight_of-without_prev}
+use Rattle.lock_core.proofs.Weighing.{each_task, weight_of-append, weight_of-history, weight_of-in_order, weight_of-tasks, weight_of-without_prev}
 use Rattle.lock_core.specs.declared.job.Job.{Job}
 use Rattle.txn_script.specs.Generator.{number_after, leg_from, job_from, generated_jobs, generated_transfers, OpensGenerated}
 use Rattle.lock_core.specs.Transfers.{transfer_of}
@@ -70,15 +69,6 @@ tasks-most h first (suc n) seed each =
     let here = task-most h first (number_after seed) each.0 in
     let more = tasks-most h (first + 1) n (number_after seed) each.1 in
     omega arith
-
-number-new : (n first : ℕ) (jobs : List PlainTransfer) → n < first → has_number (numbered first jobs) n ≡ false
-number-new n first [] below = refl
-number-new n first (job ∷ jobs) below =
-    (λ i. ne_eqb n first (λ same. omega (arith, same)) i || number-new n (first + 1) jobs (omega arith) i)
-
-distinct-numbered : (first : ℕ) (jobs : List PlainTransfer) → AreDistinct (numbered first jobs)
-distinct-numbered first [] = tt
-distinct-numbered first (job ∷ jobs) = (number-new first (first + 1) jobs (omega arith), distinct-numbered (first + 1) jobs)
 
 module _ (n seed first : ℕ) (base : BaseState) (few : n ≤ 100000) (opens : OpensGenerated base) where
   pub end_of-partly_serial_le : (records : List Rec)

@@ -1,6 +1,6 @@
 //! How the transfers of a run ended, and what the program answers then.
 
-ghost use Rattle.std.specs.Prelude.{◌≡◌, ◌≤◌, IfSome, IfNone};
+ghost use Rattle.std.specs.Prelude.{IfSome, IfNone};
 ghost use Rattle.cli_ending.specs.Conclusion.{AreWhole, HasConcluded, IsFirstLogEnd, MayConclude, NoneStopped, NothingStopped, StoppedAs, closed_text};
 
 use cli_shared::Detail;

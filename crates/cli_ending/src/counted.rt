@@ -1,7 +1,7 @@
 //! What the program answers of transfers that were counted and not told.
 
-ghost use Rattle.std.specs.Prelude.{◌≡◌, ◌≤◌, length};
-ghost use Rattle.log_record.specs.declared.limits.TheConstants.{MOST_ACCOUNTS};
+ghost use Rattle.std.specs.Prelude.{◌≤◌, length};
+ghost use Rattle.lsn_space.specs.declared.opening.TheConstants.{MOST_ACCOUNTS};
 ghost use Rattle.cli_ending.specs.Conclusion.{HasConcluded, MayConclude, counted_text};
 
 use crate::conclusion::{RunEnd, stopped};

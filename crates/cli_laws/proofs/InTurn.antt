@@ -8,12 +8,13 @@ use Rattle.log_record.specs.declared.rec.Placed.{Placed}
 use Rattle.log_recovery.specs.Opened.{OpenedList, placed}
 use Rattle.lock_core.specs.Transactions.{own_records_of}
 use Rattle.job_queue.specs.Takings.{times}
-use Rattle.job_queue.proofs.Counting.{once_below-le_one, same-refl, times-append}
+use Rattle.job_queue.proofs.Counting.{once_below-le_one, same-refl, times-append, once_below-inside}
 use Rattle.txn_jobs.specs.Places.{NumberedJobs, number_at}
 use Rattle.cli_threads.specs.Run.{GoesOn}
 use Rattle.cli_threads.specs.RunStops.{EndsAs}
 use Rattle.cli_threads.specs.Sharing.{IsSharedOut, Sharing}
-use Rattle.cli_threads.proofs.PlaceTimes.{times_positive-contains, once_below-inside, same-equal}
+use Rattle.cli_threads.proofs.PlaceTimes.{times_positive-contains}
+use Rattle.txn_runner.proofs.TyingLemmas.{same-equal_one}
 use Rattle.cli_laws.specs.InTurn.{IsUnended}
 
 -- ---- how often a list has one of some places
@@ -64,7 +65,7 @@ module _ (jobs : NumberedJobs) (h : List Placed) (list : List ℕ)
   none-else x (y ∷ ys) has this apart each = (
     dite (dec_lt 0 (times y list))
         (λ there.
-        let other : x ≢ y = λ is. absurd (omega (arith, apart, same-equal x y is)) in
+        let other : x ≢ y = λ is. absurd (omega (arith, apart, same-equal_one x y is)) in
         absurd (never-both x y other has (times_positive-contains y list (omega (arith, there))) this each.0))
         (λ none. omega (arith, none)),
     none-else x ys has this (omega (arith, apart)) each.1,

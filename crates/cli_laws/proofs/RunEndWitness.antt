@@ -5,6 +5,7 @@ use Rattle.std.proofs.lemmas.List.Elements.{All-cons, All-nil}
 use mathlib.Core.Option.{some, some-injective, some-ne-none}
 use lib.ListN.{get_elem?}
 use Rattle.lsn_space.specs.declared.lsn.TheConstants.{LAST}
+use Rattle.lsn_space.proofs.TilingLemmas.{all-append}
 use Rattle.log_record.specs.declared.rec.Rec.{Rec}
 use Rattle.log_record.specs.declared.rec.Rec.TheVariants.{Update, Commit, Note}
 use Rattle.log_record.specs.declared.rec.Placed.{Placed}
@@ -18,7 +19,6 @@ use Rattle.lock_core.specs.Sums.{no_opening, ShowsAccounts, balance_of, last_com
 use Rattle.lock_core.specs.Transactions.{own_records_of, has_end}
 use Rattle.lock_core.specs.Witness.{genesis_log}
 use Rattle.lock_core.proofs.Fronts.{history_from-append}
-use Rattle.lock_core.proofs.ListLemmas.{all-append}
 use Rattle.lock_core.proofs.OneMore.{total-no_change}
 use Rattle.lock_core.specs.declared.job.Job.{Job}
 use Rattle.lock_core.specs.Alone.{leg_updates, planned_records}

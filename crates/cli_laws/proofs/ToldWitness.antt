@@ -6,7 +6,6 @@ use Rattle.log_record.specs.Spelling.{IsSpellable}
 use Rattle.lock_core.specs.Serial.{IsPartlySerialAfter}
 use Rattle.lock_core.specs.Transactions.{recs_of}
 use Rattle.lock_core.specs.Witness.{genesis_log, transfer_records, transfer_history}
-use Rattle.lock_core.proofs.ListLemmas.{all-append}
 use Rattle.lock_core.proofs.SerialFronts.{serial-partly}
 use Rattle.lock_core.proofs.Witnessing.{transfer-lawful, transfer-serial}
 use Rattle.log_recovery.specs.Opened.{list_end, placed, with_records, base_left}
@@ -18,6 +17,7 @@ use Rattle.txn_jobs.specs.Places.{number_at}
 use Rattle.cli_threads.specs.Run.{ComeInTurn, HasNoneBehind, HoldsRun}
 use Rattle.cli_threads.specs.Shares.{sharing_of}
 use Rattle.cli_threads.specs.Sharing.{Sharing}
+use Rattle.lsn_space.proofs.TilingLemmas.{all-append}
 use Rattle.cli_laws.specs.RunWitness.{file_at}
 use Rattle.cli_laws.specs.Told.{HasToldPayment}
 use Rattle.cli_threads.proofs.RunHistory.{own_records_of-later, of_transaction-pushed_others}

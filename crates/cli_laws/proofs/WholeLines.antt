@@ -1,8 +1,8 @@
 -- Lines that end with LF and have no other LF, in a text.
 use Rattle.std.proofs.Common.{◌≡◌, ◌≢◌, ◌⊎◌, inl, inr, ⊎_elim, ◌∙◌, sym, refl, ap, ℕ, Bool, true, false, ◌==◌, if◌then◌else◌, true≢false, List, [], ◌∷◌, ◌++◌, append_assoc, length, length-append, get_or, drop, codes, arith, eq-eqb}
 use Rattle.std.specs.List.{AllByRecursion}
-use Rattle.lock_core.proofs.ListLemmas.{all-append}
 use Rattle.txn_script.specs.declared.lines.TheConstants.{LF}
+use Rattle.lsn_space.proofs.TilingLemmas.{all-append}
 use Rattle.cli_laws.specs.Told.{HasLine}
 
 -- no byte ends a line

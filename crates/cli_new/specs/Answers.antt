@@ -8,7 +8,7 @@ use Rattle.lsn_space.specs.Accounts.{Accounts}
 use Rattle.cli_shared.specs.declared.report.Detail.{Detail}
 use Rattle.cli_shared.specs.declared.report.Detail.TheVariants.{Fine, NoMemory, Script, Read, Write, Disk, Exists}
 use Rattle.cli_shared.specs.Creation.{new_list}
-use Rattle.cli_shared.specs.Answers.{ReadsAll}
+use Rattle.log_disk.specs.Streams.{ReadsAll}
 
 -- the answers that there are to `new`
 abbrev pub IsAnswerToNew : Detail → Type 0

@@ -1,5 +1,5 @@
 //! The command `new`: a log of balances.
-ghost use Rattle.std.specs.Prelude.{◌≡◌, ◌≤◌, ◌+◌, ◌↔◌, IfSome, IfOk, IfErr, OnOk, MatchResult, IsErrOf};
+ghost use Rattle.std.specs.Prelude.{◌≡◌, ◌↔◌, IfOk, IfErr, OnOk, MatchResult, IsErrOf};
 ghost use Rattle.log_disk.specs.Attachment.{existing_or_made};
 ghost use Rattle.log_disk.specs.Costs.{Costs};
 ghost use Rattle.log_disk.specs.Disk.{Leaves};
@@ -13,8 +13,8 @@ ghost use Rattle.cli_shared.specs.World.{TellsFaults, world};
 ghost use Rattle.cli_new.specs.Command.{DoesNew};
 
 use cli_shared::genesis::genesis;
-use cli_shared::{Detail, ReadFault, finds_none, read_all};
-use log_disk::{LogDisk, Sink, Source};
+use cli_shared::{Detail, finds_none, read_all};
+use log_disk::{LogDisk, ReadFault, Sink, Source};
 use log_recovery::put_accounts;
 use lsn_space::{Balances, Lsn, Word};
 use segment_file::create;

@@ -1,7 +1,7 @@
 -- What `recover` and `dump` answer, from what was read, recovered and written.
-use Rattle.std.proofs.Common.{◌∙◌, ◌++◌, ℕ, List, Option, Some, None, IfSome, ap, append-nil, subst, sym}
+use Rattle.std.proofs.Common.{ℕ, List, Option, Some, None, IfSome, subst}
 use Rattle.std.specs.Io.KnownBytes.{Appends}
-use Rattle.log_disk.specs.Streams.{AppendsPart}
+use Rattle.log_disk.specs.Streams.{AppendsPart, ReadsAll}
 use Rattle.log_recovery.specs.declared.list_result.Listed.{Listed}
 use Rattle.log_recovery.specs.declared.recovery.Recovered.{Recovered}
 use Rattle.log_recovery.specs.declared.recovery.RecoverFault.{RecoverFault}
@@ -10,11 +10,11 @@ use Rattle.log_recovery.specs.Dump.{dump_text}
 use Rattle.log_recovery.specs.Recovery.{HoldsList, IsFaultOf, IsListedFaultOf, ListsBytes, Recovers, list_of}
 use Rattle.log_recovery.specs.Text.{rows_text}
 use Rattle.log_recovery.proofs.TextLemmas.{rows_text-shown}
-use Rattle.source_recovery.specs.Recovery.{HasLogFault}
-use Rattle.source_recovery.specs.Window.{GaveAll}
+use Rattle.source_recovery.specs.Recovery.{IsSourceFaultOf}
+use Rattle.source_recovery.specs.declared.recovery.SourceFault.TheVariants.{Log}
 use Rattle.cli_shared.specs.declared.report.Detail.TheVariants.{Fine, Write}
 use Rattle.cli_reports.specs.Answers.{AnswersRecover, AnswersDump, IsAnswerToDump, IsAnswerToRecover}
-use Rattle.cli_shared.specs.Answers.{ReadsAll, StaysSilent, recover_detail}
+use Rattle.cli_shared.specs.Answers.{StaysSilent, recover_detail}
 use Rattle.cli_shared.proofs.ToldLemmas.{TellsRead, TellsWrite, IfSome-nothing_said, Keeps-refl}
 
 -- the fault of a log tells of no read or write, and before it nothing was written
@@ -36,18 +36,10 @@ answers_recover-fault None left_new old new bytes f read is = tt
 answers_recover-fault (Some all) left_new old new bytes fault.NoMemory read is = tt
 answers_recover-fault (Some all) left_new old new bytes f read is = (read.1, subst (λ b. IsFaultOf b f) read.0 is)
 
--- a source that gave all its bytes was read to its end
-pub GaveAll-ReadsAll : (left left_new : Option (List ℕ)) (bytes : List ℕ) → GaveAll left left_new bytes → ReadsAll left left_new bytes
-GaveAll-ReadsAll None left_new bytes gave = tt
-GaveAll-ReadsAll (Some all) None bytes gave = absurd gave.given
-GaveAll-ReadsAll (Some all) (Some rest) bytes gave =
-    (sym (gave.given ∙ ap (λ back. bytes ++ back) gave.end ∙ append-nil bytes), ap Some gave.end)
-
-pub HasLogFault-answers_recover : (left left_new old new : Option (List ℕ)) (f : RecoverFault) → HasLogFault left left_new f
+pub IsSourceFaultOf-answers_recover : (left left_new old new : Option (List ℕ)) (f : RecoverFault) → IsSourceFaultOf left left_new (Log f)
     → IfSome left (λ all. AnswersRecover all left_new old new (recover_detail f))
-HasLogFault-answers_recover left left_new old new fault.NoMemory has = IfSome-nothing_said left
-HasLogFault-answers_recover left left_new old new f has =
-    answers_recover-fault left left_new old new has.0 f (GaveAll-ReadsAll left left_new has.0 has.1) has.2
+IsSourceFaultOf-answers_recover left left_new old new fault.NoMemory has = IfSome-nothing_said left
+IsSourceFaultOf-answers_recover left left_new old new f has = answers_recover-fault left left_new old new has.0 f has.1 has.2
 
 pub recover_detail-answer_to_recover : (f : RecoverFault) → IsAnswerToRecover (recover_detail f)
 recover_detail-answer_to_recover fault.NotALog = tt

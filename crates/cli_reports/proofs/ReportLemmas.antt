@@ -4,7 +4,8 @@ use Rattle.log_recovery.specs.declared.recovery.RecoverFault.{RecoverFault}
 use Rattle.log_recovery.specs.declared.recovery.RecoverFault.TheVariants as fault
 use Rattle.log_recovery.specs.Opened.{OpenedList}
 use Rattle.log_recovery.specs.Recovery.{HoldsLawful}
-use Rattle.cli_shared.specs.Answers.{IsSourceFault, ReadsAll, StaysSilent, recover_detail}
+use Rattle.log_disk.specs.Streams.{ReadsAll}
+use Rattle.cli_shared.specs.Answers.{IsSourceFault, StaysSilent, recover_detail}
 use Rattle.cli_shared.specs.declared.report.Detail.{Detail}
 use Rattle.cli_shared.specs.declared.report.Detail.TheVariants.{NoMemory, Read, NotALog, BadSnapshot, BadBatch, BadRec, Unlawful}
 use Rattle.cli_shared.proofs.SourceLemmas.{HasSourceFault-fault_of_bytes}

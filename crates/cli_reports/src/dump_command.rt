@@ -1,6 +1,5 @@
 //! The command `dump`.
 
-ghost use Rattle.std.specs.Prelude.{◌≡◌, ◌≤◌, IfSome};
 ghost use Rattle.cli_reports.specs.Answers.{AnswersDump, IsAnswerToDump};
 ghost use Rattle.cli_reports.specs.Command.{HasReported};
 

@@ -1,6 +1,5 @@
 //! The command `recover`.
 
-ghost use Rattle.std.specs.Prelude.{◌≡◌, ◌≤◌, IfSome};
 ghost use Rattle.cli_reports.specs.Answers.{AnswersRecover, IsAnswerToRecover};
 ghost use Rattle.cli_reports.specs.Command.{HasReported};
 

@@ -1,6 +1,5 @@
 -- From the opened log to what is ready before the first transfer of a run, or to the answer that there is no run.
-use Rattle.std.proofs.Common.{◌≡◌, ◌≤◌, ◌⊎◌, ⊎_elim, inl, inr, refl, ap, sym, ◌∙◌, subst, ℕ, ◌+◌, List, length, Option, Some, None, Result, Ok, Err, IfOk, arith}
-use Rattle.std.specs.Io.KnownBytes.{Keeps}
+use Rattle.std.proofs.Common.{◌≡◌, ◌≤◌, ◌⊎◌, ⊎_elim, inl, inr, refl, ap, sym, ◌∙◌, subst, ℕ, ◌+◌, List, length, Option, Result, Ok, Err, IfOk, arith}
 use Rattle.command_line.specs.declared.options.RunOptions.{RunOptions}
 use Rattle.log_disk.proofs.Counting.{Costs-weaken, Costs-trans}
 use Rattle.log_disk.proofs.Lengths.{GrowsAtMostTo-same, GrowsAtMostTo-trans}
@@ -36,21 +35,18 @@ use Rattle.cli_run.specs.RunAnswers.{AnswersRun, AreAsked, RunsOutOfNumbers, acc
 use Rattle.cli_shared.specs.Outside.{OnlyReads, OnlySettles, HoldsAsRead, outside}
 use Rattle.cli_run.specs.RunReady.{HasRead, IsPreparedFor, IsReadyFor}
 use Rattle.cli_shared.specs.Scripts.{HasNoScript, HasNoTransfers, IsWholeScript, NumbersEnd}
+use Rattle.cli_shared.proofs.ToldLemmas.{Keeps-refl}
 use Rattle.cli_threads.specs.Transferred.{IsOpened}
-
-pub keeps-refl : (text : Option (List ℕ)) → Keeps text text
-keeps-refl None = tt
-keeps-refl (Some bytes) = refl
 
 -- a disk that was attached, synced and read, and then perhaps settled
 module _ {D : Type 0} (g : Ghosts D) (old mid : D) where
   module _ (looks : OnlyLooks g old mid) (left left_new text : Option (List ℕ)) where
     pub OnlyLooks-only_reads : OnlyReads g (outside old left text) (outside mid left_new text)
-    OnlyLooks-only_reads = record { silent = keeps-refl text; disk = looks }
+    OnlyLooks-only_reads = record { silent = Keeps-refl text; disk = looks }
 
     pub OnlyLooks-only_settles : OnlySettles g (outside old left text) (outside mid left_new text)
     OnlyLooks-only_settles = record {
-      silent = keeps-refl text;
+      silent = Keeps-refl text;
       images = Leaves-weaken g.moment g.images_since (g.images old) (λ bytes. g.images old bytes ⊎ HoldsAsRead g old bytes) old mid
           (λ bytes image. inl image) looks.images;
       count = Costs-weaken g 1 3 (most_calls g old) (most_calls g old + 3) old mid (omega arith) (omega arith) looks.count;
@@ -121,7 +117,7 @@ module _ {D : Type 0} (g : Ghosts D) (old mid : D) (opened : Recovered) (opens :
     pub opens-only_settles : g.honest old → g.images mid (g.reads mid) → GrowsAtMostTo g (opened.tail.at + 1) mid new
         → (left left_new text : Option (List ℕ)) → OnlySettles g (outside old left text) (outside new left_new text)
     opens-only_settles honest image grows left left_new text = record {
-      silent = keeps-refl text;
+      silent = Keeps-refl text;
       images = Leaves-weaken g.moment g.images_since (λ bytes. g.images old bytes ⊎ HoldsLawful bytes list)
           (λ bytes. g.images old bytes ⊎ HoldsAsRead g old bytes) old new
           (λ bytes. ⊎_elim (λ image. inl image) (λ held. inr (list, reads-holds_lawful honest, held))) leaves-settled;

@@ -37,8 +37,8 @@ use Rattle.cli_threads.specs.RunStops.{StopsAtLogEnd}
 use Rattle.cli_threads.specs.Sharing.{IsSharedOut, Sharing}
 use Rattle.cli_run.specs.RunAnswers.{AnswersRun, HoldsTold, IsAnswerToRun, Ran, RanIntoEnd, RanOut, RanShort, RanWhole, RunStaysSilent, run_text}
 use Rattle.cli_shared.specs.Outside.{Outside, outside}
+use Rattle.cli_shared.proofs.ToldLemmas.{Keeps-refl}
 use Rattle.cli_run.specs.RunReady.{IsBeforeRun, IsReadyFor}
-use Rattle.cli_run.proofs.ReadyLemmas.{keeps-refl}
 use Rattle.cli_threads.proofs.EndingLemmas.{Concludes-cases, list, sharing, ended-keeps_log, ended-shared_out, ended-runs_whole, ended-drained, ended-stops_at_log_end}
 use Rattle.cli_threads.proofs.RunBegun.{Leaves-before_or_run}
 
@@ -253,7 +253,7 @@ RunStaysSilent-refl text Fine = tt
 RunStaysSilent-refl text (LogEnd tail total) = tt
 RunStaysSilent-refl text Write = tt
 RunStaysSilent-refl text Disk = tt
-RunStaysSilent-refl text detail = keeps-refl text
+RunStaysSilent-refl text detail = Keeps-refl text
 
 -- no answer that comes before any transfer is a fault of the output
 pub IsBeforeRun-not_write : (detail : Detail) → IsBeforeRun detail → detail ≡ Write → ⊥

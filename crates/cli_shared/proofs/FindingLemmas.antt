@@ -1,7 +1,6 @@
 -- What is known of a disk on which no log was found.
-use Rattle.std.proofs.Common.{◌≡◌, ℕ, List, slice_get, Result, ap, subst}
+use Rattle.std.proofs.Common.{ℕ, List, slice_get, ap, subst}
 use Rattle.log_disk.specs.Disk.{IsOnlyImage}
-use Rattle.log_disk.specs.Faults.{HasCause}
 use Rattle.segment_file.specs.File.{BeginsOpen}
 use Rattle.segment_file.specs.StandingLog.{IsStableGate}
 
@@ -12,8 +11,3 @@ IsOnlyImage-stable_gate file images settled closed = record {
   stable = λ c image. ap (λ bytes. slice_get bytes 0) (settled c image);
   closed = λ c image opened. closed (subst BeginsOpen (settled c image) opened);
 }
-
--- a call behind others that counted no fault
-pub HasCause-after : {T E : Type 0} (before mid now : ℕ) (result : Result T E) → mid ≡ before → HasCause mid now result
-    → HasCause before now result
-HasCause-after before mid now result same cause = subst (λ n. HasCause n now result) same cause

@@ -2,10 +2,10 @@
 use Rattle.std.proofs.Common.{◌≡◌, List, [], Option, Some, None, IfSome, ℕ, subst}
 use Rattle.log_recovery.specs.declared.recovery.RecoverFault.{RecoverFault}
 use Rattle.log_recovery.specs.declared.recovery.RecoverFault.TheVariants as fault
-use Rattle.log_recovery.specs.Recovery.{IsFaultOf}
+use Rattle.log_recovery.specs.Recovery.{HasSourceFault, IsFaultOf}
 use Rattle.cli_shared.specs.declared.report.Detail.{Detail}
 use Rattle.cli_shared.specs.declared.report.Detail.TheVariants.{NoMemory, Read}
-use Rattle.cli_shared.specs.Answers.{HasSourceFault, IsReadingFault, IsSourceFault, recover_detail}
+use Rattle.cli_shared.specs.Answers.{IsReadingFault, IsSourceFault, recover_detail}
 
 -- what holds where the reading failed and where there was no memory holds where an input gives no bytes
 pub IsReadingFault-cases : (P : Detail → Type 0) → P Read → P NoMemory → (detail : Detail) → IsReadingFault detail → P detail

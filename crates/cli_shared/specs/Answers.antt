@@ -1,9 +1,9 @@
--- What all commands answer alike: the status, what they read, and when they stay silent.
-use Rattle.std.specs.Prelude.{◌≡◌, ℕ, List, [], Option, Some, IfSome}
+-- What commands answer alike: the status, what they read, and when those other than `run` stay silent.
+use Rattle.std.specs.Prelude.{ℕ, List, Option}
 use Rattle.std.specs.Io.KnownBytes.{Keeps}
 use Rattle.log_recovery.specs.declared.recovery.RecoverFault.{RecoverFault}
 use Rattle.log_recovery.specs.declared.recovery.RecoverFault.TheVariants as fault
-use Rattle.log_recovery.specs.Recovery.{IsFaultOf}
+use Rattle.log_recovery.specs.Recovery.{HasSourceFault}
 use Rattle.cli_shared.specs.declared.report.Detail.{Detail}
 use Rattle.cli_shared.specs.declared.report.Detail.TheVariants.{Fine, NoMemory, Usage, Script, Read, Write, Disk, NotALog, BadSnapshot, BadBatch, BadRec, Unlawful, LogEnd, TxnEnd, Exists, BadStream, Gap, NoSuchLsn, StreamUnlawful, NoAccount}
 
@@ -35,10 +35,6 @@ StaysSilent old new Fine = Unit {0}
 StaysSilent old new Write = Unit {0}
 StaysSilent old new detail = Keeps old new
 
--- what was read is all that was left
-abbrev pub ReadsAll : Option (List ℕ) → Option (List ℕ) → List ℕ → Type 0
-ReadsAll left left_new bytes = IfSome left (λ all. (bytes ≡ all) × (left_new ≡ Some []))
-
 -- why an input gives no bytes
 abbrev pub IsReadingFault : Detail → Type 0
 IsReadingFault Read = Unit {0}
@@ -53,10 +49,6 @@ recover_detail (fault.BadBatch offset) = BadBatch offset
 recover_detail (fault.BadRec lsn) = BadRec lsn
 recover_detail (fault.Unlawful lsn why) = Unlawful lsn why
 recover_detail fault.NoMemory = NoMemory
-
--- a source was read to its end, and has this fault of a log
-abbrev pub HasSourceFault : Option (List ℕ) → Option (List ℕ) → RecoverFault → Type 0
-HasSourceFault left left_new fault' = (bytes : List ℕ) × ReadsAll left left_new bytes × IsFaultOf bytes fault'
 
 -- why a source gives no log
 abbrev pub IsSourceFault : Option (List ℕ) → Option (List ℕ) → Detail → Type 0

@@ -5,7 +5,7 @@ use Rattle.lock_core.specs.declared.job.Job.{Job}
 use Rattle.txn_script.specs.Script.{IsScriptText, IsFirstBadLine}
 use Rattle.cli_shared.specs.declared.report.Detail.{Detail}
 use Rattle.cli_shared.specs.declared.report.Detail.TheVariants.{NoMemory, Script, Read, TxnEnd}
-use Rattle.cli_shared.specs.Answers.{ReadsAll}
+use Rattle.log_disk.specs.Streams.{ReadsAll}
 
 -- the transfers are those of the whole input
 abbrev pub IsWholeScript : ℕ → Option (List ℕ) → Option (List ℕ) → List Job → Type 0

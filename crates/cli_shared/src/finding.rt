@@ -1,6 +1,6 @@
 //! How it is found whether a log is on a disk.
 
-ghost use Rattle.std.specs.Prelude.{◌≡◌, ◌≤◌, ◌+◌, ◌↔◌, IfOk, OnOk, IsTrue, MatchResult, Some};
+ghost use Rattle.std.specs.Prelude.{◌≡◌, ◌↔◌, IfOk, OnOk, IsTrue, MatchResult, Some};
 ghost use Rattle.log_disk.specs.Attachment.{MayAttach, existing_or_made};
 ghost use Rattle.log_disk.specs.Faults.{HasCause};
 ghost use Rattle.log_disk.specs.Disk.{IsOnlyImage};

@@ -1,7 +1,7 @@
 //! The list of a new log, spelled.
 ghost use Rattle.std.specs.Prelude.{◌≡◌, ◌≤◌, ◌<◌, ◌+◌, ◌*◌, ◌++◌, length, All, map, IfOk};
 ghost use Rattle.log_record.specs.LogList.{units_of};
-ghost use Rattle.log_record.specs.declared.limits.TheConstants.{MOST_ACCOUNTS};
+ghost use Rattle.lsn_space.specs.declared.opening.TheConstants.{MOST_ACCOUNTS};
 ghost use Rattle.log_record.specs.Spelling.{spelling, IsBalance};
 ghost use Rattle.log_record.specs.declared.rec.Rec.TheVariants.{Genesis};
 ghost use Rattle.cli_shared.specs.Creation.{genesis_list};

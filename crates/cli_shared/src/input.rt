@@ -1,23 +1,17 @@
 //! How all of an input is read.
 
-ghost use Rattle.std.specs.Prelude.{◌≡◌, ◌≤◌, [], Some, IfOk, IfErr, IfSome, IsErrOf};
+ghost use Rattle.std.specs.Prelude.{IfOk, IfErr, IsErrOf};
 ghost use Rattle.log_disk.specs.Faults.{CountsWhere};
-ghost use Rattle.cli_shared.specs.Answers.{IsReadingFault, ReadsAll};
+ghost use Rattle.log_disk.specs.Streams.{ReadsAll};
+ghost use Rattle.cli_shared.specs.Answers.{IsReadingFault};
 
 use crate::report::Detail;
-use log_disk::Source;
+use log_disk::{ReadFault, Source};
 use std::alloc::Global;
-
-/// Why an input was not read to its end.
-#[derive(Clone, Copy, Debug, PartialEq, Eq)]
-pub enum ReadFault {
-    Failed,
-    NoMemory,
-}
 
 /// All bytes that the source has left.
 pub fn read_all<S: Source>(alloc: Global, source: &mut S) -> Result<Vec<u8>, ReadFault>
-    ensures all { IfOk result (λ v. IfSome (S.left source.old) (λ bytes. (v.items ≡ bytes) × (S.left source.new ≡ Some []))) }
+    ensures all { IfOk result (λ v. ReadsAll (S.left source.old) (S.left source.new) v.items) }
     ensures faults { CountsWhere (IsErrOf result ReadFault.Failed) (S.faults source.old) (S.faults source.new) }
 {
     let mut bytes = Vec::new(alloc);

@@ -13,7 +13,7 @@ mod script_input;
 
 pub use faults::put_fault;
 pub use finding::finds_none;
-pub use input::{ReadFault, read_all, read_input};
+pub use input::{read_all, read_input};
 pub use log_input::read_log;
 pub use opening::{image_of, open_log};
 pub use report::{Detail, Report, detail_of};

@@ -1,6 +1,6 @@
 //! How a log is read from the input, for one that takes its records.
 
-ghost use Rattle.std.specs.Prelude.{◌≡◌, ◌≤◌, IfOk, IfErr, IsErrOf};
+ghost use Rattle.std.specs.Prelude.{IfOk, IfErr, IsErrOf};
 ghost use Rattle.log_disk.specs.Faults.{CountsWhere};
 ghost use Rattle.cli_shared.specs.Answers.{IsSourceFault};
 ghost use Rattle.cli_shared.specs.LogInput.{ReadsTaken};

@@ -1,6 +1,6 @@
 //! How a log is opened.
 
-ghost use Rattle.std.specs.Prelude.{◌≡◌, ◌≤◌, ◌+◌, ◌↔◌, IfOk, IfErr, IsErrOf};
+ghost use Rattle.std.specs.Prelude.{IfOk, IfErr, IsErrOf};
 ghost use Rattle.log_disk.specs.Attachment.{existing};
 ghost use Rattle.log_disk.specs.Faults.{CountsWhere};
 ghost use Rattle.cli_shared.specs.Attached.{EndsAttached};

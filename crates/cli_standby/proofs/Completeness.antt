@@ -11,11 +11,10 @@ use Rattle.log_recovery.specs.Opened.{OpenedList, list_end, opening_before, plac
 use Rattle.log_recovery.specs.Recovery.{HoldsLawful, IsFaultOf}
 use Rattle.log_recovery.proofs.AnswerLemmas.{HoldsLawful-fault_no_memory, lawful-unlawful, one-list}
 use Rattle.ship_stream.specs.Stream.{HasFrames, records_of}
-use Rattle.ship_stream.proofs.StreamLemmas.{is_stream-not_bad_stream, one_stream-front}
+use Rattle.ship_stream.proofs.StreamLemmas.{is_stream-not_bad_stream, one_stream-front, records_of-append}
 use Rattle.standby.specs.AppliedFrames.{with_frames}
 use Rattle.standby.specs.declared.fault.StandbyFault.{StandbyFault}
 use Rattle.standby.specs.declared.fault.StandbyFault.TheVariants as stream
-use Rattle.standby.proofs.FrameLists.{records_of-append}
 use Rattle.cli_shared.specs.Answers.{recover_detail}
 use Rattle.cli_shared.specs.Outside.{Outside, outside}
 use Rattle.cli_shared.specs.declared.report.Detail.{Detail}

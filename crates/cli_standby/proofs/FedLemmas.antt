@@ -22,9 +22,9 @@ use Rattle.standby.specs.declared.standby.Standby.{Standby}
 use Rattle.standby.proofs.FollowedParts.{begins-followed, begins-longer}
 use Rattle.standby.proofs.FrameLists.{holds-front-none, holds-lawful}
 use Rattle.standby.proofs.JudgedFrames.{with_records-none}
-use Rattle.standby.proofs.StoppedStreams.{has_frames-more}
 use Rattle.cli_shared.specs.declared.report.Detail.{Detail}
 use Rattle.cli_shared.specs.declared.report.Detail.TheVariants.{Disk, NoMemory, Read}
+use Rattle.stream_reader.proofs.ReaderLemmas.{has_frames-more}
 use Rattle.cli_standby.specs.Feeding.{begun, FeedEnds, HasFed, HasFedAll, StopsFeeding, stream_detail}
 use Rattle.cli_standby.specs.Following.{IsCause}
 

@@ -1,10 +1,9 @@
 //! How a log is opened that is to follow a stream.
 
-ghost use Rattle.std.specs.Prelude.{◌≡◌, ◌≤◌, ◌+◌, ◌↔◌, List, ℕ, Option, IfOk, IfErr, IsErrOf};
+ghost use Rattle.std.specs.Prelude.{◌↔◌, List, ℕ, Option, IfOk, IfErr, IsErrOf};
 ghost use Rattle.log_disk.specs.Attachment.{existing};
 ghost use Rattle.log_disk.specs.Faults.{CountsWhere};
 ghost use Rattle.cli_shared.specs.Attached.{EndsAttached};
-ghost use Rattle.cli_shared.specs.Opening.{HasOpeningFault};
 ghost use Rattle.cli_standby.specs.Feeding.{AnswersUnsaid, IsOpened, IsUnopened};
 
 use cli_shared::{Detail, detail_of, image_of};

@@ -1,5 +1,4 @@
 //! The command `ship`: the stream of a log's records.
-ghost use Rattle.std.specs.Prelude.{◌≡◌, ◌≤◌, IfSome};
 ghost use Rattle.cli_reports.specs.Reports.{AnswersReport, IsAnswerAtLsn, RefusesLsn};
 ghost use Rattle.cli_standby.specs.Shipping.{SaysStream};
 ghost use Rattle.cli_reports.specs.Command.{HasReported};

@@ -4,11 +4,7 @@ use crate::calls::{follows, ships};
 use crate::logs::{ACCOUNTS, log_of, push_units};
 use cli_rig::{End, Given, leaves};
 use std::alloc::{AllocError, AllocGlobal};
-use std::process::Abort;
-use std::sync::Wait;
 use std::test::Fail;
-use std::thread::Threads;
-use std::time::Clock;
 
 /// A transfer that was refused, by transaction 1.
 const SHORT: u64 = 0x0401_0001_0000_0001;

@@ -8,7 +8,6 @@ use crate::logs::{
 use cli_rig::End;
 use log_recovery::Why;
 use std::alloc::AllocGlobal;
-use std::process::Abort;
 use std::sync::Wait;
 use std::test::Fail;
 use std::thread::Threads;

@@ -5,9 +5,10 @@ use mathlib.Core.Logic.{dite}
 use mathlib.Core.Option.{some, some-injective, some-ne-none}
 use native.Mathlib.Decide.{dec_lt}
 use lib.ListN.{get_elem?}
-use Rattle.lock_core.proofs.ListLemmas.{all-append, all-split}
+use Rattle.lock_core.proofs.ListLemmas.{all-split}
 use Rattle.job_queue.specs.Takings.{times}
 use Rattle.job_queue.proofs.Counting.{times-append}
+use Rattle.lsn_space.proofs.TilingLemmas.{all-append}
 
 -- Of the jobs at these places, which so many workers took, those at the places `cut` were cut off, at most one of each worker, and all
 -- others ended. Where jobs are left, each worker was cut off.

@@ -7,6 +7,7 @@ use mathlib.Core.Option.{some, some-injective, some-ne-none}
 use lib.ListN.{get_elem?}
 use Rattle.lsn_space.proofs.TilingLemmas.{all-weaken}
 use Rattle.log_record.specs.LogList.{size_of}
+use Rattle.log_record.proofs.SpellingLemmas.{size_of-positive}
 use Rattle.lock_core.specs.Records.{txn_of}
 use Rattle.log_table.specs.declared.table.LogTable.{LogTable}
 use Rattle.log_rule.specs.declared.view.Entry.{Entry}
@@ -16,7 +17,6 @@ use Rattle.log_rule.specs.ClosedLog.{IsGathered}
 use Rattle.log_rule.specs.Log.{IsFull, IsSpelled}
 use Rattle.log_rule.specs.Sound.{HasReadStop}
 use Rattle.log_rule.specs.CrewViews.{takes_in}
-use Rattle.commit_pipeline.proofs.ToldLemmas.{size_of-positive}
 use Rattle.txn_jobs.specs.declared.cause.Cause.{Cause}
 use Rattle.txn_jobs.specs.declared.cause.Cause.TheVariants.{Stop, LogEnd}
 use Rattle.txn_jobs.specs.declared.cause.Worked.{Worked}

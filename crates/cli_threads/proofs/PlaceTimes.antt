@@ -1,39 +1,25 @@
 -- How often a place stands in a list, and in lists joined.
-use Rattle.std.proofs.Common.{◌≡◌, ◌≢◌, ◌<◌, ◌≤◌, ℕ, zero, suc, List, [], ◌∷◌, map, refl, ap, sym, subst, arith, Contains}
+use Rattle.std.proofs.Common.{◌≡◌, ◌≤◌, ℕ, zero, suc, List, [], ◌∷◌, map, refl, ap, sym, arith, Contains}
 use Rattle.std.specs.List.{concat}
 use mathlib.Core.Logic.{dite}
 use mathlib.Core.Option.{some, some-injective, some-ne-none}
 use native.Mathlib.Decide.{ℕ_discrete, dec_lt}
 use lib.ListN.{get_elem?}
-use Rattle.job_queue.specs.Takings.{same, times, once_below}
-use Rattle.job_queue.proofs.Counting.{same-refl, times-append}
-
-pub same-equal : (x y : ℕ) → x ≡ y → same x y ≡ 1
-same-equal x y is = subst (λ z. same x z ≡ 1) is (same-refl x)
-
-pub same-unequal : (x y : ℕ) → x ≢ y → same x y ≡ 0
-same-unequal zero zero other = absurd (other refl)
-same-unequal zero (suc y) other = refl
-same-unequal (suc x) zero other = refl
-same-unequal (suc x) (suc y) other = same-unequal x y (λ is. other (ap suc is))
+use Rattle.job_queue.specs.Takings.{times, once_below}
+use Rattle.job_queue.proofs.Counting.{times-append}
+use Rattle.txn_runner.proofs.TyingLemmas.{same-equal_one, same-unequal_zero}
 
 -- a list has a place where it has it once at least
 pub contains-times_positive : (x : ℕ) (xs : List ℕ) → Contains xs x → 1 ≤ times x xs
 contains-times_positive x [] (i, inside, is) = absurd (omega arith)
-contains-times_positive x (y ∷ ys) (zero, inside, is) = omega (arith, same-equal x y (sym is))
+contains-times_positive x (y ∷ ys) (zero, inside, is) = omega (arith, same-equal_one x y (sym is))
 contains-times_positive x (y ∷ ys) (suc i, inside, is) = omega (arith, contains-times_positive x ys (i, omega arith, is))
 
 pub times_positive-contains : (x : ℕ) (xs : List ℕ) → 1 ≤ times x xs → Contains xs x
 times_positive-contains x [] has = absurd (omega (arith, has))
 times_positive-contains x (y ∷ ys) has = dite (ℕ_discrete x y)
     (λ is. (0, omega arith, sym is))
-    (λ other. let rest = times_positive-contains x ys (omega (arith, has, same-unequal x y other)) in (suc rest.0, omega (arith, rest.1), rest.2))
-
--- each number below is there once, and no other
-pub once_below-inside : (x n : ℕ) → x < n → once_below x n ≡ 1
-once_below-inside x zero below = absurd (omega (arith, below))
-once_below-inside zero (suc n) below = refl
-once_below-inside (suc x) (suc n) below = once_below-inside x n (omega (arith, below))
+    (λ other. let rest = times_positive-contains x ys (omega (arith, has, same-unequal_zero x y other)) in (suc rest.0, omega (arith, rest.1), rest.2))
 
 pub once_below-behind : (x n : ℕ) → n ≤ x → once_below x n ≡ 0
 once_below-behind x zero behind = refl

@@ -11,7 +11,7 @@ use Rattle.lsn_space.proofs.TilingLemmas.{all-weaken}
 use Rattle.log_record.specs.declared.rec.Rec.{Rec}
 use Rattle.log_record.specs.declared.rec.Placed.{Placed}
 use Rattle.log_record.specs.LogList.{size_of, end_of}
-use Rattle.log_record.proofs.LogListLemmas.{front_is_boundary}
+use Rattle.log_record.proofs.LogListLemmas.{front_is_boundary, end_of-append}
 use Rattle.lock_core.specs.Alone.{outcome_alone}
 use Rattle.lock_core.specs.Records.{without_prev}
 use Rattle.lock_core.specs.Serial.{NumberedTransfer}
@@ -38,7 +38,7 @@ use Rattle.cli_threads.proofs.CutPlaces.{HasCuts, EachCuts-has_first_cut}
 use Rattle.cli_threads.proofs.PlaceTimes.{times_positive-contains, times-concat_member, times-concat_le}
 use Rattle.log_recovery.specs.Opened.{OpenedList, list_end, placed, with_records, opening_left}
 use Rattle.log_recovery.proofs.OpenedLemmas.{list_end-more}
-use Rattle.cli_threads.proofs.RunHistory.{later_of, end_of-append, own_records_of-later}
+use Rattle.cli_threads.proofs.RunHistory.{later_of, own_records_of-later}
 use Rattle.cli_threads.proofs.RunRecords.{tiling-end, boundary-front}
 use Rattle.cli_threads.proofs.RunPlaces.{tasks_of, numbered-all, share-at, inside_front-taken, taken-inside_front}
 

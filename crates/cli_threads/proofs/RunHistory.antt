@@ -1,13 +1,11 @@
 -- The history of a list that goes on from the opened one.
-use Rattle.std.proofs.Common.{◌≡◌, ◌≢◌, ◌<◌, ◌≤◌, ℕ, ◌+◌, List, [], ◌∷◌, ◌++◌, length, refl, ap, sym, ◌∙◌, arith, drop, length-append}
+use Rattle.std.proofs.Common.{◌≡◌, ◌≢◌, ◌<◌, ◌≤◌, ℕ, List, [], ◌∷◌, ◌++◌, length, refl, ap, sym, ◌∙◌, arith, drop, length-append}
 use Rattle.std.proofs.Math.Seq.{drop-append_seam}
 use Rattle.std.specs.List.{AllByRecursion}
 use mathlib.Core.Logic.{dite}
 use native.Mathlib.Decide.{dec_lt}
 use Rattle.log_record.specs.declared.rec.Rec.{Rec}
 use Rattle.log_record.specs.declared.rec.Placed.{Placed}
-use Rattle.log_record.specs.LogList.{units_of, end_of}
-use Rattle.log_record.specs.Spelling.{IsSpellable}
 use Rattle.lock_core.specs.Records.{txn_of}
 use Rattle.lock_core.specs.Sums.{greatest_txn}
 use Rattle.lock_core.specs.Transactions.{of_transaction, own_records_of}
@@ -16,15 +14,11 @@ use Rattle.lock_core.proofs.OneMore.{of_transaction-first_other}
 use Rattle.lock_core.specs.History.{end_from, entry_at, history_from}
 use Rattle.lock_core.proofs.Fronts.{history_from-append, history_from-extends, history_from-split}
 use Rattle.log_recovery.specs.Opened.{OpenedList, list_end, placed, with_records}
-use Rattle.log_recovery.proofs.ListingLemmas.{units_of-append}
 use Rattle.log_recovery.proofs.OpenedLemmas.{placed-end}
 
 -- what follows the opened list
 abbrev pub later_of : OpenedList → List Rec → List Placed
 later_of opened records = history_from (list_end opened) [] records
-
-pub end_of-append : (xs ys : List Rec) → end_of (xs ++ ys) ≡ end_of xs + end_of ys
-end_of-append xs ys = ap length (units_of-append xs ys) ∙ length-append (units_of xs) (units_of ys)
 
 pub placed-with_records : (opened : OpenedList) (records : List Rec) → placed (with_records opened records) ≡ later_of opened records ++ placed opened
 placed-with_records opened records =
@@ -57,13 +51,6 @@ later-append opened front rest = (
   history_from (end_from (list_end opened) (later_of opened front)) [] rest,
   history_from-append (list_end opened) [] front rest ∙ history_from-split (list_end opened) (later_of opened front) rest,
 )
-
--- the entries of spellable records are spellable
-pub spellable-history : (start : ℕ) (h : List Placed) (records : List Rec) → AllByRecursion (λ (entry : Placed). IsSpellable entry.rec) h
-    → AllByRecursion IsSpellable records → AllByRecursion (λ (entry : Placed). IsSpellable entry.rec) (history_from start h records)
-spellable-history start h [] all each = all
-spellable-history start h (rec ∷ records) all each =
-    spellable-history start (entry_at (end_from start h) rec ∷ h) records (each.0, all) each.1
 
 -- ends of one list of the same length are the same
 end-same : {A : Type 0} (xs ys a b : List A) → xs ++ a ≡ ys ++ b → length a ≡ length b → a ≡ b

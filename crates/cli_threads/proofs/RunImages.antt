@@ -17,7 +17,7 @@ use Rattle.segment_file.specs.Log.{Log, with_units, HoldsLog}
 use Rattle.segment_file.specs.Lengths.{most_end}
 use Rattle.segment_file.specs.StandingLog.{LogStands}
 use Rattle.log_recovery.specs.Opened.{OpenedList, log_of, list_end, with_records, with_front}
-use Rattle.log_recovery.proofs.ListingLemmas.{units_of-append}
+use Rattle.log_recovery.proofs.OpenedLemmas.{log_of-with_records}
 use Rattle.log_table.specs.Seats.{view_of}
 use Rattle.flusher.specs.Flushing.{sent_of}
 use Rattle.commit_pipeline.specs.declared.daemon.Daemon.{Daemon}
@@ -70,16 +70,11 @@ abbrev pub AreSentBy : {D : Type 0} {K : Type 0} → (g : Ghosts D) → (h : Sin
 AreSentBy g h opened more old new = RunSent g old.voice opened more (place_of old) (ring_of old) old.flusher.disk.now new.flusher.disk.now
     (h.held_bytes old.sink.now) (h.held_bytes new.sink.now)
 
--- units behind the opened ones, as records
-with-records : (opened : OpenedList) (records : List Rec) → with_units (log_of opened) (units_of records) ≡ log_of (with_records opened records)
-with-records opened records =
-    let units = sym (units_of-append opened.records records) in λ i. record { opening = opened.opening; units = units i }
-
 with-both : (opened : OpenedList) (records more : List Rec) → with_units (with_units (log_of opened) (units_of records)) (units_of more)
     ≡ log_of (with_records opened (records ++ more))
 with-both opened records more =
-    ap (λ (log : Log). with_units log (units_of more)) (with-records opened records)
-    ∙ with-records (with_front opened (opened.records ++ records)) more
+    ap (λ (log : Log). with_units log (units_of more)) (log_of-with_records opened records)
+    ∙ log_of-with_records (with_front opened (opened.records ++ records)) more
     ∙ ap (λ (records : List Rec). log_of (with_front opened records)) (append_assoc opened.records records more)
 
 extra-few : (fault : Option DaemonFault) → extra fault ≤ 4
@@ -128,7 +123,7 @@ module _ {D : Type 0} {K : Type 0} (g : Ghosts D) (h : SinkGhosts K) (opened : O
     torn-now : g.honest old.flusher.disk.now → (bytes : List ℕ) → g.images new.flusher.disk.now bytes
         → HoldsBoth opened ran.more bytes ⊎ HoldsBoth opened (ran.more ++ ran.cut) bytes
     torn-now honest bytes image =
-        ⊎_elim (λ held. inl (subst (HoldsLog bytes) (with-records opened ran.more) held))
+        ⊎_elim (λ held. inl (subst (HoldsLog bytes) (log_of-with_records opened ran.more) held))
         (λ held. inr (subst (HoldsLog bytes) (with-both opened ran.more ran.cut) held))
         (Ran-images_hold g h old new made ran honest (log_of opened) (stand honest) bytes image)
 
@@ -150,7 +145,7 @@ module _ {D : Type 0} {K : Type 0} (g : Ghosts D) (h : SinkGhosts K) (opened : O
             held.front,
             held.rest ++ rest,
             splits ∙ ap (λ l. l ++ rest) held.whole ∙ append_assoc held.front held.rest rest,
-            subst (HoldsLog bytes) (with-records opened held.front) held.holds,
+            subst (HoldsLog bytes) (log_of-with_records opened held.front) held.holds,
           ))
           (ran.moments honest (log_of opened) (stand honest));
       now = torn-now;

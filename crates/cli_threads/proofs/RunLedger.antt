@@ -15,7 +15,7 @@ use Rattle.lock_core.proofs.Apart.{numbers_apart-share_none, greatest_txn_below-
 use Rattle.lock_core.proofs.Appending.{balance_of-append, last_commit_of-append, base_with-append_no_genesis, lawful-no_genesis, lawful-append_opening_after}
 use Rattle.lock_core.proofs.Fronts.{lawful-front}
 use Rattle.lock_core.proofs.GoingOn.{lawful_as_opening-lawful_after}
-use Rattle.lock_core.proofs.ListLemmas.{all-append, all-split}
+use Rattle.lock_core.proofs.ListLemmas.{all-split}
 use Rattle.lock_core.proofs.JudgingLemmas.{keeps_rows-shows_accounts}
 use Rattle.lock_core.proofs.Meeting.{lawful-met}
 use Rattle.lock_core.proofs.SerialFronts.{partly_serial-front, partly_serial-all_ended_serial, no_others-numbers_from, numbered-from}
@@ -26,10 +26,12 @@ use Rattle.log_recovery.proofs.TextLemmas.{rows_text-shown}
 use Rattle.log_recovery.specs.Text.{rows_text, accounts_text}
 use Rattle.log_rule.specs.declared.start.Start.{Start}
 use Rattle.log_rule.specs.Sound.{base_of}
+use Rattle.log_rule.proofs.SentRecords.{spellable-history}
 use Rattle.txn_runner.specs.Places.{NumberedJobs}
+use Rattle.lsn_space.proofs.TilingLemmas.{all-append}
 use Rattle.cli_threads.specs.Run.{transfers_of, ComeInTurn, HasNoneBehind, GoesOn, RunsWhole}
 use Rattle.cli_threads.specs.Sharing.{Sharing}
-use Rattle.cli_threads.proofs.RunHistory.{later_of, placed-with_records, later-append, spellable-history}
+use Rattle.cli_threads.proofs.RunHistory.{later_of, placed-with_records, later-append}
 use Rattle.cli_threads.proofs.RunPlaces.{tasks_of}
 
 -- ---- the base state

@@ -4,7 +4,7 @@ use Rattle.std.specs.List.{AllByRecursion}
 use Rattle.std.proofs.lemmas.List.Elements.{All-from_recursion}
 use mathlib.Core.Option.{some}
 use lib.ListN.{get_elem?}
-use Rattle.lsn_space.proofs.TilingLemmas.{all-weaken}
+use Rattle.lsn_space.proofs.TilingLemmas.{all-weaken, all-append}
 use Rattle.log_disk.proofs.Moments.{Leaves-weaken}
 use Rattle.log_disk.proofs.Counting.{Costs-weaken}
 use Rattle.log_disk.proofs.Lengths.{GrowsAtMostTo-weaken}
@@ -14,15 +14,15 @@ use Rattle.log_record.specs.declared.rec.Rec.{Rec}
 use Rattle.log_record.specs.LogList.{units_of, end_of}
 use Rattle.log_record.specs.Spelling.{IsSpellable}
 use Rattle.log_record.proofs.SpellingLemmas.{units_of-injective}
+use Rattle.log_record.proofs.LogListLemmas.{units_of-append, end_of-append}
 use Rattle.lock_core.specs.History.{history_from}
 use Rattle.lock_core.specs.Lawful.{IsLawful}
 use Rattle.lock_core.specs.Serial.{NumberedTransfer, IsPartlySerialAfter, IsSerialAfter}
 use Rattle.lock_core.specs.AccountRows.{KeepsRows}
 use Rattle.lock_core.specs.Sums.{as_opening, BaseState}
-use Rattle.lock_core.proofs.ListLemmas.{all-append, all-split}
+use Rattle.lock_core.proofs.ListLemmas.{all-split}
 use Rattle.lock_core.proofs.SerialFronts.{partly_serial-all_ended_serial}
 use Rattle.lock_core.proofs.SerialTasks.{partly_serial-more}
-use Rattle.log_recovery.proofs.ListingLemmas.{units_of-append}
 use Rattle.log_recovery.specs.Opened.{OpenedList, list_end, placed, with_records, base_left}
 use Rattle.log_recovery.proofs.OpenedLemmas.{list_end-more}
 use Rattle.log_recovery.proofs.TextLemmas.{AppendsPrefix-append}
@@ -59,7 +59,7 @@ use Rattle.cli_threads.specs.Sharing.{Sharing}
 use Rattle.cli_threads.specs.Transferred.{HasTransferred}
 use Rattle.cli_threads.proofs.RunBalances.{WentBack-had_balance}
 use Rattle.cli_threads.proofs.RunEnds.{worked_all-has_end, no_stop_word-no_stop_cut, log_end_cut-stops_at_log_end}
-use Rattle.cli_threads.proofs.RunHistory.{later_of, end_of-append}
+use Rattle.cli_threads.proofs.RunHistory.{later_of}
 use Rattle.cli_threads.proofs.RunImages.{HoldsBoth, HoldsSome, SendsBy, AreSentBy, SendsBy-refl, AreSentBy-refl, Ran-sent_units, Ran-read_units, Ran-sends_by, Ran-are_sent_by}
 use Rattle.cli_threads.proofs.RunLedger.{base_of-base_left, later-shares_no_transaction, with_records-lawful, with_records-goes_on, has_end-runs_whole, KeepsRows-accounts_text, front-spellable, front-lawful, front-goes_on}
 use Rattle.cli_threads.proofs.RunRecords.{records-spellable, units_in-records, units_front-records_front, tiling-end}

@@ -1,5 +1,5 @@
 -- Each place of the front of a script is one worker's, once, so that each job is taken at most once.
-use Rattle.std.proofs.Common.{◌≡◌, ◌≢◌, ◌⊎◌, inl, inr, ◌<◌, ◌≤◌, ◌==◌, ℕ, zero, suc, ◌+◌, ◌-◌, cond, None, List, [], ◌∷◌, ◌++◌, length, map, get_or, refl, ap, sym, subst, arith, Contains, eq-eqb, ne_eqb}
+use Rattle.std.proofs.Common.{◌≡◌, ◌≢◌, ◌⊎◌, inl, inr, ◌<◌, ◌≤◌, ◌==◌, ℕ, zero, suc, ◌+◌, ◌-◌, cond, None, List, [], ◌∷◌, ◌++◌, length, map, get_or, refl, ap, sym, subst, arith, Contains, ne_eqb}
 use Rattle.std.specs.List.{AllByRecursion, concat}
 use Rattle.std.proofs.lemmas.List.{map-append}
 use Rattle.std.proofs.lemmas.List.Elements.{Contains-append_left, Contains-append_right}
@@ -10,15 +10,16 @@ use lib.ListN.{get_elem?}
 use Rattle.lock_core.specs.Serial.{NumberedTransfer, numbered}
 use Rattle.lock_core.specs.Transfers.{transfer_of}
 use Rattle.lock_core.specs.declared.job.Job.{Job}
-use Rattle.lock_core.proofs.ListLemmas.{all-append}
 use Rattle.log_rule.specs.declared.view.TakenJob.{TakenJob}
 use Rattle.log_rule.specs.Books.{task_of, times_taken}
-use Rattle.job_queue.specs.Takings.{same, times}
-use Rattle.job_queue.proofs.Counting.{same-refl, once_below-le_one, once_below-positive_less, times-append}
+use Rattle.log_rule.proofs.Bookings.{times_taken-append}
+use Rattle.job_queue.specs.Takings.{times}
+use Rattle.job_queue.proofs.Counting.{same-refl, once_below-le_one, once_below-positive_less, times-append, once_below-inside}
 use Rattle.txn_runner.specs.Places.{NumberedJobs, number_at, taken_at, jobs_taken}
+use Rattle.txn_runner.proofs.TyingLemmas.{same-unequal_zero, times_taken-places}
+use Rattle.lsn_space.proofs.TilingLemmas.{all-append}
 use Rattle.cli_threads.specs.Shares.{Share, all_taken, sharing_of}
 use Rattle.cli_threads.specs.Sharing.{IsSharedOut}
-use Rattle.cli_threads.proofs.PlaceTimes.{same-equal, same-unequal, once_below-inside}
 
 -- the places that these workers took
 abbrev pub places_taken : List Share → List ℕ
@@ -34,10 +35,6 @@ tasks_of jobs = numbered jobs.first (map transfer_of jobs.script)
 
 -- ---- how often a number was taken
 
-times_taken-append : (n : ℕ) (xs ys : List TakenJob) → times_taken n (xs ++ ys) ≡ times_taken n xs + times_taken n ys
-times_taken-append n [] ys = omega arith
-times_taken-append n (taken ∷ xs) ys = let rest = times_taken-append n xs ys in omega arith
-
 times_taken-none : (n : ℕ) (list : List TakenJob) → AllByRecursion (λ (task : NumberedTransfer). task.number ≢ n) (map task_of list)
     → times_taken n list ≡ 0
 times_taken-none n [] others = refl
@@ -46,30 +43,12 @@ times_taken-none n (taken ∷ list) others =
     let here : cond {A = ℕ} (taken.number == n) 1 0 ≡ 0 = ap (λ b. cond {A = ℕ} b 1 0) (ne_eqb taken.number n others.0) in omega arith
 
 module _ (jobs : NumberedJobs) (x : ℕ) where
-  -- as often as its place
-  times_taken-place : (place : ℕ) → times_taken (number_at jobs x) (taken_at jobs place ∷ []) ≡ same x place
-  times_taken-place place = dite (ℕ_discrete x place)
-      (λ is.
-      let here : cond {A = ℕ} (number_at jobs place == number_at jobs x) 1 0 ≡ 1 =
-      ap (λ b. cond {A = ℕ} b 1 0) (eq-eqb (number_at jobs place) (number_at jobs x) (ap (number_at jobs) (sym is))) in
-      omega (arith, here, same-equal x place is))
-      (λ other.
-      let here : cond {A = ℕ} (number_at jobs place == number_at jobs x) 1 0 ≡ 0 =
-      ap (λ b. cond {A = ℕ} b 1 0) (ne_eqb (number_at jobs place) (number_at jobs x) (λ is. other (omega (arith, is)))) in
-      omega (arith, here, same-unequal x place other))
-
-  times_taken-places : (places : List ℕ) → times_taken (number_at jobs x) (jobs_taken jobs places) ≡ times x places
-  times_taken-places [] = refl
-  times_taken-places (place ∷ places) =
-      let sum = times_taken-append (number_at jobs x) (jobs_taken jobs places) (taken_at jobs place ∷ []) in
-      omega (arith, sum, times_taken-places places, times_taken-place place)
-
   times_taken-shares : (shares : List Share) → times_taken (number_at jobs x) (all_taken jobs shares) ≡ times x (places_taken shares)
   times_taken-shares [] = refl
   times_taken-shares (share ∷ shares) =
       let sum = times_taken-append (number_at jobs x) (jobs_taken jobs share.taken) (all_taken jobs shares) in
       let places = times-append x share.taken (places_taken shares) in
-      omega (arith, sum, places, times_taken-places share.taken, times_taken-shares shares)
+      omega (arith, sum, places, times_taken-places jobs x share.taken, times_taken-shares shares)
 
 -- ---- the jobs taken, as those of the script under their numbers
 
@@ -133,7 +112,7 @@ module _ (jobs : NumberedJobs) (place : ℕ) where
   place-has (first ∷ places) has = dite (ℕ_discrete place first)
       (λ is. has-second (jobs_taken jobs places) (taken_at jobs first ∷ []) (0, omega arith, ap (λ p. task_of (taken_at jobs p)) (sym is)))
       (λ other. has-first (jobs_taken jobs places) (taken_at jobs first ∷ [])
-      (place-has places (omega (arith, has, same-unequal place first other))))
+      (place-has places (omega (arith, has, same-unequal_zero place first other))))
 
   -- the job at a place that was taken is among those taken
   taken-has : (shares : List Share) → 1 ≤ times place (places_taken shares) → Contains (map task_of (all_taken jobs shares)) own_task

@@ -5,11 +5,10 @@ use Rattle.lsn_space.specs.Tiling.{IsTiling, IsTilingBoundary}
 use Rattle.log_record.specs.declared.rec.Rec.{Rec}
 use Rattle.log_record.specs.LogList.{units_of, end_of, size_of}
 use Rattle.log_record.specs.Spelling.{spelling, IsSpellable}
-use Rattle.log_record.proofs.SpellingLemmas.{spelling-append-injective}
+use Rattle.log_record.proofs.SpellingLemmas.{spelling-append-injective, size_of-positive}
 use Rattle.log_rule.specs.declared.view.Entry.{Entry}
 use Rattle.log_rule.specs.ClosedLog.{records_of}
 use Rattle.log_rule.specs.Log.{IsFull, IsSpelled, units_in}
-use Rattle.commit_pipeline.proofs.ToldLemmas.{size_of-positive}
 
 -- the entries' records are spellable, and their units are those of the records
 pub records-spellable : (entries : List Entry) → AllByRecursion IsSpelled entries → AllByRecursion IsSpellable (records_of entries)

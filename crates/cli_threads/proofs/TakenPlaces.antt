@@ -14,22 +14,23 @@ use Rattle.job_queue.specs.declared.queue.Queue.{Queue}
 use Rattle.job_queue.specs.Takings.{times, once_below, ArePlaces, AreMarks}
 use Rattle.job_queue.specs.declared.jobs.Jobs.{Jobs}
 use Rattle.job_queue.specs.Passes.{AreAllTaken, HasFirstPass, IsSameQueue, marks_back, places_back}
-use Rattle.job_queue.proofs.Counting.{once_below-le_one, times-append}
+use Rattle.job_queue.proofs.Counting.{once_below-le_one, times-append, once_below-inside}
 use Rattle.txn_runner.specs.Working.{EndsByMark, jobs_of, marks_in, places_in}
+use Rattle.txn_runner.proofs.TyingLemmas.{same-unequal_zero}
 use Rattle.cli_workers.specs.declared.workers.Worker.{Worker}
 use Rattle.cli_workers.specs.Workers.{Numbered}
 use Rattle.cli_threads.specs.Gathering.{AreFront, all_marks, all_places, share_of, worked_of}
 use Rattle.cli_threads.specs.Shares.{Share, sharing_of}
 use Rattle.cli_threads.specs.Sharing.{IsSharedOut}
 use Rattle.cli_threads.specs.Workers.{IsDoneAs}
-use Rattle.cli_threads.proofs.PlaceTimes.{once_below-inside, once_below-behind, same-unequal, contains-times_positive}
+use Rattle.cli_threads.proofs.PlaceTimes.{once_below-behind, contains-times_positive}
 use Rattle.cli_threads.proofs.ServedLemmas.{IsDone-has_served}
 
 -- ---- lists of places
 
 times-none : (x : ℕ) (list : List ℕ) → AllByRecursion (λ y. x ≢ y) list → times x list ≡ 0
 times-none x [] others = refl
-times-none x (y ∷ ys) others = omega (arith, same-unequal x y others.0, times-none x ys others.1)
+times-none x (y ∷ ys) others = omega (arith, same-unequal_zero x y others.0, times-none x ys others.1)
 
 -- the places of two workers are other ones
 abbrev pub Apart : List ℕ → List ℕ → Type 0

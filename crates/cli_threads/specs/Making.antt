@@ -1,8 +1,7 @@
 -- What `prepare` asks for, and what it makes.
 use Rattle.std.specs.Prelude.{◌≡◌, ℕ, ◌^◌, ◌≤◌, List, Result, IfOk}
-use Rattle.lsn_space.specs.declared.lsn.TheConstants.{LEAST_RING, GREATEST_RING}
+use Rattle.lsn_space.specs.declared.lsn.TheConstants.{LEAST_RING, GREATEST_RING, MOST_SLOTS}
 use Rattle.lock_core.specs.declared.job.Job.{Job}
-use Rattle.log_rule.specs.declared.layout.TheConstants.{MOST_SLOTS}
 use Rattle.log_rule.specs.declared.start.Start.{Start}
 use Rattle.log_table.specs.Seats.{key_of}
 use Rattle.job_queue.specs.Passes.{workers_of}

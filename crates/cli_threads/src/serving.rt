@@ -9,7 +9,7 @@ use log_disk::Gate;
 use log_table::LogTable;
 use std::snapshot::Snapshot;
 use std::sync::Wait;
-use std::sync::atomic::{AtomicBool, Ordering};
+use std::sync::atomic::Ordering;
 use std::thread::{Promise, PromisedHandle, Scope, Threads};
 use std::time::Clock;
 use txn_runner::{Queue, Relief, YieldRelief, work};

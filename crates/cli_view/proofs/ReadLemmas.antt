@@ -1,5 +1,5 @@
 -- What is known of a log that was read, and of the view that was given its list.
-use Rattle.std.proofs.Common.{◌≡◌, ◌<◌, ◌≤◌, ◌⊎◌, inl, inr, ℕ, ◌+◌, List, [], ◌∷◌, ◌++◌, length, Option, IfSome, refl, ap, ◌∙◌, sym, arith}
+use Rattle.std.proofs.Common.{◌≡◌, ◌<◌, ◌≤◌, ◌⊎◌, inl, inr, ℕ, ◌+◌, List, [], ◌∷◌, ◌++◌, length, Option, IfSome, refl, ap, ◌∙◌, arith}
 use Rattle.std.specs.Io.KnownBytes.{Appends}
 use Rattle.lsn_space.specs.declared.lsn.TheConstants.{LAST}
 use Rattle.log_disk.specs.Streams.{AppendsPart}
@@ -7,9 +7,7 @@ use Rattle.log_record.specs.declared.rec.Placed.{Placed}
 use Rattle.log_record.specs.declared.rec.Rec.{Rec}
 use Rattle.log_record.specs.LogList.{AreUnitsOf, end_of}
 use Rattle.log_record.proofs.LogListLemmas.{end_of-cons, front_is_boundary}
-use Rattle.log_record.proofs.SpellingLemmas.{units_of-injective}
-use Rattle.log_record.specs.Spelling.{IsSpellable}
-use Rattle.std.proofs.lemmas.List.Elements.{All-from_recursion}
+use Rattle.log_record.proofs.SpellingLemmas.{AreUnitsOf-injective}
 use Rattle.lock_core.specs.History.{end_from, entry_at, history_from}
 use Rattle.log_recovery.proofs.BoundaryLemmas.{begins-at-boundary}
 use Rattle.lock_core.specs.Lawful.{base_with}
@@ -31,10 +29,6 @@ use Rattle.cli_reports.proofs.ReportLemmas.{ReadsAll-of_list}
 use Rattle.cli_view.specs.Balances.{HasBalances}
 use Rattle.cli_view.specs.Reports.{RefusesAccount, SaysAccounts, SaysStatement, statement_lines}
 use Rattle.cli_view.proofs.BalanceLemmas.{HasBalances-accounts_text}
-
-one-list : (units : List ℕ) (xs ys : List Rec) → AreUnitsOf units xs → AreUnitsOf units ys → xs ≡ ys
-one-list units xs ys first second =
-    units_of-injective xs ys (All-from_recursion IsSpellable xs first.spellable) (All-from_recursion IsSpellable ys second.spellable) (sym first.units_are ∙ second.units_are)
 
 -- where an entry ends of a history with more records behind it: before them, or with a front of them
 ends-within : (start : ℕ) (h : List Placed) (records : List Rec) (end : ℕ) → EndsAt (history_from start h records) end
@@ -81,7 +75,7 @@ module _ (left left_new : Option (List ℕ)) (view : View) (listed : Listed) (re
           end_of front.0,
           front.3,
           front_is_boundary records (end_of front.0)
-              (front.0, front.1, one-list listed.units records read.2.records list read.2.has.list ∙ front.2, refl),
+              (front.0, front.1, AreUnitsOf-injective listed.units records read.2.records list read.2.has.list ∙ front.2, refl),
         )
       ]
 

@@ -1,5 +1,5 @@
 //! The command `asof`: the accounts as they stood at a boundary.
-ghost use Rattle.std.specs.Prelude.{◌≡◌, ◌≤◌, ℕ, List, IfOk, IfSome};
+ghost use Rattle.std.specs.Prelude.{◌≡◌, List, IfOk};
 ghost use Rattle.log_record.specs.declared.rec.Placed.{Placed};
 ghost use Rattle.lock_core.specs.Sums.{Opening};
 ghost use Rattle.ledger_view.specs.ViewedAccounts.{HasViewed};

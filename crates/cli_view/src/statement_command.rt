@@ -1,5 +1,4 @@
 //! The command `statement`: what came into and went out of one account.
-ghost use Rattle.std.specs.Prelude.{◌≡◌, ◌≤◌, IfSome};
 ghost use Rattle.cli_reports.specs.Reports.{AnswersReport, IsAnswerOnAccount};
 ghost use Rattle.cli_view.specs.Reports.{RefusesAccount, SaysStatement};
 ghost use Rattle.cli_reports.specs.Command.{HasReported};

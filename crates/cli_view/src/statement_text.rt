@@ -2,7 +2,7 @@
 ghost use Rattle.std.specs.Prelude.{◌≡◌, ◌≤◌, ◌+◌, ◌++◌, length, OnOk, OnErr};
 ghost use Rattle.std.specs.Io.KnownBytes.{Appends};
 ghost use Rattle.log_disk.specs.Faults.{HasCause};
-ghost use Rattle.log_disk.specs.Streams.{AppendsPart, AppendsBut};
+ghost use Rattle.log_disk.specs.Streams.{AppendsPart};
 ghost use Rattle.log_recovery.specs.Dump.{signed_text};
 ghost use Rattle.cli_view.specs.Reports.{entry_line, open_line, statement_lines};
 

@@ -1,5 +1,5 @@
 //! Workers of a run, and how each is made.
-ghost use Rattle.std.specs.Prelude.{◌≡◌, ◌+◌, ◌<◌, ◌≤◌, [], ℕ, IfOk, OnOk, length};
+ghost use Rattle.std.specs.Prelude.{◌≡◌, ◌+◌, ◌<◌, [], IfOk, OnOk, length};
 ghost use Rattle.log_table.specs.HiredWorkers.{HasHired};
 ghost use Rattle.job_queue.specs.Passes.{HasFirstPass, marks_back, passes_out, workers_of};
 ghost use Rattle.cli_workers.specs.Workers.{HandsOut, HiresAll, IsUnused};

@@ -4,7 +4,8 @@ ghost use Rattle.std.specs.Prelude.{◌≡◌, ◌⊎◌, ◌+◌, ℕ, List};
 ghost use Rattle.lsn_space.specs.declared.opening.TheConstants.{MOST_ACCOUNTS};
 ghost use Rattle.command_line.specs.CommandLine.{AreKnown, AreTaken, IsCommandLine, NamesNumbers};
 ghost use Rattle.command_line.specs.declared.command.Command.{Command};
-ghost use Rattle.command_line.specs.declared.options.TheConstants.{DEFAULT_RING, DEFAULT_SLOTS, DEFAULT_WORKERS, MOST_SLOTS, MOST_WORKERS};
+ghost use Rattle.lsn_space.specs.declared.lsn.TheConstants.{MOST_SLOTS};
+ghost use Rattle.command_line.specs.declared.options.TheConstants.{DEFAULT_RING, DEFAULT_SLOTS, DEFAULT_WORKERS, MOST_WORKERS};
 ghost use Rattle.command_line.specs.declared.parsing.TheConstants.{GREATEST_ACCOUNT, GREATEST_SEED};
 
 /// A law: words ask one thing at most. Those that the command takes ask something, unless they name a subcommand that

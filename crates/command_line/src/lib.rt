@@ -10,7 +10,5 @@ mod parsing;
 
 pub use command::{Command, RefusedWords};
 pub use laws::{format_numbers, one_command};
-pub use options::{
-    DEFAULT_RING, DEFAULT_SLOTS, DEFAULT_WORKERS, MOST_SLOTS, MOST_WORKERS, RunOptions,
-};
+pub use options::{DEFAULT_RING, DEFAULT_SLOTS, DEFAULT_WORKERS, MOST_WORKERS, RunOptions};
 pub use parsing::{GREATEST_ACCOUNT, GREATEST_SEED, parse};

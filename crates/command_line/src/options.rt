@@ -5,7 +5,7 @@ ghost use Rattle.command_line.specs.CommandLine.{AreOptions, HasNoOptions, IsGiv
 
 use crate::command::RefusedWords;
 use clap::ArgMatches;
-use lsn_space::{GREATEST_RING, LEAST_RING, number};
+use lsn_space::{GREATEST_RING, LEAST_RING, MOST_SLOTS, number};
 
 /// The most workers that may be asked for.
 pub const MOST_WORKERS: u32 = 16;
@@ -15,9 +15,6 @@ pub const DEFAULT_WORKERS: u32 = 2;
 
 /// The length of the ring in units where none is given.
 pub const DEFAULT_RING: u32 = 65536;
-
-/// The most slots that may be asked for.
-pub const MOST_SLOTS: u32 = 16;
 
 /// How many slots there are where no number is given.
 pub const DEFAULT_SLOTS: u32 = 4;

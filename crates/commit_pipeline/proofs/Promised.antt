@@ -1,9 +1,10 @@
 -- What a daemon that was made just now, and then made turns, left on the disk and wrote: by what its flusher and it keep at every moment.
-use Rattle.std.proofs.Common.{◌≡◌, ◌⊎◌, ◌∙◌, sym, ap, refl, subst, inl, inr, ⊎_elim, ℕ, List, [], ◌∷◌, ◌++◌, length, drop, append-nil, append_assoc, length-append, arith, Option, Some, None}
+use Rattle.std.proofs.Common.{◌≡◌, ◌∙◌, sym, ap, refl, subst, inl, inr, ⊎_elim, ℕ, List, [], ◌∷◌, ◌++◌, length, drop, length-append, arith, Option, Some, None}
 use Rattle.std.proofs.Props.{props}
 use Rattle.std.proofs.lemmas.List.Elements.{All-from_recursion}
 use Rattle.std.specs.Io.KnownBytes.{Appends}
 use Rattle.std.specs.List.{AllByRecursion}
+use Rattle.std.proofs.Math.Seq.{drop-append_seam}
 use mathlib.Core.Logic.{∥∥₁_elim}
 use Rattle.log_disk.specs.declared.disk.LogDisk.{Ghosts}
 use Rattle.log_disk.specs.declared.sink.Sink.{Ghosts as SinkGhosts}
@@ -53,15 +54,11 @@ record Written (xs ys all : List ℕ) : Type 0 where
 Written-prop : (xs ys all : List ℕ) → IsProp (Written xs ys all)
 Written-prop xs ys all = hlevel props
 
-drop-front : (xs ys : List ℕ) → drop (length xs) (xs ++ ys) ≡ ys
-drop-front [] ys = refl
-drop-front (x ∷ xs) ys = drop-front xs ys
-
 written-prefix : (xs ys all : List ℕ) → AppendsPrefix (Some xs) (Some ys) all → Written xs ys all
 written-prefix xs ys all (text, rest, whole, appended) =
-    let text_is : drop (length xs) ys ≡ text = ap (drop (length xs)) appended ∙ drop-front xs text in
+    let text_is : drop (length xs) ys ≡ text = ap (drop (length xs)) appended ∙ drop-append_seam xs text in
     let rest_is : drop (length (drop (length xs) ys)) all ≡ rest =
-    ap (λ t. drop (length t) all) text_is ∙ ap (drop (length text)) whole ∙ drop-front text rest in
+    ap (λ t. drop (length t) all) text_is ∙ ap (drop (length text)) whole ∙ drop-append_seam text rest in
     record { text = appended ∙ ap (λ t. xs ++ t) (sym text_is); rest = whole ∙ (λ i. sym text_is i ++ sym rest_is i) }
 
 prefix-certain : (old new : Option (List ℕ)) (all : List ℕ) → ∥ AppendsPrefix old new all ∥₁ → AppendsPrefix old new all

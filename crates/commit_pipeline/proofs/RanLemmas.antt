@@ -22,6 +22,7 @@ use Rattle.segment_file.specs.Lengths.{most_end}
 use Rattle.segment_file.specs.StandingLog.{LogStands}
 use Rattle.flusher.specs.Flushing.{sent_of}
 use Rattle.daemon_turn.proofs.SameLemmas.{IsSame-refl, IsSame-trans}
+use Rattle.lsn_space.proofs.TilingLemmas.{all-append}
 use Rattle.commit_pipeline.specs.declared.daemon.Daemon.{Daemon}
 use Rattle.stop_word.specs.declared.fault.DaemonFault.{DaemonFault}
 use Rattle.stop_word.specs.declared.fault.DaemonFault.TheVariants.{DiskFault, WriteFault}
@@ -30,7 +31,7 @@ use Rattle.end_lines.specs.declared.voice.Voice.{Voice}
 use Rattle.end_lines.specs.declared.voice.Voice.TheVariants.{Lines, Count}
 use Rattle.end_lines.specs.EndLines.{text_of}
 use Rattle.flusher.specs.KeptLog.{HoldsFront}
-use Rattle.flusher.proofs.Keeps.{HoldsFront-more, spellable-append}
+use Rattle.flusher.proofs.Keeps.{HoldsFront-more}
 use Rattle.commit_pipeline.specs.Later.{InFlight, HasReason, StopTells, extra, place_of, ring_of, Ran, Later}
 use Rattle.end_lines.specs.Telling.{TellsFront, counted}
 use Rattle.commit_pipeline.specs.Turning.{IsSameDaemon}
@@ -153,7 +154,7 @@ module _ {D : Type 0} {K : Type 0} (g : Ghosts D) (h : SinkGhosts K) (a b c : Da
 
   spellable-both : AllByRecursion IsSpellable ((first.more ++ second.more) ++ second.cut)
   spellable-both = subst (AllByRecursion IsSpellable) (sym records)
-      (spellable-append first.more (second.more ++ second.cut) (subst (AllByRecursion IsSpellable) no_cut first.spellable) second.spellable)
+      (all-append IsSpellable first.more (second.more ++ second.cut) (subst (AllByRecursion IsSpellable) no_cut first.spellable) second.spellable)
 
   sent-both : sent_of c.flusher ≡ sent_of a.flusher ++ units_of (first.more ++ second.more)
   sent-both = second.sent ∙ ap (λ us. us ++ units_of second.more) first.sent

@@ -6,7 +6,7 @@ use Rattle.std.proofs.lemmas.List.Concat.{flat_map-append}
 use Rattle.log_disk.specs.declared.sink.Sink.{Ghosts as SinkGhosts}
 use Rattle.log_record.specs.declared.rec.Rec.{Rec}
 use Rattle.log_record.specs.LogList.{AreUnitsOf, units_of}
-use Rattle.log_record.specs.Spelling.{spelling}
+use Rattle.log_record.specs.Spelling.{spelling, IsSpellable}
 use Rattle.log_rule.specs.declared.view.Constants.{Constants}
 use Rattle.log_rule.specs.declared.view.View.{View}
 use Rattle.log_rule.specs.Views.{sent_to}
@@ -16,7 +16,7 @@ use Rattle.end_lines.specs.declared.voice.Voice.{Voice}
 use Rattle.end_lines.specs.EndLines.{text_of}
 use Rattle.end_lines.proofs.LineLemmas.{text_of-append}
 use Rattle.batch_lines.proofs.ToldLemmas.{text_of-none}
-use Rattle.flusher.proofs.Keeps.{spellable-append}
+use Rattle.lsn_space.proofs.TilingLemmas.{all-append}
 use Rattle.commit_pipeline.specs.Told.{SentSince, HasTold, HasToldAll, HasToldPart}
 
 -- nothing was sent yet
@@ -38,7 +38,7 @@ module _ (begun now later : View) (since : SentSince begun now) (constants : lat
       → later.sending.sent ≡ now.sending.sent ++ units → SentSince begun later
   SentSince-more units records spelled sent = record {
     more = since.more ++ records;
-    spellable = spellable-append since.more records since.spellable spelled.spellable;
+    spellable = all-append IsSpellable since.more records since.spellable spelled.spellable;
     constants = constants ∙ since.constants;
     sent = sent ∙ (λ i. since.sent i ++ spelled.units_are i) ∙ append_assoc begun.sending.sent (units_of since.more) (units_of records)
         ∙ ap (λ us. begun.sending.sent ++ us) (sym (flat_map-append spelling since.more records));

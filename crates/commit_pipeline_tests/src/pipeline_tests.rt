@@ -1,7 +1,7 @@
 //! Two threads that insert notes or transfers while a daemon sends them to a disk, and what is recovered there.
-ghost use Rattle.std.specs.Prelude.{◌≡◌, ◌≤◌, ◌<◌, ◌+◌, true, All};
+ghost use Rattle.std.specs.Prelude.{◌≡◌, ◌<◌, ◌+◌, true, All};
 ghost use Rattle.std.specs.List.{AllByRecursion};
-ghost use Rattle.log_table.specs.Seats.{IsOf, view_of};
+ghost use Rattle.log_table.specs.Seats.{view_of};
 ghost use Rattle.log_rule.specs.Views.{knows_all_enrolled};
 ghost use Rattle.segment_file.specs.StandingLog.{IsStableGate};
 ghost use Rattle.lock_core.specs.Transfers.{IsAllowedJob};

@@ -7,7 +7,6 @@ use Rattle.log_table.specs.Seats.{Becomes, view_of}
 use Rattle.log_rule.specs.SlotViews.{saw_slot}
 use Rattle.log_rule.proofs.Contention.{contended_seeing-uncontended}
 use Rattle.ring_buffer.specs.Calls.{IsSameWorker}
-use Rattle.ring_buffer.specs.declared.refused.Refused.{Refused}
 use Rattle.ring_buffer.proofs.TwoCalls.{IsSameWorker-trans}
 use Rattle.consol_array.specs.declared.call.Heard.{Heard}
 use Rattle.consol_array.specs.declared.call.Heard.TheVariants as heard

@@ -26,15 +26,6 @@ use Rattle.consol_array.specs.declared.inserting.Way.TheVariants.{InGroup}
 use Rattle.consol_array.specs.Members.{IsAtStep, IsSamePiece}
 use Rattle.consol_array.specs.Releasing.{SeesTheSame}
 
--- the same worker's seat is the table's still
-pub IsOf-since : (table : LogTable) (first second : Seat) → IsOf table first → IsSameWorker first second → IsOf table second
-IsOf-since table first second of same = record {
-  table_is = same.table_is ∙ of.table_is;
-  no_slots = same.slots ∙ of.no_slots;
-  ring = ap (λ (constants : Constants). constants.ring) same.constants ∙ of.ring;
-  slots = ap (λ (constants : Constants). constants.slots) same.constants ∙ of.slots;
-}
-
 -- the rounds came to a group
 pub HasComeTo-JoinsNext : (table : LogTable) (first joins : Seat) (n : ℕ) (way : Way) (joined : Joined) → way ≡ InGroup joined
     → HasComeTo table first joins n way → JoinsNext table first joins n joined

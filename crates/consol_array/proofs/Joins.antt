@@ -8,11 +8,11 @@ use Rattle.log_table.specs.declared.table.LogTable.{LogTable}
 use Rattle.log_table.specs.declared.table.Seat.{Seat}
 use Rattle.log_rule.specs.May.{IsAtRest, MayJoinSlot}
 use Rattle.log_table.specs.Seats.{IsOf, Becomes, view_of}
+use Rattle.log_table.proofs.Stepping.{Becomes-trans}
 use Rattle.log_rule.specs.SlotViews.{own_slot_of, saw_slot, joined_slot, call_seeing, contended_seeing}
 use Rattle.log_rule.proofs.Contention.{clears-unless_gathering, clears-without_room}
 use Rattle.ring_buffer.specs.Calls.{MayPlace}
 use Rattle.consol_array.specs.Joining.{IsStateJoined, LacksSlotRoom}
-use Rattle.consol_array.proofs.Keeping.{Becomes-trans}
 
 -- the first state is that which it saw
 module _ (table : LogTable) (old mid : Seat) (n slot : ℕ) (from : SlotWord) (of : IsOf table old) (looks : Becomes old mid (saw_slot slot (word_of from) (view_of old)))

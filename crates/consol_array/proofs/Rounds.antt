@@ -7,6 +7,7 @@ use Rattle.log_table.specs.declared.table.Seat.{Seat}
 use Rattle.log_rule.specs.declared.view.Books.{Books}
 use Rattle.log_rule.specs.Books.{next_of}
 use Rattle.log_table.specs.Seats.{Becomes, view_of}
+use Rattle.log_table.proofs.Stepping.{Becomes-trans}
 use Rattle.log_rule.specs.SlotViews.{joined_slot, piece_joining, saw_slot}
 use Rattle.log_rule.specs.Views.{lost_alone}
 use Rattle.ring_buffer.specs.Calls.{IsSameWorker, MayPlace, looked}
@@ -15,7 +16,6 @@ use Rattle.ring_buffer.proofs.TwoCalls.{IsSameWorker-trans}
 use Rattle.consol_array.specs.declared.call.Joined.{Joined}
 use Rattle.consol_array.specs.Inserting.{JoinsNext}
 use Rattle.consol_array.specs.Joining.{HasJoined}
-use Rattle.consol_array.proofs.Keeping.{Becomes-trans}
 
 -- the seat looked, lost its exchange, and joined a group
 module _ (table : LogTable) (first mid lost new : Seat) (n tail durable found : ℕ) (joined : Joined) (looks : Becomes first mid (looked tail durable (view_of first)))

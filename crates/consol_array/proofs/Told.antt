@@ -11,7 +11,6 @@ use Rattle.log_table.specs.declared.table.Seat.{Seat}
 use Rattle.log_rule.specs.declared.view.Call.TheVariants as calls
 use Rattle.log_table.specs.Seats.{Becomes, view_of}
 use Rattle.log_rule.specs.SlotViews.{call_seeing, saw_slot, step_seeing, tells_refusal}
-use Rattle.consol_array.specs.declared.call.Joined.{Joined}
 use Rattle.consol_array.specs.Hearing.{TellsGroup, is_refused, step_told}
 use Rattle.consol_array.specs.Members.{IsAtStep}
 

@@ -1,5 +1,5 @@
 //! The word by which a group's refusal is told: the tail in its high half, and durable in its low half.
-ghost use Rattle.std.specs.Prelude.{◌≡◌, ◌+◌, ◌*◌, ◌/◌, ◌%◌, ◌<◌, ◌^◌};
+ghost use Rattle.std.specs.Prelude.{◌≡◌, ◌+◌, ◌*◌, ◌/◌, ◌%◌, ◌^◌};
 ghost use Rattle.log_rule.specs.Members.{LacksRoom};
 ghost use Rattle.ring_buffer.specs.Calls.{Refuses};
 

@@ -1,5 +1,5 @@
 -- What a seat is that has joined a group, and what it was since.
-use Rattle.std.proofs.Common.{arith, ◌≡◌, ◌∙◌, ℕ, ◌<◌, ◌≤◌, false, List, [], ◌∷◌, length, ap, refl, rules, sym, subst}
+use Rattle.std.proofs.Common.{arith, ◌≡◌, ◌∙◌, ℕ, ◌<◌, ◌≤◌, false, List, [], ◌∷◌, length, ap, refl, sym, subst}
 use Rattle.std.specs.List.{AllByRecursion}
 use Rattle.log_record.specs.Spelling.{IsTxn, spelling}
 use Rattle.lock_core.specs.declared.job.Job.{Job}
@@ -17,14 +17,12 @@ use Rattle.log_table.specs.Seats.{Becomes, IsOf, view_of}
 use Rattle.log_rule.specs.SlotViews.{piece_joining, step_joining}
 use Rattle.ring_buffer.specs.Calls.{IsSameWorker}
 use Rattle.ring_buffer.proofs.TwoCalls.{IsSameWorker-trans}
+use Rattle.ring_buffer.proofs.SameWorkers.{IsSameWorker-refl}
 use Rattle.consol_array.specs.declared.call.Joined.{Joined}
 use Rattle.consol_array.specs.Joining.{HasJoined}
 use Rattle.consol_array.specs.Members.{IsAtStep}
 use Rattle.test_rig.specs.NotedJobs.{MayInsert}
 use Rattle.consol_array_tests.specs.Shares.{GoesOn, HasShare, IsShare}
-
-IsSameWorker-refl : (seat : Seat) → IsSameWorker seat seat
-IsSameWorker-refl seat = search rules
 
 IsShare-joined : (table : LogTable) (old new : Seat) (n : ℕ) (units : List ℕ) (joined : Joined) → HasJoined table old new n joined → n ≡ length units
     → units ≡ spelling (next_of (view_of old).books) → IsShare table joined units (piece_joining joined.offset (view_of old)) new

@@ -1,7 +1,6 @@
 //! The calls of a worker in a group, each wanting the one before it.
-ghost use Rattle.std.specs.Prelude.{◌≡◌, ◌≤◌, ◌+◌, ◌<◌, ℕ, IfOk, IfErr, OnErr};
+ghost use Rattle.std.specs.Prelude.{◌≡◌, ◌≤◌, ◌<◌, ℕ, IfOk, IfErr};
 ghost use Rattle.log_rule.specs.declared.group_view.MemberStep.TheVariants.{Waits};
-ghost use Rattle.log_table.specs.HiredWorkers.{HasHired};
 ghost use Rattle.log_table.specs.Seats.{IsOf, view_of};
 ghost use Rattle.log_rule.specs.SlotViews.{step_joining};
 ghost use Rattle.log_record.specs.Spelling.{IsTxn};

@@ -1,6 +1,6 @@
 //! An account is given back.
-ghost use Rattle.std.specs.Prelude.{◌≡◌, ◌<◌, ◌≤◌};
-ghost use Rattle.log_record.specs.declared.limits.TheConstants.{MOST_BALANCE};
+ghost use Rattle.std.specs.Prelude.{◌<◌, ◌≤◌};
+ghost use Rattle.lsn_space.specs.declared.opening.TheConstants.{MOST_BALANCE};
 ghost use Rattle.log_rule.specs.May.{IsAtRest};
 ghost use Rattle.log_table.specs.Seats.{IsOf, view_of};
 ghost use Rattle.early_locks.specs.Locks.{HoldsTaken, GivesBack, HasGivenBack, HasSeenDurable};

@@ -1,5 +1,5 @@
 //! An account is taken.
-ghost use Rattle.std.specs.Prelude.{◌≡◌, ◌<◌, IfOk, IfErr};
+ghost use Rattle.std.specs.Prelude.{◌<◌, IfOk, IfErr};
 ghost use Rattle.log_rule.specs.May.{IsAtRest, HasBegunNothing, Ascends};
 ghost use Rattle.log_table.specs.Seats.{IsOf, view_of};
 ghost use Rattle.early_locks.specs.Locks.{HasTaken, HoldsTaken, WasHeld};

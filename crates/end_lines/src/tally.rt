@@ -1,5 +1,5 @@
 //! The count of end records.
-ghost use Rattle.std.specs.Prelude.{◌≡◌, ◌+◌, ◌<◌, ◌^◌, ◌∷◌, []};
+ghost use Rattle.std.specs.Prelude.{◌≡◌, ◌+◌, ◌<◌, ◌^◌};
 ghost use Rattle.end_lines.specs.EndLines.{is_done, is_refused};
 
 use log_record::Rec;

@@ -22,15 +22,6 @@ use Rattle.flusher.specs.SentUnits.{gathered, flushed}
 use Rattle.flusher.specs.KeptLog.{KeepsLog, sent_by, read_by}
 use Rattle.flusher.specs.Flushing.{MayFlush, IsSame, IsSameSeat, WritesWhole, sent_of, lsns_of}
 
--- one step after another
-pub Becomes-trans : (a b c : Seat) (view : View) (f : View → View) → Becomes a b view → Becomes b c (f (view_of b)) → Becomes a c (f view)
-Becomes-trans a b c view f first second = record {
-  table_is = second.table_is ∙ first.table_is;
-  number = second.number ∙ first.number;
-  me = second.me ∙ ap (λ m. (f m.0, m.1)) first.me;
-  worker = second.worker ∙ first.worker;
-}
-
 -- steps that leave entries and books as they were leave the same seat
 pub IsSameSeat-becomes : (old new : Seat) (view : View) → Becomes old new view → view.constants ≡ (view_of old).constants
     → view.entries ≡ (view_of old).entries → view.books ≡ (view_of old).books → IsSameSeat old new

@@ -1,6 +1,5 @@
 -- What a crash may leave as long as a flusher has the disk, from its making on.
-use Rattle.std.proofs.Common.{◌≡◌, ◌≤◌, ◌<◌, ◌∙◌, sym, ap, subst, inl, inr, ⊎_elim, ℕ, ◌+◌, List, [], ◌∷◌, ◌++◌, length, length-append, append_assoc, append-nil, arith}
-use Rattle.std.specs.List.{AllByRecursion}
+use Rattle.std.proofs.Common.{◌≡◌, ◌≤◌, ◌<◌, ◌∙◌, sym, ap, subst, inl, inr, ⊎_elim, ℕ, ◌+◌, List, [], ◌++◌, length, length-append, append_assoc, append-nil, arith}
 use Rattle.std.proofs.lemmas.List.Concat.{flat_map-append}
 use Rattle.log_disk.specs.Disk.{Leaves}
 use Rattle.log_disk.specs.declared.disk.LogDisk.{Ghosts}
@@ -12,18 +11,13 @@ use Rattle.segment_file.specs.Log.{Log, with_units, HoldsLog}
 use Rattle.segment_file.specs.StandingLog.{LogStands, HoldsLogOrMore}
 use Rattle.segment_file.specs.declared.scan_result.Tail.{Tail}
 use Rattle.segment_file.proofs.LogLemmas.{with_units-append, with_units-nil}
+use Rattle.lsn_space.proofs.TilingLemmas.{all-append}
 use Rattle.flusher.specs.KeptLog.{HoldsFront, HoldsSome, KeepsLog, StandsFrom}
-
--- the records of both parts are spellable
-pub spellable-append : (xs ys : List Rec) → AllByRecursion IsSpellable xs → AllByRecursion IsSpellable ys
-    → AllByRecursion IsSpellable (xs ++ ys)
-spellable-append [] ys first second = second
-spellable-append (x ∷ xs) ys first second = (first.0, spellable-append xs ys first.1 second)
 
 -- units of records, one list behind another
 pub AreUnitsOf-append : (us vs : List ℕ) (xs ys : List Rec) → AreUnitsOf us xs → AreUnitsOf vs ys → AreUnitsOf (us ++ vs) (xs ++ ys)
 AreUnitsOf-append us vs xs ys first second = record {
-  spellable = spellable-append xs ys first.spellable second.spellable;
+  spellable = all-append IsSpellable xs ys first.spellable second.spellable;
   units_are = (λ i. first.units_are i ++ second.units_are i) ∙ sym (flat_map-append spelling xs ys);
 }
 

@@ -11,12 +11,13 @@ use Rattle.log_rule.specs.Sends.{IsExposedToFlusher}
 use Rattle.log_rule.specs.Views.{saw_crew, saw_exposed, has_sent, read_to}
 use Rattle.log_table.specs.declared.table.Seat.{Seat}
 use Rattle.log_table.specs.Seats.{Becomes, view_of}
+use Rattle.log_table.proofs.Stepping.{Becomes-trans}
 use Rattle.segment_file.specs.PackedBatch.{BatchState}
 use Rattle.flusher.specs.declared.flusher.Flusher.{Flusher}
 use Rattle.flusher.specs.Flushing.{MayFlush}
 use Rattle.flusher.specs.Gathering.{Gathers}
 use Rattle.flusher.specs.SentUnits.{read_units, gathered, flushed, asked}
-use Rattle.flusher.proofs.Flushes.{Becomes-trans, Reads-gathered, gathered-read_to_exposed}
+use Rattle.flusher.proofs.Flushes.{Reads-gathered, gathered-read_to_exposed}
 
 -- these units were read, which spell records: those from durable up to exposed; the seat and the batch are as they are then
 pub record HasRead {D : Type 0} {g : Ghosts D} (f : Flusher D g) (to : ℕ) (seat : Seat) (batch units : List ℕ) : Type 0 where

@@ -1,7 +1,6 @@
 //! The question whether the log has come to its end.
 ghost use Rattle.std.specs.Prelude.{◌≡◌, true};
-ghost use Rattle.log_disk.specs.Faults.{HasCause};
-ghost use Rattle.log_table.specs.Seats.{IsOf, view_of};
+ghost use Rattle.log_table.specs.Seats.{view_of};
 ghost use Rattle.log_rule.specs.Views.{knows_all_enrolled};
 ghost use Rattle.flusher.specs.Flushing.{MayFlush, AsksDrained};
 

@@ -1,5 +1,5 @@
 //! What sends the exposed part of the log to the disk: how it is made, what is left of it, and what it answers.
-ghost use Rattle.std.specs.Prelude.{◌≡◌, [], ℕ, List};
+ghost use Rattle.std.specs.Prelude.{◌≡◌, []};
 ghost use Rattle.log_rule.specs.May.{MayClose};
 ghost use Rattle.log_table.specs.Seats.{view_of};
 ghost use Rattle.segment_file.specs.Log.{Log};

@@ -1,7 +1,6 @@
 //! A flush: the units from durable to exposed go from the ring to the disk.
-ghost use Rattle.std.specs.Prelude.{◌≡◌, ◌≤◌, ◌<◌, ◌+◌, ◌-◌, ◌++◌, [], List, ℕ, length};
-ghost use Rattle.log_table.specs.Seats.{IsOf, Becomes, key_of, view_of};
-ghost use Rattle.log_rule.specs.Views.{sent_to};
+ghost use Rattle.std.specs.Prelude.{◌≤◌, ◌<◌, ◌+◌, ◌-◌, length};
+ghost use Rattle.log_table.specs.Seats.{IsOf, key_of, view_of};
 ghost use Rattle.flusher.specs.Flushing.{MayFlush, FlushEnds};
 ghost use Rattle.flusher.specs.Gathering.{MayGather, Gathers};
 

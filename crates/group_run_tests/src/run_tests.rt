@@ -18,7 +18,6 @@ use memory_disk::{MemoryDisk, MemorySink};
 use run_rig::{daemon_on, hands, live_all, recovered_balances};
 use segment_file::open_image;
 use std::alloc::Global;
-use std::process::Abort;
 use std::sync::Wait;
 use std::sync::atomic::{AtomicUsize, Ordering};
 use std::test::Fail;

@@ -3,8 +3,10 @@ use Rattle.std.proofs.Common.{◌≡◌, ◌≢◌, ◌<◌, ◌≤◌, ◌+◌,
 use mathlib.Core.Option.{some, some-injective, some-ne-none}
 use lib.ListN.{get_elem?}
 use Rattle.crossbeam_queue.proofs.Lists.{at_set, at_snoc}
+use Rattle.lsn_space.proofs.ListLemmas.{summed-member_le}
+use Rattle.lsn_space.specs.Lists.{Everywhere, summed}
 use Rattle.job_queue.specs.Takings.{same, once_below, times}
-use Rattle.job_queue.specs.Rule.{counted, summed, Everywhere}
+use Rattle.job_queue.specs.Rule.{counted}
 
 counted-more : (k n : ℕ) → counted k n ++ (k + n) ∷ [] ≡ counted k (suc n)
 counted-more k zero = let e : k + 0 ≡ k = omega arith in ap (λ (x : ℕ). x ∷ []) e
@@ -50,6 +52,12 @@ once_below-positive_less x zero some' = absurd (omega (arith, some'))
 once_below-positive_less zero (suc n) some' = omega arith
 once_below-positive_less (suc x) (suc n) some' = omega (arith, once_below-positive_less x n some')
 
+-- each number below is there once
+pub once_below-inside : (x n : ℕ) → x < n → once_below x n ≡ 1
+once_below-inside x zero below = absurd (omega (arith, below))
+once_below-inside zero (suc n) below = refl
+once_below-inside (suc x) (suc n) below = once_below-inside x n (omega (arith, below))
+
 pub same-refl : (x : ℕ) → same x x ≡ 1
 same-refl zero = refl
 same-refl (suc x) = same-refl x
@@ -67,10 +75,6 @@ module _ {A : Type 0} where
   get_elem-within (y ∷ ys) zero x at = omega arith
   get_elem-within (y ∷ ys) (suc i) x at = omega (arith, get_elem-within ys i x at)
 
-  pub everywhere-single : (P : A → Type 0) (only : A) → P only → Everywhere P (only ∷ [])
-  everywhere-single P only mine zero x at = subst P (some-injective only x at) mine
-  everywhere-single P only mine (suc i) x at = absurd (some-ne-none x (sym at))
-
   pub everywhere-set : (P Q : A → Type 0) (list : List A) (me : ℕ) (new : A) → Everywhere P list → Q new → ((x : A) → P x → Q x)
       → Everywhere Q (set list me new)
   everywhere-set P Q list me new all mine f j x there = ⊎_elim (λ (t : (j ≡ me) × (new ≡ x)). subst Q t.1 mine)
@@ -79,32 +83,6 @@ module _ {A : Type 0} where
   pub everywhere-snoc : (P : A → Type 0) (list : List A) (new : A) → Everywhere P list → P new → Everywhere P (list ++ new ∷ [])
   everywhere-snoc P list new all mine j x there =
       ⊎_elim (λ before. all j x before) (λ (is : new ≡ x). subst P is mine) (at_snoc list new x j there)
-
-  pub summed-set : (amount : A → ℕ) (list : List A) (i : ℕ) (old new : A) → get_elem? list i ≡ some old
-      → summed amount (set list i new) + amount old ≡ summed amount list + amount new
-  summed-set amount [] i old new there = absurd (some-ne-none old (sym there))
-  summed-set amount (x ∷ xs) zero old new there = let is : amount x ≡ amount old = ap amount (some-injective x old there) in omega arith
-  summed-set amount (x ∷ xs) (suc i) old new there = omega (arith, summed-set amount xs i old new there)
-
-  pub summed-snoc : (amount : A → ℕ) (list : List A) (new : A) → summed amount (list ++ new ∷ []) ≡ summed amount list + amount new
-  summed-snoc amount [] new = omega arith
-  summed-snoc amount (x ∷ xs) new = omega (arith, summed-snoc amount xs new)
-
-  pub summed-at_le : (amount : A → ℕ) (list : List A) (i : ℕ) (x : A) → get_elem? list i ≡ some x → amount x ≤ summed amount list
-  summed-at_le amount [] i x there = absurd (some-ne-none x (sym there))
-  summed-at_le amount (y ∷ ys) zero x there = let is : amount y ≡ amount x = ap amount (some-injective y x there) in omega arith
-  summed-at_le amount (y ∷ ys) (suc i) x there = omega (arith, summed-at_le amount ys i x there)
-
-  pub summed-two_le : (amount : A → ℕ) (list : List A) (i j : ℕ) (x y : A) → get_elem? list i ≡ some x → get_elem? list j ≡ some y → j ≢ i
-      → amount x + amount y ≤ summed amount list
-  summed-two_le amount [] i j x y here there differ = absurd (some-ne-none x (sym here))
-  summed-two_le amount (z ∷ zs) zero zero x y here there differ = absurd (differ refl)
-  summed-two_le amount (z ∷ zs) zero (suc j) x y here there differ =
-      let mine : amount z ≡ amount x = ap amount (some-injective z x here) in omega (arith, summed-at_le amount zs j y there)
-  summed-two_le amount (z ∷ zs) (suc i) zero x y here there differ =
-      let mine : amount z ≡ amount y = ap amount (some-injective z y there) in omega (arith, summed-at_le amount zs i x here)
-  summed-two_le amount (z ∷ zs) (suc i) (suc j) x y here there differ =
-      omega (arith, summed-two_le amount zs i j x y here there (λ e. differ (ap suc e)))
 
   -- where the others weigh nothing, and so amount to nothing, the sum is the one's
   summed-none : (weight amount : A → ℕ) (list : List A) → ((i : ℕ) (x : A) → get_elem? list i ≡ some x → weight x ≡ 0 → amount x ≡ 0)
@@ -121,7 +99,7 @@ module _ {A : Type 0} where
       let also : amount y ≡ amount x = ap amount (some-injective y x there) in
       let rest = summed-none weight amount ys (λ j z. f (suc j) z) (omega (arith, one, all)) in omega (arith, rest)
   summed-only_weighted weight amount (y ∷ ys) (suc i) x there one all f =
-      let less = summed-at_le weight ys i x there in
+      let less = summed-member_le weight ys i x there in
       let mine = f 0 y refl (omega (arith, one, all, less)) in
       let rest = summed-only_weighted weight amount ys i x there one (omega (arith, one, all, less)) (λ j z. f (suc j) z) in
       omega (arith, mine, rest)

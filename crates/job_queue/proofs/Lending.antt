@@ -5,10 +5,12 @@ use mathlib.Core.Option.{some}
 use lib.ListN.{get_elem?}
 use Rattle.crossbeam_queue.specs.Fifo.{Forks, Merges}
 use Rattle.crossbeam_queue.proofs.Lists.{at_set, set_here, set_else, at_longer}
+use Rattle.lsn_space.proofs.ListLemmas.{summed-set, summed-two_members_le, summed-push}
+use Rattle.lsn_space.specs.Lists.{summed}
 use Rattle.job_queue.specs.declared.takings.Takings.{Takings}
 use Rattle.job_queue.specs.Takings.{fresh, handed_out, worker_of, took_back, times_in, CountsMarks}
-use Rattle.job_queue.specs.Rule.{summed, HasCount, lives, marks_left_of, IsInOrder, IsEmptyIfSpent, IsShared}
-use Rattle.job_queue.proofs.Counting.{times-append, get_elem-within, everywhere-set, everywhere-snoc, summed-set, summed-snoc, summed-two_le}
+use Rattle.job_queue.specs.Rule.{HasCount, lives, marks_left_of, IsInOrder, IsEmptyIfSpent, IsShared}
+use Rattle.job_queue.proofs.Counting.{times-append, get_elem-within, everywhere-set, everywhere-snoc}
 use Rattle.job_queue.proofs.FirstPass.{lives-one, IsBoss-first_pass}
 
 pub IsShared-forks : (me : ℕ) (v : Takings) → me ≡ 0 → 1 ≤ v.marks_left → Forks IsShared me v (handed_out v) (worker_of v)
@@ -16,15 +18,15 @@ IsShared-forks me v here some' items views s at =
     let w : Takings = handed_out v in let new : Takings = worker_of v in
     let first_pass = IsBoss-first_pass items views me v s at here in let vs : List Takings = set views me w in
     let count = first_pass.count in let marks = first_pass.marks in
-    let sum = summed-set marks_left_of views me v w at in let sum' = summed-snoc marks_left_of vs new in let all = s.put in record {
+    let sum = summed-set marks_left_of views me v w at in let sum' = summed-push marks_left_of vs new in let all = s.put in record {
       next = s.next;
       first_pass = w;
       first = at_longer vs (new ∷ []) 0 w (subst (λ i. get_elem? vs i ≡ some w) here (set_here views me w (get_elem-within views me v at)));
       first_pass_lives = first_pass.live;
       put = omega arith;
       items_are = s.items_are;
-      once = λ y. omega (arith, s.once y, summed-set (times_in y) views me v w at, summed-snoc (times_in y) vs new);
-      out = omega (arith, s.out, summed-set lives views me v w at, summed-snoc lives vs new, first_pass.out);
+      once = λ y. omega (arith, s.once y, summed-set (times_in y) views me v w at, summed-push (times_in y) vs new);
+      out = omega (arith, s.out, summed-set lives views me v w at, summed-push lives vs new, first_pass.out);
       budget = omega (arith, first_pass.budget, some');
       counts = everywhere-snoc (HasCount v.count) vs new
           (everywhere-set (HasCount s.first_pass.count) (HasCount v.count) views me w s.counts
@@ -70,7 +72,7 @@ IsShared-merges me v other u here on one items views s at two at' =
     let was : get_elem? views other ≡ some u =
     ⊎_elim (λ (t : (other ≡ me) × (w ≡ u)). absurd (two t.0)) (λ (t : (other ≢ me) × (get_elem? views other ≡ some u)). t.1)
     (at_set views me other w u at') in
-    let both : lives v + lives u ≤ summed lives views = summed-two_le lives views me other v u at was two in
+    let both : lives v + lives u ≤ summed lives views = summed-two_members_le lives views me other v u at was two in
     let weight = lives-one u on in let mine = lives-one v first_pass.live in
     let sum = summed-set lives views me v w at in let sum' = summed-set lives vs other u nobody at' in
     let out = first_pass.out in let count = first_pass.count in let marks = first_pass.marks in let lives_all = s.out in

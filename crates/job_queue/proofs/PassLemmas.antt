@@ -3,8 +3,8 @@ use Rattle.std.proofs.Common.{◌≡◌, ◌<◌, ◌≤◌, ◌+◌, ℕ, true,
 use Rattle.std.specs.List.{AllByRecursion}
 use Rattle.crossbeam_queue.specs.Passes.{Pass, view, IsPassOf, IsSamePass}
 use Rattle.lock_core.specs.declared.job.Job.{Job}
-use Rattle.lock_core.proofs.ListLemmas.{all-append}
 use Rattle.txn_jobs.specs.Places.{number_at, job_at}
+use Rattle.lsn_space.proofs.TilingLemmas.{all-append}
 use Rattle.job_queue.specs.declared.queue.Queue.{Queue}
 use Rattle.job_queue.specs.declared.rows.Rows.{Rows}
 use Rattle.txn_jobs.proofs.Rising.{Rises-push}

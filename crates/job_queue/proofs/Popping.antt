@@ -7,13 +7,13 @@ use mathlib.Core.Option.{some}
 use lib.ListN.{get_elem?}
 use Rattle.crossbeam_queue.specs.Fifo.{Pops, Learns}
 use Rattle.crossbeam_queue.proofs.Lists.{set_here, set_else}
-use Rattle.lsn_space.proofs.TilingLemmas.{all-weaken}
-use Rattle.lock_core.proofs.ListLemmas.{all-append}
+use Rattle.lsn_space.proofs.TilingLemmas.{all-weaken, all-append}
+use Rattle.lsn_space.proofs.ListLemmas.{summed-set, summed-member_le}
 use Rattle.txn_jobs.proofs.Rising.{Rises-push}
 use Rattle.job_queue.specs.declared.takings.Takings.{Takings}
 use Rattle.job_queue.specs.Takings.{took_place, took_mark, TakesNext, same, times_in, CountsMarks}
 use Rattle.job_queue.specs.Rule.{HasCount, lives, marks_left_of, IsInOrder, IsEmptyIfSpent, IsShared}
-use Rattle.job_queue.proofs.Counting.{counted-first, once_below-suc, times-push, get_elem-within, everywhere-set, summed-set, summed-at_le}
+use Rattle.job_queue.proofs.Counting.{counted-first, once_below-suc, times-push, get_elem-within, everywhere-set}
 use Rattle.job_queue.proofs.FirstPass.{first_pass-same}
 
 -- what changes of a pass that IsShared-pops_next the number `next`
@@ -155,5 +155,5 @@ IsShared-pops_next me v on some' x items views s at = dite (dec_lt s.next v.coun
 -- while a mark may be taken, the queue holds something
 pub Learns-holds_some : (me : ℕ) (v : Takings) → Learns IsShared me v (λ items. 1 ≤ v.marks_left → 1 ≤ length items)
 Learns-holds_some me v items views s at some' =
-    let one = summed-at_le marks_left_of views me v at in let all = s.put in dite (dec_le s.next s.first_pass.count)
+    let one = summed-member_le marks_left_of views me v at in let all = s.put in dite (dec_le s.next s.first_pass.count)
     (λ le. let was = s.early le in omega arith) (λ more. let was = s.late (omega arith) in omega arith)

@@ -4,10 +4,12 @@ use mathlib.Core.Option.{some}
 use lib.ListN.{get_elem?}
 use Rattle.crossbeam_queue.specs.Fifo.{Pushes, Learns}
 use Rattle.crossbeam_queue.proofs.Lists.{at_set, set_here}
+use Rattle.lsn_space.proofs.ListLemmas.{everywhere-singleton, summed-set, summed-two_members_le}
+use Rattle.lsn_space.specs.Lists.{summed}
 use Rattle.job_queue.specs.declared.takings.Takings.{Takings}
 use Rattle.job_queue.specs.Takings.{fresh, put_place, put_mark, times_in}
-use Rattle.job_queue.specs.Rule.{summed, HasCount, lives, marks_left_of, IsInOrder, IsEmptyIfSpent, IsShared}
-use Rattle.job_queue.proofs.Counting.{counted-push, get_elem-within, everywhere-single, everywhere-set, summed-set, summed-two_le}
+use Rattle.job_queue.specs.Rule.{HasCount, lives, marks_left_of, IsInOrder, IsEmptyIfSpent, IsShared}
+use Rattle.job_queue.proofs.Counting.{counted-push, get_elem-within, everywhere-set}
 use Rattle.job_queue.proofs.FirstPass.{lives-one, IsBoss-first_pass}
 
 pub IsShared-fresh : IsShared [] (fresh true 0 0 0 0 ∷ [])
@@ -21,18 +23,18 @@ IsShared-fresh = record {
   once = λ x. refl;
   out = refl;
   budget = refl;
-  counts = everywhere-single (HasCount 0) (fresh true 0 0 0 0) (λ on. refl);
+  counts = everywhere-singleton (HasCount 0) (fresh true 0 0 0 0) (λ on. refl);
   early = λ le. refl;
   late = λ le. refl;
-  spent = everywhere-single IsEmptyIfSpent (fresh true 0 0 0 0) (λ off. absurd (true≢false off));
-  in_order = everywhere-single (IsInOrder 0) (fresh true 0 0 0 0) (tt, tt);
+  spent = everywhere-singleton IsEmptyIfSpent (fresh true 0 0 0 0) (λ off. absurd (true≢false off));
+  in_order = everywhere-singleton (IsInOrder 0) (fresh true 0 0 0 0) (tt, tt);
 }
 
 -- no other pass lives while places are put
 other-none : (views : List Takings) (me : ℕ) (v u : Takings) (j : ℕ) → get_elem? views me ≡ some v → get_elem? views j ≡ some u → j ≢ me
     → v.live ≡ true → u.live ≡ true → summed lives views ≡ 1 → ⊥
 other-none views me v u j at there other on lives' alone =
-    absurd (omega (arith, summed-two_le lives views me j v u at there other, lives-one v on, lives-one u lives', alone))
+    absurd (omega (arith, summed-two_members_le lives views me j v u at there other, lives-one v on, lives-one u lives', alone))
 
 pub IsShared-pushes_place : (n me : ℕ) (v : Takings) (x : ℕ) → me ≡ 0 → x ≡ v.count → v.marks ≡ 0 → v.out ≡ 0
     → Pushes IsShared n me v x (λ w. w ≡ put_place v)

@@ -5,6 +5,7 @@ use Rattle.std.specs.List.{AllByRecursion}
 use mathlib.Core.Option.{some}
 use lib.ListN.{get_elem?}
 use Rattle.txn_jobs.specs.Places.{Rises}
+use Rattle.lsn_space.specs.Lists.{Everywhere, summed}
 use Rattle.job_queue.specs.declared.takings.Takings.{Takings}
 use Rattle.job_queue.specs.Takings.{times_in, once_below, CountsMarks}
 
@@ -12,13 +13,6 @@ use Rattle.job_queue.specs.Takings.{times_in, once_below, CountsMarks}
 abbrev pub counted : ℕ → ℕ → List ℕ
 counted k zero = []
 counted k (suc n) = k ∷ counted (suc k) n
-
-abbrev pub summed : {A : Type 0} → (A → ℕ) → List A → ℕ
-summed amount [] = 0
-summed amount (x ∷ more) = amount x + summed amount more
-
-abbrev pub Everywhere : {A : Type 0} → (A → Type 0) → List A → Type 0
-Everywhere P list = (i : ℕ) (x : _) → get_elem? list i ≡ some x → P x
 
 -- 1 for a pass, and 0 for one that was taken back
 abbrev pub lives : Takings → ℕ

@@ -7,7 +7,8 @@ use Rattle.log_record.specs.declared.rec.Placed.{Placed}
 use Rattle.lock_core.specs.declared.update.Change.{Change}
 use Rattle.lock_core.specs.Transactions.{touches}
 use Rattle.lock_core.specs.Sums.{Opening}
-use Rattle.lock_core.proofs.OneMore.{or_false-both_false, or-false}
+use Rattle.lock_core.proofs.OneMore.{or_false-both_false}
+use Rattle.lock_core.proofs.ChangesLemmas.{touches-more}
 use Rattle.ledger_view.specs.declared.entries.Entry.{Entry}
 use Rattle.ledger_view.specs.declared.accounts.Account.{Account}
 use Rattle.ledger_view.specs.Entries.{net_of, balance_after}
@@ -37,15 +38,6 @@ pub set-with_entry : (rows accounts : List Account) (account : ℕ) (kept : Acco
 set-with_entry rows accounts account kept entries entry seen inside is grown =
     let same : kept ≡ account_at accounts account = is ∙ ap (λ l. get_or l account kept) seen ∙ get_or_default accounts account kept untouched inside in
     λ i. set (seen i) account (record { since = (same i).since; entries = grown same i })
-
-touches-more : (account : ℕ) (changes : List Change) (change : Change) → touches account (changes ++ change ∷ []) ≡ (touches account changes || (change.account == account))
-touches-more account [] change = or-false (change.account == account)
-touches-more account (first ∷ changes) change = by_case (first.account == account) (touches-more account changes change)
-  where
-    by_case : (b : Bool) → touches account (changes ++ change ∷ []) ≡ (touches account changes || (change.account == account))
-        → (b || touches account (changes ++ change ∷ [])) ≡ ((b || touches account changes) || (change.account == account))
-    by_case true rest = refl
-    by_case false rest = rest
 
 module _ (opening : Opening) (h : List Placed) (txn end : ℕ) (changes : List Change) where
   pub enters-none : (old : List Account) → Enters opening h txn end changes [] old old

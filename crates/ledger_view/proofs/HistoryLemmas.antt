@@ -19,7 +19,7 @@ use Rattle.lock_core.proofs.OneMore.{has_commit-unended, total-uncommitted, tota
 use Rattle.lock_core.proofs.ChangesLemmas.{moved-untouched}
 use Rattle.lock_core.proofs.Meeting.{all_passed-meets_tests}
 use Rattle.lock_core.proofs.Ranging.{is_balance-equals_balance_of}
-use Rattle.lock_core.proofs.KindLemmas.{all_genesis-accounts_count}
+use Rattle.lock_core.proofs.KindLemmas.{all_genesis-accounts_count, total-genesis}
 use Rattle.ledger_view.specs.Entries.{net_of, balance_after, is_commit_on, entries_of, front_to, balance_if_known, balance_up_to}
 use Rattle.ledger_view.proofs.NetLemmas.{net_of-moved}
 
@@ -132,18 +132,6 @@ module _ (opening : Opening) where
       by_kind (Short txn leg) end is before = absurd is
       by_kind (Over txn leg) end is before = absurd is
       by_kind (Note txn text) end is before = absurd is
-
-  total-genesis : (side : ℤ → ℕ) (account : ℕ) (h : List Placed) → AllByRecursion (λ (entry : Placed). IsGenesis entry.rec) h → total side account h ≡ 0
-  total-genesis side account [] all = refl
-  total-genesis side account (entry ∷ h) all = by_kind entry.rec entry.end all.0 ∙ total-genesis side account h all.1
-    where
-      by_kind : (rec : Rec) (end : ℕ) → IsGenesis rec → total side account (record { end = end; rec = rec } ∷ h) ≡ total side account h
-      by_kind (Genesis own balance) end is = total-no_change side account (record { end = end; rec = Genesis own balance }) h refl refl
-      by_kind (Update txn own delta prev) end is = absurd is
-      by_kind (Commit txn legs) end is = absurd is
-      by_kind (Short txn leg) end is = absurd is
-      by_kind (Over txn leg) end is = absurd is
-      by_kind (Note txn text) end is = absurd is
 
   -- behind Genesis records alone each account has its first balance
   pub balance_after-all_genesis : (h : List Placed) (account : ℕ) → AllByRecursion (λ (entry : Placed). IsGenesis entry.rec) h

@@ -10,7 +10,7 @@ use Rattle.lock_core.specs.Transactions.{updates_of}
 use Rattle.lock_core.specs.Sums.{Opening}
 use Rattle.lock_core.specs.Tests.{IsGenesis}
 use Rattle.lock_core.specs.Lawful.{tests, Passes, base_with}
-use Rattle.lock_core.proofs.ListLemmas.{all-append}
+use Rattle.lsn_space.proofs.TilingLemmas.{all-append}
 use Rattle.ledger_view.specs.declared.entries.Entry.{Entry}
 use Rattle.ledger_view.specs.declared.accounts.Account.{Account}
 use Rattle.ledger_view.specs.Entries.{net_of, balance_after, is_commit_on, entry_of, entries_of, front_to, balance_up_to}

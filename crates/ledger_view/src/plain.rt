@@ -1,5 +1,5 @@
 //! The definitions' plain program: it looks through the whole list, behind an opening, for each answer.
-ghost use Rattle.std.specs.Prelude.{◌≡◌, ◌==◌, ◌&&◌, ◌<◌, ◌≤◌, ◌+◌, ◌*◌, ◌∷◌, pos, neg_ℤ, ◌≤ℤ◌, if◌then◌else◌, ℕ, List, length, take, reverse, slice_index_or, IfOk};
+ghost use Rattle.std.specs.Prelude.{◌≡◌, ◌==◌, ◌&&◌, ◌<◌, ◌≤◌, ◌+◌, ◌*◌, pos, neg_ℤ, ◌≤ℤ◌, if◌then◌else◌, length, take, reverse, slice_index_or, IfOk};
 ghost use Rattle.lsn_space.specs.declared.lsn.TheConstants.{LAST};
 ghost use Rattle.log_record.specs.declared.rec.Placed.{Placed};
 ghost use Rattle.lock_core.specs.Records.{txn_of, commits, gain, loss, changes_of};
@@ -7,7 +7,7 @@ ghost use Rattle.lock_core.specs.Transactions.{touches, is_committed};
 ghost use Rattle.lock_core.specs.Sums.{BaseState, moved, total};
 ghost use Rattle.lock_core.specs.Lawful.{base_with, with_genesis};
 ghost use Rattle.lock_core.specs.AccountRows.{opening_of};
-ghost use Rattle.ledger_view.specs.Entries.{net_of, front_to, balance_after, balance_if_known, balance_up_to, entries_if_known};
+ghost use Rattle.ledger_view.specs.Entries.{net_of, front_to, balance_after, balance_up_to, entries_if_known};
 ghost use Rattle.ledger_view.specs.Plain.{own_changes, IsNetOf, IsEntryOf, KeepsRange};
 
 use crate::entries::Entry;

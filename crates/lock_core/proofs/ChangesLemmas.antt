@@ -35,7 +35,7 @@ pub record AppliesToTouched (some changes : List Change) (end : ℕ) (old new : 
 pub applies_touched-none : (changes : List Change) (end : ℕ) (rows : List (ℕ × ℕ)) → AppliesToTouched [] changes end rows rows
 applies_touched-none changes end rows = record { count = refl; done = λ account on. absurd (true≢false (sym on)); left = λ account off. refl }
 
-touches-more : (account : ℕ) (changes : List Change) (change : Change) → touches account (changes ++ change ∷ []) ≡ (touches account changes || (change.account == account))
+pub touches-more : (account : ℕ) (changes : List Change) (change : Change) → touches account (changes ++ change ∷ []) ≡ (touches account changes || (change.account == account))
 touches-more account [] change = or-false (change.account == account)
 touches-more account (first ∷ changes) change = by_case (first.account == account) (touches-more account changes change)
   where

@@ -11,7 +11,7 @@ use Rattle.log_record.specs.declared.rec.Placed.{Placed}
 use Rattle.log_record.specs.LogList.{end_of, size_of}
 use Rattle.log_record.proofs.LogListLemmas.{end_of-cons}
 use Rattle.log_record.specs.declared.rec.Rec.TheVariants.{Genesis, Update, Commit, Short, Over, Note}
-use Rattle.log_record.specs.declared.limits.TheConstants.{MOST_BALANCE}
+use Rattle.lsn_space.specs.declared.opening.TheConstants.{MOST_BALANCE}
 use Rattle.lock_core.specs.History.{history_from}
 use Rattle.lock_core.specs.Records.{txn_of, ends, commits, changes_of, gain, loss}
 use Rattle.lock_core.specs.Transactions.{recs_of, own_records_of, has_commit, is_committed, all_without_prev, in_order}
@@ -64,20 +64,20 @@ legs_move side account [] = 0
 legs_move side account (leg ∷ legs) =
     cond (leg.0 == account) (side (neg_ℤ (pos leg.2))) 0 + cond (leg.1 == account) (side (pos leg.2)) 0 + legs_move side account legs
 
-loss-taken : (n : ℕ) → loss (neg_ℤ (pos n)) ≡ n
-loss-taken zero = refl
-loss-taken (suc n) = refl
+pub loss-negated : (n : ℕ) → loss (neg_ℤ (pos n)) ≡ n
+loss-negated zero = refl
+loss-negated (suc n) = refl
 
-gain-taken : (n : ℕ) → gain (neg_ℤ (pos n)) ≡ 0
-gain-taken zero = refl
-gain-taken (suc n) = refl
+pub gain-negated : (n : ℕ) → gain (neg_ℤ (pos n)) ≡ 0
+gain-negated zero = refl
+gain-negated (suc n) = refl
 
 pub legs_move-loss : (account : ℕ) (legs : List (ℕ × ℕ × ℕ)) → legs_move loss account legs ≡ taken account legs
 legs_move-loss account [] = refl
 legs_move-loss account (leg ∷ legs) =
     let more = legs_move-loss account legs in
     let payer : cond {A = ℕ} (leg.0 == account) (loss (neg_ℤ (pos leg.2))) 0 ≡ cond (leg.0 == account) leg.2 0
-    = ap (λ n. cond (leg.0 == account) n 0) (loss-taken leg.2) in
+    = ap (λ n. cond (leg.0 == account) n 0) (loss-negated leg.2) in
     let payee : cond {A = ℕ} (leg.1 == account) (loss (pos leg.2)) 0 ≡ 0 = nothing (leg.1 == account) in
     omega arith
 
@@ -86,7 +86,7 @@ legs_move-gain account [] = refl
 legs_move-gain account (leg ∷ legs) =
     let more = legs_move-gain account legs in
     let payer : cond {A = ℕ} (leg.0 == account) (gain (neg_ℤ (pos leg.2))) 0 ≡ 0
-    = ap (λ n. cond {A = ℕ} (leg.0 == account) n 0) (gain-taken leg.2) ∙ nothing (leg.0 == account) in
+    = ap (λ n. cond {A = ℕ} (leg.0 == account) n 0) (gain-negated leg.2) ∙ nothing (leg.0 == account) in
     omega arith
 
 -- the transaction's records are its end record and those before
@@ -261,13 +261,13 @@ given-append : (account : ℕ) (xs ys : List (ℕ × ℕ × ℕ)) → given acco
 given-append account [] ys = omega arith
 given-append account (leg ∷ xs) ys = let more = given-append account xs ys in omega arith
 
-has_number-below : (n first : ℕ) (jobs : List PlainTransfer) → n < first → has_number (numbered first jobs) n ≡ false
+pub has_number-below : (n first : ℕ) (jobs : List PlainTransfer) → n < first → has_number (numbered first jobs) n ≡ false
 has_number-below n first [] below = refl
 has_number-below n first (job ∷ jobs) below =
     let other = ne_eqb n first (λ same. absurd (omega (arith, same))) in
     λ i. other i || has_number-below n (first + 1) jobs (omega arith) i
 
-distinct-numbered : (first : ℕ) (jobs : List PlainTransfer) → AreDistinct (numbered first jobs)
+pub distinct-numbered : (first : ℕ) (jobs : List PlainTransfer) → AreDistinct (numbered first jobs)
 distinct-numbered first [] = tt
 distinct-numbered first (job ∷ jobs) = (has_number-below first (first + 1) jobs (omega arith), distinct-numbered (first + 1) jobs)
 

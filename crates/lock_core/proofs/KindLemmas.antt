@@ -87,7 +87,7 @@ keeps_rows-in_range rows base h kept account below =
     ((row rows account).0, kept.range account inside, kept.balance account inside)
 
 -- in a list of Genesis records nothing is moved, and nothing committed
-total-genesis : (side : ℤ → ℕ) (a : ℕ) (h : List Placed) → AllByRecursion (λ (entry : Placed). IsGenesis entry.rec) h → total side a h ≡ 0
+pub total-genesis : (side : ℤ → ℕ) (a : ℕ) (h : List Placed) → AllByRecursion (λ (entry : Placed). IsGenesis entry.rec) h → total side a h ≡ 0
 total-genesis side a [] all = refl
 total-genesis side a (entry ∷ h) all = by_kind entry.rec entry.end all.0 ∙ total-genesis side a h all.1
   where

@@ -2,12 +2,9 @@
 use Rattle.std.proofs.Common.{◌≡◌, ◌<◌, ℕ, zero, suc, ◌+◌, List, [], ◌∷◌, ◌++◌, length, take, reverse, get_or, sym, subst, arith}
 use Rattle.std.specs.List.{AllByRecursion}
 use Rattle.std.proofs.lemmas.List.{take_more, reverse-append}
+use Rattle.lsn_space.proofs.TilingLemmas.{all-append}
 
 module _ {X : Type 0} (P : X → Type 0) where
-  pub all-append : (xs ys : List X) → AllByRecursion P xs → AllByRecursion P ys → AllByRecursion P (xs ++ ys)
-  all-append [] ys first second = second
-  all-append (x ∷ xs) ys first second = (first.0, all-append xs ys first.1 second)
-
   pub all-at : (xs : List X) (i : ℕ) (x : X) → AllByRecursion P xs → i < length xs → x ≡ get_or xs i x → P x
   all-at [] i x all inside is = absurd (omega arith)
   all-at (y ∷ ys) zero x all inside is = subst P (sym is) all.0
@@ -16,7 +13,7 @@ module _ {X : Type 0} (P : X → Type 0) where
   pub all-take_more : (xs : List X) (i : ℕ) (x : X) → AllByRecursion P (take i xs) → i < length xs → x ≡ get_or xs i x → P x
       → AllByRecursion P (take (i + 1) xs)
   all-take_more xs i x all inside is here =
-      subst (AllByRecursion P) (sym (take_more xs i x inside)) (all-append (take i xs) (get_or xs i x ∷ []) all (subst P is here, tt))
+      subst (AllByRecursion P) (sym (take_more xs i x inside)) (all-append P (take i xs) (get_or xs i x ∷ []) all (subst P is here, tt))
 
   pub all-split : (xs ys : List X) → AllByRecursion P (xs ++ ys) → AllByRecursion P xs × AllByRecursion P ys
   all-split [] ys all = (tt, all)

@@ -4,7 +4,7 @@ use Rattle.std.specs.List.{AllByRecursion}
 use Rattle.std.proofs.lemmas.List.{same_from_push, take-append-drop}
 use Rattle.log_record.specs.declared.rec.Rec.{Rec}
 use Rattle.log_record.specs.declared.rec.Rec.TheVariants.{Update, Commit, Short, Over, Note}
-use Rattle.log_record.specs.declared.limits.TheConstants.{MOST_BALANCE}
+use Rattle.lsn_space.specs.declared.opening.TheConstants.{MOST_BALANCE}
 use Rattle.lock_core.specs.Records.{ends}
 use Rattle.lock_core.specs.Transactions.{has_end, all_without_prev, in_order}
 use Rattle.lock_core.proofs.OneMore.{or_false-both_false}

@@ -2,7 +2,8 @@
 use Rattle.std.proofs.Common.{◌≡◌, ◌<◌, ◌≤◌, ◌⊎◌, ⊎_elim, inl, inr, ℕ, zero, suc, ◌+◌, ◌-◌, ◌*◌, true, false, true≢false, List, [], ◌∷◌, ◌++◌, length, refl, ap, ◌∙◌, sym, subst, arith}
 use Rattle.std.specs.Prelude.{IsTrue, ◌↔◌}
 use Rattle.std.specs.List.{AllByRecursion}
-use Rattle.log_record.specs.declared.limits.TheConstants.{MOST_LEGS, MOST_ACCOUNTS}
+use Rattle.lsn_space.specs.declared.opening.TheConstants.{MOST_ACCOUNTS}
+use Rattle.log_record.specs.declared.limits.TheConstants.{MOST_LEGS}
 use Rattle.log_record.specs.declared.rec.Rec.{Rec}
 use Rattle.log_record.specs.declared.rec.Placed.{Placed}
 use Rattle.log_record.specs.declared.rec.Rec.TheVariants.{Genesis, Update, Commit, Short, Over, Note}

@@ -2,7 +2,7 @@
 use Rattle.std.proofs.Common.{◌≢◌, ◌<◌, ◌≤◌, ◌+◌, ℕ, zero, suc, ◌∙◌, pos, negsuc, true≢false, inl, List, [], ◌∷◌, refl, sym, arith}
 use Rattle.log_record.specs.declared.rec.Placed.{Placed}
 use Rattle.log_record.specs.declared.rec.Rec.TheVariants.{Update, Commit}
-use Rattle.log_record.specs.declared.limits.TheConstants.{MOST_BALANCE}
+use Rattle.lsn_space.specs.declared.opening.TheConstants.{MOST_BALANCE}
 use Rattle.lsn_space.specs.Opening.{IsSnapshot}
 use Rattle.lock_core.specs.History.{history}
 use Rattle.lock_core.specs.Transactions.{ShareNoTransaction}

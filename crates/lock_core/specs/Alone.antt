@@ -4,7 +4,8 @@ use Rattle.std.specs.List.{AllByRecursion}
 use Rattle.log_record.specs.declared.rec.Rec.{Rec}
 use Rattle.log_record.specs.declared.rec.Rec.TheVariants.{Update, Commit, Short, Over, Note}
 use Rattle.log_record.specs.Spelling.{IsNoteText}
-use Rattle.log_record.specs.declared.limits.TheConstants.{MOST_BALANCE, MOST_LEGS}
+use Rattle.lsn_space.specs.declared.opening.TheConstants.{MOST_BALANCE}
+use Rattle.log_record.specs.declared.limits.TheConstants.{MOST_LEGS}
 
 -- a transfer: its legs in order, each the account that pays, the account that receives and the amount, and the bytes of its note,
 -- none where it has no note

@@ -3,7 +3,7 @@ use Rattle.std.specs.Prelude.{◌≡◌, ◌==◌, ℕ, ◌+◌, ◌≤◌, ◌<
 use Rattle.std.specs.List.{AllByRecursion}
 use Rattle.log_record.specs.declared.rec.Rec.{Rec}
 use Rattle.log_record.specs.declared.rec.Placed.{Placed}
-use Rattle.log_record.specs.declared.limits.TheConstants.{MOST_BALANCE}
+use Rattle.lsn_space.specs.declared.opening.TheConstants.{MOST_BALANCE}
 use Rattle.lock_core.specs.Transactions.{own_records_of, all_without_prev, in_order}
 use Rattle.lock_core.specs.Sums.{BaseState}
 use Rattle.lock_core.specs.Alone.{PlainTransfer, IsAllowedTransfer, Done, outcome_records}

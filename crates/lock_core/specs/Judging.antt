@@ -3,7 +3,7 @@ use Rattle.std.specs.Prelude.{◌≡◌, ◌<◌, ℕ, ◌+◌, ◌*◌, false, 
 use Rattle.std.specs.List.{AllByRecursion}
 use Rattle.lsn_space.specs.Accounts.{Accounts}
 use Rattle.log_record.specs.declared.rec.Placed.{Placed}
-use Rattle.log_record.specs.declared.limits.TheConstants.{MOST_ACCOUNTS}
+use Rattle.lsn_space.specs.declared.opening.TheConstants.{MOST_ACCOUNTS}
 use Rattle.lock_core.specs.declared.reason.Why.{Why}
 use Rattle.lock_core.specs.declared.update.Change.{Change}
 use Rattle.lock_core.specs.Transactions.{own_records_of, updates_of, has_end}

@@ -11,8 +11,7 @@ ghost use Rattle.lock_core.specs.Sums.{moved};
 ghost use Rattle.lock_core.specs.AccountRows.{row, IsBalanceAfter, LeavesRange, AppliesToAccount, AppliesChanges, AreRowsInRange, LeavesSome};
 
 use crate::update::Change;
-use log_record::MOST_BALANCE;
-use lsn_space::{Balances, Lsn};
+use lsn_space::{Balances, Lsn, MOST_BALANCE};
 
 /// What the change adds to the account.
 fn gain(change: &Change, account: u32) -> u32

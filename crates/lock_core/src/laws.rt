@@ -5,7 +5,7 @@ ghost use Rattle.std.specs.List.{AllByRecursion};
 ghost use Rattle.log_record.specs.declared.rec.Rec.{Rec};
 ghost use Rattle.log_record.specs.declared.rec.Placed.{Placed};
 ghost use Rattle.log_record.specs.LogList.{size_of, end_of};
-ghost use Rattle.log_record.specs.Spelling.{IsSpellable, IsBalance};
+ghost use Rattle.log_record.specs.Spelling.{IsSpellable};
 ghost use Rattle.lsn_space.specs.Opening.{IsSnapshot};
 ghost use Rattle.lock_core.specs.declared.job.Job.{Job};
 ghost use Rattle.lock_core.specs.declared.update.Change.{Change};

@@ -5,7 +5,7 @@ ghost use Rattle.log_record.specs.declared.rec.Rec.{Rec};
 ghost use Rattle.log_record.specs.declared.rec.Placed.{Placed};
 ghost use Rattle.log_record.specs.Spelling.{spelling, IsAccount, IsBalance, IsLeg, IsSpellable};
 ghost use Rattle.lsn_space.specs.declared.lsn.TheConstants.{LAST};
-ghost use Rattle.log_record.specs.declared.limits.TheConstants.{MOST_ACCOUNTS};
+ghost use Rattle.lsn_space.specs.declared.opening.TheConstants.{MOST_ACCOUNTS};
 ghost use Rattle.lsn_space.specs.Opening.{IsSnapshot};
 ghost use Rattle.lock_core.specs.Records.{txn_of, ends};
 ghost use Rattle.lock_core.specs.Transactions.{own_records_of, has_end, open_changes_of};
@@ -20,8 +20,8 @@ use crate::reason::{JudgeFault, Why};
 use crate::transactions::Transactions;
 use crate::update::{Change, MOST_UPDATES};
 use arrayvec::ArrayVec;
-use log_record::{MOST_ACCOUNTS, Rec};
-use lsn_space::{Balances, Lsn, NoMemory};
+use log_record::Rec;
+use lsn_space::{Balances, Lsn, MOST_ACCOUNTS, NoMemory};
 use std::alloc::Global;
 
 /// What a judge keeps of a lawful list: the accounts, whether there are Genesis records alone, the transactions, and the greatest

@@ -1,5 +1,5 @@
 -- What calls do to a disk, one call after another.
-use Rattle.std.proofs.Common.{◌≡◌, ◌≤◌, ◌∙◌, ℕ, ◌+◌, Result, subst, arith}
+use Rattle.std.proofs.Common.{◌≡◌, ◌∙◌, ℕ, ◌+◌, Result, subst, arith, ◌≤◌, Ok, sym, le_refl}
 use Rattle.log_disk.specs.Calls.{Uses}
 use Rattle.log_disk.specs.Faults.{HasCause}
 use Rattle.log_disk.specs.declared.disk.LogDisk.{Ghosts}
@@ -21,3 +21,7 @@ module _ {D T E : Type 0} (g : Ghosts D) (result : Result T E) where
     attached = behind.attached ∙ before.attached;
     cause = HasCause-same_before _ _ _ _ fine behind.cause;
   }
+
+-- where none was counted at all
+pub HasCause-ok : {T E : Type 0} (first now : ℕ) (value : T) → now ≡ first → HasCause {T = T} {E = E} first now (Ok value)
+HasCause-ok first now value same = record { later = subst (λ count. first ≤ count) (sym same) (le_refl first); fine = same; failed = tt }

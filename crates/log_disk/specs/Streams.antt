@@ -1,11 +1,15 @@
 -- What reads and writes do to allowances and to bytes.
-use Rattle.std.specs.Prelude.{◌≡◌, ◌<◌, ℕ, ◌-◌, List, length, ◌++◌, Option, Result, MatchResult, OnOk, OnErr, if◌then◌else◌, ◌==◌}
+use Rattle.std.specs.Prelude.{◌≡◌, ◌<◌, ℕ, ◌-◌, List, [], length, ◌++◌, Option, Some, Result, IfSome, MatchResult, OnOk, OnErr, if◌then◌else◌, ◌==◌}
 use Rattle.std.specs.Io.KnownBytes.{Appends}
 use Rattle.log_disk.specs.Faults.{HasCause}
 
 -- a read that gives bytes takes one from the allowance, and no other does
 abbrev pub SpendsAllowance : {E : Type 0} → ℕ → ℕ → Result ℕ E → Type 0
 SpendsAllowance before now result = MatchResult result (λ n. now ≡ (if n == 0 then before else before - 1)) (λ _. now ≡ before)
+
+-- what was read is all that was left
+abbrev pub ReadsAll : Option (List ℕ) → Option (List ℕ) → List ℕ → Type 0
+ReadsAll left left_new bytes = IfSome left (λ all. (bytes ≡ all) × (left_new ≡ Some []))
 
 -- known bytes grow by a prefix of these
 abbrev pub AppendsPrefix : Option (List ℕ) → Option (List ℕ) → List ℕ → Type 0

@@ -17,4 +17,4 @@ pub use numbers::fixed_numbers;
 pub use output_block::{BLOCK_BYTES, OutputBlock};
 pub use schedule_hook::{Gate, OpenGate, Place};
 pub use sink::{Sink, WriteFault, put_all};
-pub use source::{READ_ALLOWANCE, Source};
+pub use source::{READ_ALLOWANCE, ReadFault, Source};

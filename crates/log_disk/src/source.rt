@@ -1,5 +1,5 @@
 //! What bytes are read from.
-ghost use Rattle.std.specs.Prelude.{◌≡◌, ◌<◌, ℕ, List, Option, length, IsErr, OnOk};
+ghost use Rattle.std.specs.Prelude.{◌≡◌, ◌<◌, ℕ, List, Option, length, IsErr};
 ghost use Rattle.std.specs.Io.{ReadsAtMost};
 ghost use Rattle.std.specs.Io.KnownBytes.{ReadConsumes};
 ghost use Rattle.log_disk.specs.Faults.{HasCause};
@@ -9,6 +9,15 @@ use crate::Failed;
 
 /// How many reads of a source may give bytes, from its making on.
 pub const READ_ALLOWANCE: u64 = 1 << 32;
+
+/// Why a source was not read on.
+#[derive(Clone, Copy, Debug, PartialEq, Eq)]
+pub enum ReadFault {
+    /// A read failed.
+    Failed,
+
+    NoMemory,
+}
 
 /// What bytes are read from.
 pub trait Source {

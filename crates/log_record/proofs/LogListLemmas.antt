@@ -101,3 +101,9 @@ pub end_of-prefix_to-boundary : (records : List Rec) (lsn : ℕ) → IsBoundary 
 end_of-prefix_to-boundary records lsn is =
     let found = boundary_is_front records lsn is in
     ap₂ (λ rs n. end_of (prefix_to rs n)) found.2 found.3 ∙ end_of-prefix_to-front found.0 found.1 ∙ sym found.3
+
+pub units_of-append : (xs ys : List Rec) → units_of (xs ++ ys) ≡ units_of xs ++ units_of ys
+units_of-append xs ys = flat_map-append spelling xs ys
+
+pub end_of-append : (xs ys : List Rec) → end_of (xs ++ ys) ≡ end_of xs + end_of ys
+end_of-append xs ys = ap length (units_of-append xs ys) ∙ length-append (units_of xs) (units_of ys)

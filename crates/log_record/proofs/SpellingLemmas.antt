@@ -1,15 +1,15 @@
 -- Each record has one spelling, and no spelling is a front of another.
-use Rattle.std.proofs.Common.{rules, ◌≡◌, ◌∙◌, ◌+◌, ◌*◌, ◌^◌, ℕ, ℤ, List, [], ◌∷◌, ◌++◌, length, take, drop, All, refl, sym, ap, ap₂, arith, length-append}
+use Rattle.std.proofs.Common.{rules, ◌≡◌, ◌∙◌, ◌+◌, ◌*◌, ◌^◌, ℕ, ℤ, List, [], ◌∷◌, ◌++◌, length, take, drop, All, refl, sym, ap, ap₂, arith, length-append, ◌<◌, ◌≤◌, length-drop}
 use Rattle.std.specs.Int.{w32, cast_unsigned, cast_signed}
 use Rattle.std.specs.List.{flat_map}
 use Rattle.std.proofs.lemmas.Int.{to_z-of_z}
-use Rattle.std.proofs.lemmas.List.Elements.{All-drop}
+use Rattle.std.proofs.lemmas.List.Elements.{All-drop, All-from_recursion}
 use Rattle.std.proofs.Math.Seq.{take-append_seam, drop-append_seam}
 use Rattle.lsn_space.specs.Unit.{unit_bytes}
 use Rattle.log_record.specs.declared.rec.Rec.{Rec}
 use Rattle.log_record.specs.declared.rec.Rec.TheVariants.{Genesis, Update, Commit, Short, Over, Note}
-use Rattle.log_record.specs.LogList.{units_of}
-use Rattle.log_record.specs.Spelling.{spelling, text_units, IsDelta, IsNoteText, IsSpellable}
+use Rattle.log_record.specs.LogList.{units_of, size_of, AreUnitsOf}
+use Rattle.log_record.specs.Spelling.{spelling, text_units, IsDelta, IsNoteText, IsSpellable, BeginsWith}
 use Rattle.log_record.proofs.Fronts.{parts_of, parts_of-fit, front_header-kind_and_length, first_unit, spelling-parts_of, header-injective}
 use Rattle.log_record.proofs.TextLemmas.{unit_bytes-text_and_zeros}
 
@@ -79,3 +79,27 @@ units_of-injective (r ∷ L) [] l_ok m_ok same =
 units_of-injective (r ∷ L) (s ∷ M) l_ok m_ok same =
     let split = spelling-append-injective r s (units_of L) (units_of M) (l_ok 0 r (omega arith)) (m_ok 0 s (omega arith)) same in
     ap₂ (λ t N. t ∷ N) split.0 (units_of-injective L M (All-drop IsSpellable 1 (r ∷ L) l_ok) (All-drop IsSpellable 1 (s ∷ M) m_ok) split.1)
+
+-- a record has a unit
+pub size_of-positive : (rec : Rec) → 0 < size_of rec
+size_of-positive (Genesis account balance) = omega arith
+size_of-positive (Update txn account delta prev) = omega arith
+size_of-positive (Commit txn legs) = omega arith
+size_of-positive (Short txn leg) = omega arith
+size_of-positive (Over txn leg) = omega arith
+size_of-positive (Note txn text) = omega arith
+
+pub begins_with-size_of_le : (units : List ℕ) (rec : Rec) → BeginsWith units rec → size_of rec ≤ length units
+begins_with-size_of_le units rec begins = omega (arith, ap length begins.2, length-append (spelling rec) begins.1)
+
+-- the record ends within the units
+pub record_end-within_units : (units : List ℕ) (at : ℕ) (rec : Rec) → at ≤ length units → BeginsWith (drop at units) rec
+    → at + size_of rec ≤ length units
+record_end-within_units units at rec within begins =
+    omega (arith, within, begins_with-size_of_le _ rec begins, length-drop at units)
+
+-- units are those of one list
+pub AreUnitsOf-injective : (units : List ℕ) (xs ys : List Rec) → AreUnitsOf units xs → AreUnitsOf units ys → xs ≡ ys
+AreUnitsOf-injective units xs ys first second =
+    units_of-injective xs ys (All-from_recursion IsSpellable xs first.spellable) (All-from_recursion IsSpellable ys second.spellable)
+    (sym first.units_are ∙ second.units_are)

@@ -3,7 +3,8 @@ use Rattle.std.specs.Prelude.{◌≡◌, ◌≢◌, ℕ, zero, suc, ◌+◌, ◌
 use Rattle.std.specs.Int.{w32, cast_unsigned}
 use Rattle.lsn_space.specs.declared.lsn.TheConstants.{LAST}
 use Rattle.lsn_space.specs.Unit.{unit_value}
-use Rattle.log_record.specs.declared.limits.TheConstants.{MOST_ACCOUNTS, MOST_BALANCE, MOST_LEGS, LAST_TXN}
+use Rattle.lsn_space.specs.declared.opening.TheConstants.{MOST_ACCOUNTS, MOST_BALANCE}
+use Rattle.log_record.specs.declared.limits.TheConstants.{MOST_LEGS, LAST_TXN}
 use Rattle.log_record.specs.declared.rec.Rec.{Rec}
 use Rattle.log_record.specs.declared.text.TheConstants.{LONGEST_NOTE}
 use Rattle.log_record.specs.declared.rec.Rec.TheVariants.{Genesis, Update, Commit, Short, Over, Note}

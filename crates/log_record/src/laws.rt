@@ -2,7 +2,7 @@
 
 ghost use Rattle.std.specs.Prelude.{◌≡◌, ◌<◌, ◌≤◌, ◌^◌, ◌-◌, ◌++◌, ◌↔◌, ℕ, List, length, All};
 ghost use Rattle.lsn_space.specs.Tiling.{IsTiling};
-ghost use Rattle.log_record.specs.declared.limits.TheConstants.{LAST_TXN, MOST_ACCOUNTS, MOST_BALANCE, MOST_LEGS};
+ghost use Rattle.log_record.specs.declared.limits.TheConstants.{LAST_TXN, MOST_LEGS};
 ghost use Rattle.log_record.specs.declared.rec.Rec.{Rec};
 ghost use Rattle.log_record.specs.declared.text.TheConstants.{LONGEST_NOTE};
 ghost use Rattle.log_record.specs.declared.units.TheConstants.{LONGEST_RECORD};
@@ -42,8 +42,6 @@ pub fn log_list_laws()
 
 /// A law: the limits that the definitions take from the code are the format's.
 pub fn format_limits()
-    ensures accounts { MOST_ACCOUNTS ≡ 4096 }
-    ensures balance { MOST_BALANCE ≡ 2147483647 }
     ensures txn { LAST_TXN ≡ 4294967295 }
     ensures legs { MOST_LEGS ≡ 8 }
     ensures note { LONGEST_NOTE ≡ 200 }

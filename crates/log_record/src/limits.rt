@@ -1,10 +1,4 @@
-//! The limits of the format.
-
-/// The most accounts of a log, so an account is below this.
-pub const MOST_ACCOUNTS: u32 = 4096;
-
-/// The greatest balance of an account, and the most that a transfer moves in one leg.
-pub const MOST_BALANCE: u32 = 2147483647;
+//! The limits of transactions in the format.
 
 /// The most legs of a transaction.
 pub const MOST_LEGS: u16 = 8;

@@ -7,11 +7,11 @@ ghost use Rattle.log_record.specs.declared.header.TheConstants.{COMMIT, GENESIS,
 ghost use Rattle.log_record.specs.Reading.{header_unit, Reads};
 
 use crate::header::{COMMIT, GENESIS, Header, NOTE, OVER, SHORT, UPDATE};
-use crate::limits::{MOST_ACCOUNTS, MOST_BALANCE, MOST_LEGS};
+use crate::limits::MOST_LEGS;
 use crate::note::{note_units, read_text};
 use crate::rec::{BadRec, Rec};
 use crate::text::LONGEST_NOTE;
-use lsn_space::Lsn;
+use lsn_space::{Lsn, MOST_ACCOUNTS, MOST_BALANCE};
 
 /// The record that the units begin with, and of how many units it is.
 pub fn read(units: &[u64]) -> Result<(Rec, usize), BadRec>

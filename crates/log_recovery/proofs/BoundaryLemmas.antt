@@ -1,16 +1,15 @@
 -- How a boundary of a list is sought, record by record.
 use Rattle.std.proofs.Common.{◌≡◌, ◌<◌, ◌≤◌, ◌⊎◌, inl, inr, ℕ, ◌+◌, List, [], ◌∷◌, ◌++◌, length, drop, refl, ap, ◌∙◌, sym, subst, arith, length-append, append_assoc, append-nil}
 use Rattle.std.specs.List.{AllByRecursion}
-use Rattle.std.proofs.lemmas.List.Elements.{All-from_recursion}
+use Rattle.std.proofs.Math.Seq.{drop-append_seam}
 use Rattle.log_record.specs.declared.rec.Rec.{Rec}
 use Rattle.log_record.specs.LogList.{AreUnitsOf, units_of, end_of, size_of, IsBoundary}
 use Rattle.log_record.specs.Spelling.{spelling, IsSpellable, BeginsWith}
-use Rattle.log_record.proofs.LogListLemmas.{end_of-cons, boundary_is_front, front_is_boundary}
-use Rattle.log_record.proofs.SpellingLemmas.{spelling-append-injective, units_of-injective}
+use Rattle.log_record.proofs.LogListLemmas.{end_of-cons, boundary_is_front, front_is_boundary, units_of-append}
+use Rattle.log_record.proofs.SpellingLemmas.{spelling-append-injective, AreUnitsOf-injective}
 use Rattle.lock_core.proofs.ListLemmas.{all-split}
 use Rattle.log_recovery.specs.Boundaries.{GoesOnAt}
 use Rattle.log_recovery.proofs.AnswerLemmas.{spelling_append-not_none}
-use Rattle.log_recovery.proofs.ListingLemmas.{units_of-append}
 
 -- a front of a list ends no later than a record in it starts, or no sooner than it ends
 front-beside : (done : List Rec) (rec : Rec) (rest f g : List Rec) → done ++ rec ∷ rest ≡ f ++ g
@@ -35,10 +34,6 @@ pub record Seeks (begin : ℕ) (units rest : List ℕ) (at lsn : ℕ) : Type 0 w
   pub place : at ≡ begin + end_of done
   pub below : (f g : List Rec) → done ++ more ≡ f ++ g → end_of f < end_of done → begin + end_of f < lsn
 
-drop-front : (xs ys : List ℕ) → drop (length xs) (xs ++ ys) ≡ ys
-drop-front [] ys = refl
-drop-front (x ∷ xs) ys = drop-front xs ys
-
 -- from the list's beginning on, or from a boundary that isn't behind what is sought
 pub seeks-from_boundary : (begin : ℕ) (units : List ℕ) (known lsn : ℕ) (records : List Rec) → AreUnitsOf units records → (passed : ℕ) → known ≡ begin + passed
     → IsBoundary records passed → (known ≡ begin) ⊎ (known ≤ lsn) → Seeks begin units (drop passed units) known lsn
@@ -48,7 +43,7 @@ seeks-from_boundary begin units known lsn records list passed place is below =
       done = found.0;
       more = found.1;
       list = subst (AreUnitsOf units) found.2 list;
-      left = ap (λ n. drop n units) found.3 ∙ ap (drop (end_of found.0)) parts ∙ drop-front (units_of found.0) (units_of found.1);
+      left = ap (λ n. drop n units) found.3 ∙ ap (drop (end_of found.0)) parts ∙ drop-append_seam (units_of found.0) (units_of found.1);
       place = omega (arith, place, found.3);
       below = λ f g whole less. elim below [
         | inl first ↦ absurd (omega (arith, first, place, found.3, less))
@@ -66,10 +61,6 @@ boundary-within units records passed list is =
 -- a list begins at a boundary
 pub begins-at-boundary : (records : List Rec) → IsBoundary records 0
 begins-at-boundary records = front_is_boundary records 0 ([], records, refl, refl)
-
-one-list : (units : List ℕ) (xs ys : List Rec) → AreUnitsOf units xs → AreUnitsOf units ys → xs ≡ ys
-one-list units xs ys first second =
-    units_of-injective xs ys (All-from_recursion IsSpellable xs first.spellable) (All-from_recursion IsSpellable ys second.spellable) (sym first.units_are ∙ second.units_are)
 
 module _ (begin : ℕ) (units rest : List ℕ) (at lsn : ℕ) (seeks : Seeks begin units rest at lsn) where
   left-length : end_of seeks.done + length rest ≡ length units
@@ -94,7 +85,7 @@ module _ (begin : ℕ) (units rest : List ℕ) (at lsn : ℕ) (seeks : Seeks beg
   pub seeks_beyond-no_boundary : lsn < at → (records : List Rec) → AreUnitsOf units records → (there : ℕ) → lsn ≡ begin + there → IsBoundary records there → ⊥
   seeks_beyond-no_boundary beyond records list there place is =
       let found = boundary_is_front records there is in
-      let whole = one-list units (seeks.done ++ seeks.more) records seeks.list list ∙ found.2 in
+      let whole = AreUnitsOf-injective units (seeks.done ++ seeks.more) records seeks.list list ∙ found.2 in
       let below = seeks.below found.0 found.1 whole (omega (arith, place, found.3, seeks.place, beyond)) in
       omega (arith, below, place, found.3)
 
@@ -105,7 +96,7 @@ module _ (begin : ℕ) (units rest : List ℕ) (at lsn : ℕ) (seeks : Seeks beg
       let found = boundary_is_front records there is in
       let done : seeks.done ≡ found.0 ++ found.1 =
       sym (append-nil seeks.done) ∙ ap (λ l. seeks.done ++ l) (sym (ended seeks.more refl none))
-      ∙ one-list units (seeks.done ++ seeks.more) records seeks.list list ∙ found.2 in
+      ∙ AreUnitsOf-injective units (seeks.done ++ seeks.more) records seeks.list list ∙ found.2 in
       let longer = ap end_of done ∙ ap length (units_of-append found.0 found.1) ∙ length-append (units_of found.0) (units_of found.1) in
       omega (arith, longer, place, found.3, seeks.place, before)
 
@@ -114,7 +105,7 @@ module _ (begin : ℕ) (units rest : List ℕ) (at lsn : ℕ) (seeks : Seeks beg
   seeks_found-goes_on_at here records list = record {
     front = seeks.done;
     later = seeks.more;
-    whole = sym (one-list units (seeks.done ++ seeks.more) records seeks.list list);
+    whole = sym (AreUnitsOf-injective units (seeks.done ++ seeks.more) records seeks.list list);
     place = sym here ∙ seeks.place;
     units = seeks.left;
   }
@@ -151,7 +142,7 @@ module _ (begin : ℕ) (units rest : List ℕ) (at lsn : ℕ) (seeks : Seeks beg
       done = seeks.done ++ rec ∷ [];
       more = later;
       list = subst (AreUnitsOf units) whole seeks.list;
-      left = dropped ∙ ap (drop (length (spelling rec))) begun.2 ∙ drop-front (spelling rec) begun.1 ∙ (parted seeks.more refl).2;
+      left = dropped ∙ ap (drop (length (spelling rec))) begun.2 ∙ drop-append_seam (spelling rec) begun.1 ∙ (parted seeks.more refl).2;
       place = omega (arith, on, seeks.place, longer);
       below = passed;
     }

@@ -2,21 +2,21 @@
 use Rattle.std.proofs.Common.{◌≡◌, ◌<◌, ◌≤◌, ℕ, ◌+◌, List, [], ◌∷◌, ◌++◌, length, drop, Option, refl, ap, ◌∙◌, sym, subst, arith, length-append, length-drop, append_assoc}
 use Rattle.std.specs.List.{AllByRecursion}
 use Rattle.std.proofs.lemmas.List.{append-nil}
-use Rattle.std.proofs.lemmas.List.Elements.{All-from_recursion}
+use Rattle.std.proofs.Math.Seq.{drop-append_seam}
 use Rattle.log_disk.specs.Streams.{AppendsPart, AppendsBut}
 use Rattle.log_disk.proofs.Blocks.{AppendsBut-trans, AppendsBut-trans_part_of_piece, AppendsPart-append}
 use Rattle.log_record.specs.declared.rec.Rec.{Rec}
-use Rattle.log_record.specs.declared.rec.Rec.TheVariants.{Genesis, Update, Commit, Short, Over, Note}
 use Rattle.log_record.specs.LogList.{AreUnitsOf, units_of, end_of, size_of}
 use Rattle.log_record.specs.Spelling.{spelling, IsSpellable, BeginsWith}
-use Rattle.log_record.proofs.SpellingLemmas.{spelling-append-injective, units_of-injective}
+use Rattle.log_record.proofs.SpellingLemmas.{spelling-append-injective, size_of-positive, AreUnitsOf-injective}
+use Rattle.log_record.proofs.LogListLemmas.{units_of-append}
 use Rattle.lock_core.proofs.ListLemmas.{all-split}
 use Rattle.lsn_space.specs.Opening.{Opening}
 use Rattle.log_recovery.specs.Dump.{record_line, record_lines, opening_lines, dump_text}
 use Rattle.log_recovery.specs.ListedRecords.{IsFront}
 use Rattle.log_recovery.specs.Text.{lsn_line}
 use Rattle.log_recovery.proofs.AnswerLemmas.{spelling_append-not_none}
-use Rattle.log_recovery.proofs.ListingLemmas.{front_and_rest-length, units_of-append}
+use Rattle.log_recovery.proofs.ListingLemmas.{front_and_rest-length}
 
 record_lines-append : (at : ℕ) (xs ys : List Rec) → record_lines at (xs ++ ys) ≡ record_lines at xs ++ record_lines (at + end_of xs) ys
 record_lines-append at [] ys = let same : at ≡ at + 0 = omega arith in ap (λ n. record_lines n ys) same
@@ -26,22 +26,10 @@ record_lines-append at (rec ∷ xs) ys =
     ap (λ lines. record_line at rec ++ lines) (record_lines-append (at + size_of rec) xs ys ∙ ap (λ n. record_lines (at + size_of rec) xs ++ record_lines n ys) place)
     ∙ sym (append_assoc (record_line at rec) (record_lines (at + size_of rec) xs) (record_lines (at + end_of (rec ∷ xs)) ys))
 
-one-list_of : (units : List ℕ) (xs ys : List Rec) → AreUnitsOf units xs → AreUnitsOf units ys → xs ≡ ys
-one-list_of units xs ys first second =
-    units_of-injective xs ys (All-from_recursion IsSpellable xs first.spellable) (All-from_recursion IsSpellable ys second.spellable) (sym first.units_are ∙ second.units_are)
-
-some-units : (rec : Rec) → 0 < length (spelling rec)
-some-units (Genesis account balance) = omega arith
-some-units (Update txn account delta prev) = omega arith
-some-units (Commit txn legs) = omega arith
-some-units (Short txn leg) = omega arith
-some-units (Over txn leg) = omega arith
-some-units (Note txn text) = omega arith
-
 -- what is behind a record is shorter
 pub drop_spelling-shorter : (rest after : List ℕ) (rec : Rec) → (length rest ≡ 0 → ⊥) → after ≡ drop (length (spelling rec)) rest → length after < length rest
 drop_spelling-shorter rest after rec some behind =
-    let less = ap length behind ∙ length-drop (length (spelling rec)) rest in let units = some-units rec in omega (arith, some)
+    let less = ap length behind ∙ length-drop (length (spelling rec)) rest in let units = size_of-positive rec in omega (arith, some)
 
 -- the lines before these records, and theirs
 abbrev lines_to : Opening → List Rec → List ℕ
@@ -125,14 +113,10 @@ module _ (opening : Opening) (units rest waiting : List ℕ) (old mid : Option (
       done = before.done ++ rec ∷ [];
       more = parts.1;
       list = subst (AreUnitsOf units) (ap (λ l. before.done ++ l) more-is ∙ sym (append_assoc before.done (rec ∷ []) parts.1)) before.list;
-      left = dropped ∙ ap (drop (length (spelling rec))) begun.2 ∙ drop-front (spelling rec) begun.1 ∙ same.1;
+      left = dropped ∙ ap (drop (length (spelling rec))) begun.2 ∙ drop-append_seam (spelling rec) begun.1 ∙ same.1;
       written = subst (λ bytes. AppendsBut old new bytes waiting') (sym lines-more)
           (AppendsBut-trans old mid new _ waiting before.written (record_line start rec) waiting' line);
     }
-      where
-        drop-front : (xs ys : List ℕ) → drop (length xs) (xs ++ ys) ≡ ys
-        drop-front [] ys = refl
-        drop-front (x ∷ xs) ys = drop-front xs ys
 
     whole-text : dump_text (record { opening = opening; records = before.done ++ before.more })
         ≡ (lines_to opening before.done ++ record_line start rec)
@@ -151,7 +135,7 @@ module _ (opening : Opening) (units rest waiting : List ℕ) (old mid : Option (
     pub record_line_cut-dump_part : (new : Option (List ℕ)) (records : List Rec) → AreUnitsOf units records → AppendsPart mid new (waiting ++ record_line start rec)
         → AppendsPart old new (dump_text (record { opening = opening; records = records }))
     record_line_cut-dump_part new records list cut =
-        subst (λ l. AppendsPart old new (dump_text (record { opening = opening; records = l }))) (one-list_of units (before.done ++ before.more) records before.list list)
+        subst (λ l. AppendsPart old new (dump_text (record { opening = opening; records = l }))) (AreUnitsOf-injective units (before.done ++ before.more) records before.list list)
         (AppendsPart-append old new _ _ _ (AppendsBut-trans_part_of_piece old mid new _ waiting before.written (record_line start rec) cut) whole-text)
 
   -- the whole is written
@@ -162,7 +146,7 @@ module _ (opening : Opening) (units rest waiting : List ℕ) (old mid : Option (
 
     done-is : before.done ≡ records
     done-is = sym (append-nil before.done) ∙ ap (λ l. before.done ++ l) (sym (none-left before.more refl))
-        ∙ one-list_of units (before.done ++ before.more) records before.list list
+        ∙ AreUnitsOf-injective units (before.done ++ before.more) records before.list list
 
     whole : (lsn : ℕ) → lsn ≡ opening.lsn + end_of records → dump_text (record { opening = opening; records = records }) ≡ lines_to opening before.done ++ lsn_line lsn
     whole lsn end = ap (λ l. lines_to opening l ++ lsn_line (opening.lsn + end_of records)) (sym done-is)

@@ -2,17 +2,15 @@
 use Rattle.std.proofs.Common.{◌≡◌, ◌<◌, ℕ, ◌+◌, List, [], ◌∷◌, ◌++◌, length, drop, refl, ap, ◌∙◌, sym, arith, length-append, append_assoc}
 use Rattle.std.specs.List.{AllByRecursion}
 use Rattle.std.proofs.lemmas.List.{append-nil}
+use Rattle.std.proofs.Math.Seq.{drop-append_seam}
 use Rattle.log_record.specs.declared.rec.Rec.{Rec}
 use Rattle.log_record.specs.declared.rec.Placed.{Placed}
 use Rattle.log_record.specs.LogList.{units_of, end_of}
 use Rattle.log_record.specs.Spelling.{spelling, IsSpellable, BeginsWith}
+use Rattle.log_record.proofs.LogListLemmas.{units_of-append}
 use Rattle.lock_core.specs.History.{end_from, entry_at, history_from}
+use Rattle.lsn_space.proofs.TilingLemmas.{all-append}
 use Rattle.log_recovery.specs.ListedRecords.{IsFront, IsBadRecAt}
-use Rattle.lock_core.proofs.ListLemmas.{all-append}
-
-pub units_of-append : (xs ys : List Rec) → units_of (xs ++ ys) ≡ units_of xs ++ units_of ys
-units_of-append [] ys = refl
-units_of-append (rec ∷ xs) ys = ap (λ units. spelling rec ++ units) (units_of-append xs ys) ∙ sym (append_assoc (spelling rec) (units_of xs) (units_of ys))
 
 pub end_from-history : (start : ℕ) (h : List Placed) (records : List Rec) → end_from start (history_from start h records) ≡ end_from start h + end_of records
 end_from-history start h [] = omega arith
@@ -29,17 +27,13 @@ pub front_records-push : (units : List ℕ) (records : List Rec) (rest after : L
     → BeginsWith rest rec → after ≡ drop (length (spelling rec)) rest → AllByRecursion IsSpellable (records ++ rec ∷ []) × (units ≡ units_of (records ++ rec ∷ []) ++ after)
 front_records-push units records rest after rec each before begins dropped =
     let behind : List ℕ = begins.1 in
-    let is : after ≡ behind = dropped ∙ ap (drop (length (spelling rec))) begins.2 ∙ drop-front (spelling rec) behind in (
+    let is : after ≡ behind = dropped ∙ ap (drop (length (spelling rec))) begins.2 ∙ drop-append_seam (spelling rec) behind in (
       all-append IsSpellable records (rec ∷ []) each (begins.0, tt),
       before ∙ ap (λ l. units_of records ++ l) (begins.2 ∙ ap (λ l. spelling rec ++ l) (sym is))
           ∙ sym (append_assoc (units_of records) (spelling rec) after)
           ∙ ap (λ l. units_of records ++ l ++ after) (sym (append-nil (spelling rec)))
           ∙ ap (λ l. l ++ after) (sym (units_of-append records (rec ∷ []))),
     )
-  where
-    drop-front : (xs ys : List ℕ) → drop (length xs) (xs ++ ys) ≡ ys
-    drop-front [] ys = refl
-    drop-front (x ∷ xs) ys = drop-front xs ys
 
 -- the end of the records before a rest
 pub front_and_rest-length : (units : List ℕ) (records : List Rec) (rest : List ℕ) → units ≡ units_of records ++ rest → end_of records + length rest ≡ length units

@@ -8,12 +8,13 @@ use mathlib.Core.Logic.{dite}
 use native.Mathlib.Decide.{dec_lt}
 use Rattle.lsn_space.specs.Opening.{Opening as Snapshot, IsRow, IsSnapshot}
 use Rattle.lsn_space.specs.declared.lsn.TheConstants.{LAST}
-use Rattle.log_record.specs.declared.limits.TheConstants.{MOST_ACCOUNTS}
+use Rattle.lsn_space.specs.declared.opening.TheConstants.{MOST_ACCOUNTS}
 use Rattle.log_record.specs.declared.rec.Placed.{Placed}
 use Rattle.log_record.specs.declared.rec.Rec.{Rec}
 use Rattle.log_record.specs.declared.rec.Rec.TheVariants.{Genesis, Update, Commit, Short, Over, Note}
 use Rattle.log_record.specs.LogList.{units_of, end_of}
 use Rattle.log_record.specs.Spelling.{spelling, IsSpellable, IsBalance}
+use Rattle.log_record.proofs.LogListLemmas.{units_of-append}
 use Rattle.lock_core.specs.History.{end_from, entry_at, history_from}
 use Rattle.lock_core.specs.Lawful.{IsLawful, base_with, with_genesis}
 use Rattle.lock_core.specs.Records.{commits, txn_of}
@@ -27,10 +28,10 @@ use Rattle.lock_core.proofs.Ranging.{is_balance-equals_balance_of, lawful-in_ran
 use Rattle.lock_core.proofs.SoundLemmas.{base_state_of-past_accounts_same}
 use Rattle.lock_core.proofs.TakingLemmas.{accounts-some, empty_or_snapshot-few_accounts, empty_or_snapshot-rows_in_range}
 use Rattle.segment_file.specs.File.{joined}
-use Rattle.segment_file.specs.Log.{IsFront, first_format, second_format, HoldsLog}
+use Rattle.segment_file.specs.Log.{IsFront, first_format, second_format, HoldsLog, with_units}
 use Rattle.log_recovery.specs.Opened.{OpenedList, log_of, list_end, placed, with_records, opening_before, base_in, base_left}
 use Rattle.log_recovery.specs.Recovery.{HoldsLawful}
-use Rattle.log_recovery.proofs.ListingLemmas.{units_of-append, end_from-history}
+use Rattle.log_recovery.proofs.ListingLemmas.{end_from-history}
 use Rattle.log_recovery.proofs.RecoveryLemmas.{log_opening-none_or_snapshot}
 
 -- ---- where it ends
@@ -239,3 +240,7 @@ state_with-base_left list end rows lawful ends shows = λ i. record {
         (λ below. ap (λ (r : ℕ × ℕ). r.1) (shown account below))
         (λ past. ap (λ (r : ℕ × ℕ). r.1) (rows-past account (omega arith) ∙ sym (before-past account (omega arith)))
         ∙ sym (base_state_of-past_accounts_same (opening_before list) (placed list) account lawful (omega arith)).1)
+
+pub log_of-with_records : (list : OpenedList) (records : List Rec)
+    → with_units (log_of list) (units_of records) ≡ log_of (with_records list records)
+log_of-with_records list records = λ i. record { opening = list.opening; units = sym (units_of-append list.records records) i }

@@ -1,5 +1,5 @@
 -- Puts, one behind another.
-use Rattle.std.proofs.Common.{◌≡◌, ◌≤◌, ℕ, List, [], ◌++◌, Result, Ok, Err, OnOk, OnErr, refl, sym, subst, append_assoc, le_refl}
+use Rattle.std.proofs.Common.{◌≡◌, ℕ, List, [], ◌++◌, Result, Ok, Err, OnOk, OnErr, refl, sym, subst, append_assoc}
 use Rattle.std.proofs.lemmas.List.{append-nil}
 use Rattle.std.proofs.lemmas.Result.{on_ok_weaker, on_err_weaker}
 use Rattle.log_disk.specs.Faults.{HasCause}
@@ -7,14 +7,7 @@ use Rattle.log_disk.specs.Streams.{AppendsPart, AppendsBut}
 use Rattle.log_disk.specs.declared.sink.Sink.{Ghosts}
 use Rattle.log_disk.proofs.Blocks.{AppendsBut-none, AppendsBut-trans, AppendsBut-trans_part_of_piece, AppendsPart-append}
 use Rattle.log_disk.specs.Blocks.{PutsPiece}
-
--- where no fault was counted until then
-pub HasCause-same_before : {T E : Type 0} (first before now : ℕ) (result : Result T E) → before ≡ first → HasCause before now result → HasCause first now result
-HasCause-same_before first before now result same cause = subst (λ count. HasCause count now result) same cause
-
--- where none was counted at all
-pub HasCause-ok : {T E : Type 0} (first now : ℕ) (value : T) → now ≡ first → HasCause {T = T} {E = E} first now (Ok value)
-HasCause-ok first now value same = record { later = subst (λ count. first ≤ count) (sym same) (le_refl first); fine = same; failed = tt }
+use Rattle.log_disk.proofs.Uses.{HasCause-ok, HasCause-same_before}
 
 module _ {K : Type 0} (g : Ghosts K) where
   -- nothing is put

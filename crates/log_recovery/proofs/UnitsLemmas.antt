@@ -6,7 +6,9 @@ use Rattle.log_record.specs.declared.rec.Rec.{Rec}
 use Rattle.log_record.specs.declared.rec.Placed.{Placed}
 use Rattle.log_record.specs.LogList.{AreUnitsOf, units_of}
 use Rattle.log_record.specs.Spelling.{spelling, IsSpellable, BeginsWith}
+use Rattle.log_record.proofs.LogListLemmas.{units_of-append}
 use Rattle.lsn_space.specs.Opening.{Opening}
+use Rattle.lsn_space.proofs.TilingLemmas.{all-append}
 use Rattle.lock_core.specs.AccountRows.{opening_of}
 use Rattle.lock_core.specs.declared.reason.Why.{Why}
 use Rattle.lock_core.specs.History.{end_from, entry_at, history_from}
@@ -16,8 +18,7 @@ use Rattle.lock_core.specs.Sums as sums
 use Rattle.lock_core.proofs.Fronts.{history_from-append, history_from-extends}
 use Rattle.log_recovery.specs.ListedRecords.{IsFront, IsRecords}
 use Rattle.log_recovery.specs.JudgedUnits.{HasTakenFront, HasTakenUnits, FailsBefore}
-use Rattle.lock_core.proofs.ListLemmas.{all-append}
-use Rattle.log_recovery.proofs.ListingLemmas.{units_of-append, end_from-history, front_records-push, front_and_rest-length}
+use Rattle.log_recovery.proofs.ListingLemmas.{end_from-history, front_records-push, front_and_rest-length}
 
 pub IsFront-step : (units rest after : List ℕ) (rec : Rec) → IsFront units rest → BeginsWith rest rec → after ≡ drop (length (spelling rec)) rest → IsFront units after
 IsFront-step units rest after rec front begins dropped =

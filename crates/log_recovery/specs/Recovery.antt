@@ -1,10 +1,11 @@
 -- What the bytes of a log say, and what is wrong with bytes that hold no lawful list.
-use Rattle.std.specs.Prelude.{◌≡◌, ◌≤◌, ℕ, ◌+◌, ◌^◌, List, Result, IfOk, IfErr}
+use Rattle.std.specs.Prelude.{◌≡◌, ◌≤◌, ℕ, ◌+◌, ◌^◌, List, Option, Result, IfOk, IfErr}
 use Rattle.std.specs.List.{AllByRecursion}
 use Rattle.log_record.specs.declared.rec.Rec.{Rec}
 use Rattle.log_record.specs.declared.rec.Placed.{Placed}
 use Rattle.log_record.specs.Spelling.{IsSpellable}
 use Rattle.log_record.specs.LogList.{AreUnitsOf}
+use Rattle.log_disk.specs.Streams.{ReadsAll}
 use Rattle.segment_file.specs.File.{BeginsAsLog}
 use Rattle.segment_file.specs.Log.{Log, HoldsLog, IsBadSnapshot, IsBadBatch}
 use Rattle.segment_file.specs.StandingLog.{LogStandsAt}
@@ -57,6 +58,10 @@ IsFaultOf bytes (fault.BadRec lsn) = (log : Log) × HoldsLog bytes log × IsBadR
 IsFaultOf bytes (fault.Unlawful lsn why) =
     (list : OpenedList) × HoldsList bytes list × IsUnlawfulAt (opening_of list.opening) (placed list) lsn why
 IsFaultOf bytes fault.NoMemory = Unit {0}
+
+-- a source was read to its end, and has this fault of a log
+abbrev pub HasSourceFault : Option (List ℕ) → Option (List ℕ) → RecoverFault → Type 0
+HasSourceFault left left_new fault' = (bytes : List ℕ) × ReadsAll left left_new bytes × IsFaultOf bytes fault'
 
 -- what `recover` answers of the bytes: what they hold, with a number that has room in 33 bits, or why nothing is recovered
 pub record TellsRecovered (bytes : List ℕ) (result : Result Recovered RecoverFault) : Type 0 where

@@ -77,7 +77,7 @@ sees-same start tail exposed durable log old now s is-tail is-exposed is-durable
 }
 
 -- records that are Notes at most commit nothing
-only_note-uncommitted : (entries : List Placed) → AllByRecursion (λ (entry : Placed). IsNote entry.rec) entries → has_commit (recs_of entries) ≡ false
+pub only_note-uncommitted : (entries : List Placed) → AllByRecursion (λ (entry : Placed). IsNote entry.rec) entries → has_commit (recs_of entries) ≡ false
 only_note-uncommitted [] all = refl
 only_note-uncommitted (entry ∷ entries) all = λ i. note-commits_not entry.rec all.0 i || only_note-uncommitted entries all.1 i
   where

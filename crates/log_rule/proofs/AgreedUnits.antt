@@ -7,12 +7,12 @@ use native.Mathlib.Decide.{dec_le, dec_lt}
 use mathlib.Core.Logic.{dite}
 use lib.ListN.{get_or-append}
 use Rattle.lsn_space.specs.Tiling.{IsTilingBoundary}
+use Rattle.lsn_space.proofs.TilingLemmas.{all-weaken, boundary-from}
 use Rattle.log_rule.specs.declared.view.Entry.{Entry}
 use Rattle.log_rule.specs.Log.{Part, Laid, IsFull, AgreesFrom, parts_of, units_in, SpellsRecord, IsSpelled}
 use Rattle.log_record.specs.Spelling.{spelling}
 use Rattle.log_rule.specs.Sends.{AreEntries}
-use Rattle.log_rule.proofs.Boundaries.{part_size, boundary-start, boundary-start_le}
-use Rattle.log_rule.proofs.Lists.{all-weaken}
+use Rattle.log_rule.proofs.Boundaries.{part_size, boundary-start_le}
 
 -- the units sent and those read behind them are one list
 pub agrees-append : (start : ℕ) (sent read : List ℕ) (p : Part) → AgreesFrom start sent p → AgreesFrom (start + length sent) read p
@@ -115,7 +115,7 @@ between_boundaries-are_entries start to from until (p ∷ ps) units laid a b siz
         let fits : p.entry.size ≤ length units = omega (arith, here, end, size) in
         let rest = go (from + p.entry.size) (drop p.entry.size units)
         (subst (λ n. IsTilingBoundary part_size (start + p.entry.size) ps (n + p.entry.size)) (sym here)
-        (boundary-start part_size (start + p.entry.size) ps)) (omega (arith, length-drop p.entry.size units, fits, size))
+        (boundary-from part_size (start + p.entry.size) ps)) (omega (arith, length-drop p.entry.size units, fits, size))
         (all-weaken (AgreesFrom from units) (AgreesFrom (from + p.entry.size) (drop p.entry.size units)) ps
         (λ q. agrees-drop from p.entry.size units q fits) agrees.1) in record {
           entries = p.entry ∷ rest.entries;

@@ -2,15 +2,17 @@
 use Rattle.std.proofs.Common.{◌≡◌, ◌≢◌, ℕ, zero, suc, ◌==◌, ◌+◌, ◌≤◌, cond, Bool, true, false, List, [], ◌∷◌, ◌++◌, length, map, set, sym, refl, ap, ◌∙◌, subst, ⊎_elim, arith, eq-eqb, ne_eqb}
 use Rattle.std.specs.List.{AllByRecursion}
 use mathlib.Core.Logic.{dite}
-use mathlib.Core.Option.{some, some-injective, some-ne-none}
+use mathlib.Core.Option.{some, some-injective}
 use native.Mathlib.Decide.{ℕ_discrete}
 use lib.ListN.{get_elem?}
 use Rattle.atomic_table.proofs.Lists.{at_set, at_snoc}
+use Rattle.lsn_space.proofs.ListLemmas.{summed-two_members_le}
+use Rattle.lsn_space.specs.Lists.{Everywhere}
 use Rattle.log_rule.specs.declared.view.TakenJob.{TakenJob}
 use Rattle.log_rule.specs.declared.view.Taken.{Taken}
 use Rattle.log_rule.specs.declared.view.Books.{Books}
 use Rattle.log_rule.specs.Books.{times_held, times_taken, balance_taken, last_commit_taken, without}
-use Rattle.log_rule.specs.Accounts.{Everywhere, summed, HasDistinctJobs}
+use Rattle.log_rule.specs.Accounts.{HasDistinctJobs}
 
 module _ {A : Type 0} where
   pub everywhere-set_weaken : (P Q : A → Type 0) (list : List A) (me : ℕ) (new : A) → Everywhere P list → Q new
@@ -25,36 +27,6 @@ module _ {A : Type 0} where
 
   pub everywhere-push : (P : A → Type 0) (list : List A) (new : A) → Everywhere P list → P new → Everywhere P (list ++ new ∷ [])
   everywhere-push P list new all mine j x there = ⊎_elim (λ before. all j x before) (λ (same : new ≡ x). subst P same mine) (at_snoc list new x j there)
-
-  pub everywhere-singleton : (P : A → Type 0) (only : A) → P only → Everywhere P (only ∷ [])
-  everywhere-singleton P only mine zero x there = subst P (some-injective only x there) mine
-  everywhere-singleton P only mine (suc j) x there = absurd (some-ne-none x (sym there))
-
-  pub summed-set : (amount : A → ℕ) (list : List A) (i : ℕ) (old new : A) → get_elem? list i ≡ some old
-      → summed amount (set list i new) + amount old ≡ summed amount list + amount new
-  summed-set amount [] i old new there = absurd (some-ne-none old (sym there))
-  summed-set amount (x ∷ xs) zero old new there = let same : amount x ≡ amount old = ap amount (some-injective x old there) in omega arith
-  summed-set amount (x ∷ xs) (suc i) old new there = omega (arith, summed-set amount xs i old new there)
-
-  pub summed-member_le : (amount : A → ℕ) (list : List A) (i : ℕ) (x : A) → get_elem? list i ≡ some x → amount x ≤ summed amount list
-  summed-member_le amount [] i x there = absurd (some-ne-none x (sym there))
-  summed-member_le amount (y ∷ ys) zero x there = let same : amount y ≡ amount x = ap amount (some-injective y x there) in omega arith
-  summed-member_le amount (y ∷ ys) (suc i) x there = omega (arith, summed-member_le amount ys i x there)
-
-  -- two of them
-  pub summed-two_members_le : (amount : A → ℕ) (list : List A) (i j : ℕ) (x y : A) → get_elem? list i ≡ some x → get_elem? list j ≡ some y → j ≢ i
-      → amount x + amount y ≤ summed amount list
-  summed-two_members_le amount [] i j x y here there differ = absurd (some-ne-none x (sym here))
-  summed-two_members_le amount (z ∷ zs) zero zero x y here there differ = absurd (differ refl)
-  summed-two_members_le amount (z ∷ zs) zero (suc j) x y here there differ =
-      let same : amount z ≡ amount x = ap amount (some-injective z x here) in omega (arith, summed-member_le amount zs j y there)
-  summed-two_members_le amount (z ∷ zs) (suc i) zero x y here there differ =
-      let same : amount z ≡ amount y = ap amount (some-injective z y there) in omega (arith, summed-member_le amount zs i x here)
-  summed-two_members_le amount (z ∷ zs) (suc i) (suc j) x y here there differ = omega (arith, summed-two_members_le amount zs i j x y here there (λ e. differ (ap suc e)))
-
-  pub summed-push : (amount : A → ℕ) (list : List A) (x : A) → summed amount (list ++ x ∷ []) ≡ summed amount list + amount x
-  summed-push amount [] x = omega arith
-  summed-push amount (y ∷ ys) x = let more = summed-push amount ys x in omega arith
 
 -- a step that leaves what `tell` tells of its seat's view
 pub map-set_same : {A : Type 0} {B : Type 0} (tell : A → B) (list : List A) (me : ℕ) (old new : A) → get_elem? list me ≡ some old → tell new ≡ tell old

@@ -2,6 +2,7 @@
 use Rattle.std.proofs.Common.{◌≡◌, ◌⊎◌, inl, inr, ⊎_elim, ℕ, ◌+◌, ◌≤◌, List, [], ◌∷◌, ◌++◌, sym, refl, ap, ◌∙◌, subst, arith}
 use Rattle.std.specs.List.{AllByRecursion}
 use Rattle.lsn_space.specs.Tiling.{IsTilingBoundary}
+use Rattle.lsn_space.proofs.TilingLemmas.{boundary-from}
 use Rattle.log_rule.specs.declared.view.Entry.{Entry}
 use Rattle.log_rule.specs.Log.{Part, LogRange, Tiles, Laid, EndsWithPart, IsRangeBoundary, IsEntryBoundary, parts_of}
 
@@ -12,12 +13,8 @@ abbrev pub part_size : Part → ℕ
 part_size p = p.entry.size
 
 module _ {A : Type 0} (size : A → ℕ) where
-  pub boundary-start : (start : ℕ) (xs : List A) → IsTilingBoundary size start xs start
-  boundary-start start [] = refl
-  boundary-start start (x ∷ xs) = inl refl
-
   pub boundary-append : (start at : ℕ) (xs ys : List A) → IsTilingBoundary size start xs at → IsTilingBoundary size start (xs ++ ys) at
-  boundary-append start at [] ys b = subst (IsTilingBoundary size start ys) (sym b) (boundary-start start ys)
+  boundary-append start at [] ys b = subst (IsTilingBoundary size start ys) (sym b) (boundary-from size start ys)
   boundary-append start at (x ∷ xs) ys b = ⊎_elim (λ here. inl here) (λ later. inr (boundary-append (start + size x) at xs ys later)) b
 
   pub boundary-start_le : (start at : ℕ) (xs : List A) → IsTilingBoundary size start xs at → start ≤ at

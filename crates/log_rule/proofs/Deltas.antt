@@ -2,8 +2,8 @@
 use Rattle.std.proofs.Common.{◌≡◌, ℕ, zero, suc, ◌≤◌, pos, neg_ℤ, true, refl, arith}
 use Rattle.std.proofs.lemmas.Int.{ints}
 use Rattle.log_record.specs.Spelling.{IsDelta}
-use Rattle.log_record.specs.declared.limits.TheConstants.{MOST_BALANCE}
-use Rattle.lock_core.specs.Records.{lowers, gain, loss}
+use Rattle.lsn_space.specs.declared.opening.TheConstants.{MOST_BALANCE}
+use Rattle.lock_core.specs.Records.{lowers}
 
 pub delta-positive : (amount : ℕ) → 1 ≤ amount → amount ≤ MOST_BALANCE → IsDelta (pos amount)
 delta-positive zero least most = absurd (omega arith)
@@ -16,14 +16,6 @@ delta-negated (suc n) least most = ((λ e. cc), omega (arith, ints), omega (arit
 pub lowers-negated : (amount : ℕ) → 1 ≤ amount → lowers (neg_ℤ (pos amount)) ≡ true
 lowers-negated zero some = absurd (omega arith)
 lowers-negated (suc n) some = refl
-
-pub gain-negated : (amount : ℕ) → gain (neg_ℤ (pos amount)) ≡ 0
-gain-negated zero = refl
-gain-negated (suc n) = refl
-
-pub loss-negated : (amount : ℕ) → loss (neg_ℤ (pos amount)) ≡ amount
-loss-negated zero = refl
-loss-negated (suc n) = refl
 
 pub negated-twice : (amount : ℕ) → pos amount ≡ neg_ℤ (neg_ℤ (pos amount))
 negated-twice zero = refl

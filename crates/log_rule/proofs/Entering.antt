@@ -1,5 +1,5 @@
 -- The next record of a seat's last job may_enter-keeps_accounts the log: each kind keeps the account part of the rule.
-use Rattle.std.proofs.Common.{◌≡◌, ◌≢◌, ◌⊎◌, inl, inr, ◌&&◌, ◌||◌, ℕ, ◌+◌, ◌≤◌, ◌<◌, cond, ℤ, true, false, true≢false, List, [], ◌∷◌, length, set, Option, Some, None, IfSome, sym, refl, ap, ◌∙◌, subst, arith}
+use Rattle.std.proofs.Common.{◌≡◌, ◌≢◌, ◌⊎◌, inl, inr, ◌&&◌, ◌||◌, ℕ, ◌+◌, ◌≤◌, ◌<◌, cond, ℤ, true, false, true≢false, List, [], ◌∷◌, length, set, sym, refl, ap, ◌∙◌, subst, arith}
 use Rattle.std.specs.List.{AllByRecursion}
 use mathlib.Core.Logic.{dite}
 use mathlib.Core.Option.{some}
@@ -8,8 +8,8 @@ use lib.ListN.{get_elem?}
 use Rattle.log_record.specs.declared.rec.Rec.{Rec}
 use Rattle.log_record.specs.declared.rec.Rec.TheVariants.{Genesis, Update, Commit, Short, Over, Note}
 use Rattle.log_record.specs.declared.rec.Placed.{Placed}
-use Rattle.log_record.specs.Spelling.{IsNoteText, IsSpellable}
-use Rattle.log_record.specs.declared.limits.TheConstants.{MOST_BALANCE}
+use Rattle.log_record.specs.Spelling.{IsSpellable}
+use Rattle.lsn_space.specs.declared.opening.TheConstants.{MOST_BALANCE}
 use Rattle.lock_core.specs.Records.{txn_of, commits, ends, gain, loss}
 use Rattle.lock_core.specs.History.{end_from}
 use Rattle.lock_core.specs.Transactions.{recs_of, own_records_of, changes_in, has_end, has_commit, is_committed, touches, all_without_prev, in_order}
@@ -27,13 +27,14 @@ use Rattle.lock_core.proofs.ChangesLemmas.{moved-untouched}
 use Rattle.log_rule.specs.declared.view.Taken.{Taken}
 use Rattle.log_rule.specs.declared.view.Books.{Books}
 use Rattle.log_rule.specs.Books.{task_of, times_held, balance_taken, last_commit_taken, plan_of, IsNext, HoldsLeg, HoldsAccounts, IsNote, MayEnter, placing}
-use Rattle.lock_core.specs.Transfers.{note_of}
+use Rattle.lock_core.proofs.JobLemmas.{note-allowed}
 use Rattle.log_rule.specs.Accounts.{IsAsTaken, HasOneHolder, HasDistinctJobs, moved_if_committed, Follows, AccountsFollowList, KeepsAccounts, MayBeTaken}
-use Rattle.log_rule.proofs.Bookings.{everywhere-set, summed-set, times_held-found, balance_taken-none, last_commit_taken-all}
+use Rattle.log_rule.proofs.Bookings.{everywhere-set, times_held-found, balance_taken-none, last_commit_taken-all}
 use Rattle.log_rule.proofs.Growing.{IsSameAt, enter_record-accounts_follow}
-use Rattle.log_rule.proofs.Lists.{all-weaken, all-weaken_both}
 use Rattle.log_rule.proofs.Taking.{LastIsOne, distinct_jobs-before_set}
 use Rattle.lsn_space.specs.declared.lsn.TheConstants.{LAST}
+use Rattle.lsn_space.proofs.TilingLemmas.{all-weaken, all-both}
+use Rattle.lsn_space.proofs.ListLemmas.{summed-set}
 use Rattle.slot_word.specs.AccountWord.{last_commit_in}
 use Rattle.log_rule.proofs.PlanFronts.{IsPlanned, IsSmallLeg, next-planned}
 use Rattle.log_rule.proofs.Planning.{Walk, walk-in_order_rest, planned_records-walk, walk-last_commits, unheld-not_touched, IsHeldLeg, NamesLastCommit, IsFront, Step}
@@ -172,7 +173,7 @@ module _ (base : BaseState) (words : ℕ → ℕ) (h : List Placed) (all : List 
 
     walk : Walk T [] (in_order before (rec ∷ rest))
     walk = subst (Walk T []) (sym next) (planned_records-walk task Mine (last_commit_taken mine.held) (balance_taken mine.held) few
-        (all-weaken_both (λ (leg : ℕ × ℕ × ℕ). (leg.0 ≢ leg.1) × (1 ≤ leg.2)) (HoldsLeg mine.held) (IsHeldLeg Mine) mine.last.job.legs
+        (all-both (λ (leg : ℕ × ℕ × ℕ). (leg.0 ≢ leg.1) × (1 ≤ leg.2)) (HoldsLeg mine.held) (IsHeldLeg Mine) mine.last.job.legs
         (λ leg a b. (a.0, a.1, b.0, b.1)) some_amounts holds) (in-range unended))
 
     step : T before rec rest
@@ -340,11 +341,7 @@ module _ (base : BaseState) (words : ℕ → ℕ) (all : List Books) (me : ℕ) 
         allowed.job.legs.some allowed.job.legs.few
         (all-weaken (IsAllowedLeg base.accounts) IsSmallLeg mine.last.job.legs (λ leg a. let few = holder.few in let payer = a.payer in let payee = a.payee in
         record { payer = omega arith; payee = omega arith; least = a.some; most = a.most }) legs-allowed)
-        (by_note mine.last.job.note allowed.job.note) (recs_of mine.placed) rec next.rest next.plan
-      where
-        by_note : (note : Option (List ℕ)) → IfSome note IsNoteText → (note_of note ≡ []) ⊎ IsNoteText (note_of note)
-        by_note None fits = inl refl
-        by_note (Some text) fits = inr fits
+        (note-allowed mine.last.job.note allowed.job.note) (recs_of mine.placed) rec next.rest next.plan
 
   -- the next record can be spelled
   pub enters-spellable : (rec : Rec) → MayEnter rec mine → IsSpellable rec

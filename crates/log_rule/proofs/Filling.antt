@@ -9,6 +9,7 @@ use native.Mathlib.Decide.{ℕ_discrete, dec_le}
 use lib.ListN.{get_elem?, get_or-append}
 use Rattle.atomic_table.proofs.Lists.{one_turn}
 use Rattle.lsn_space.specs.Tiling.{IsTilingBoundary}
+use Rattle.lsn_space.proofs.TilingLemmas.{all-weaken, all-both}
 use Rattle.ring_core.specs.RingLog.{HasUnfilled, is_at, filled_at}
 use Rattle.slot_core.specs.State.{InRing, Works, SlotState, task_of}
 use Rattle.slot_core.specs.Machine.{MayFill as MayFillNow, after_fill}
@@ -36,7 +37,7 @@ use Rattle.log_rule.specs.Words.{Words, put}
 use Rattle.log_rule.proofs.Boundaries.{part_size, boundary-mid_replaced}
 use Rattle.log_rule.proofs.Carriers.{carrier-set, true_ends-log_changes}
 use Rattle.log_rule.proofs.AccountsKept.{same_books-keeps_accounts, records-mid_replaced}
-use Rattle.log_rule.proofs.Lists.{all-mid_replaced, all-middle, all-weaken_both, all-weaken, Last, picked-last}
+use Rattle.log_rule.proofs.Lists.{all-mid_replaced, all-middle, Last, picked-last}
 use Rattle.log_rule.proofs.Loads.{all-tile}
 use Rattle.log_rule.proofs.Members.{KeepsView, one_step_more-keeps_seen, keeps-view}
 use Rattle.log_rule.proofs.OwnedParts.{LastPart, own-last_part, own-last_replaced, own-mid_replaced_others}
@@ -257,7 +258,7 @@ module _ (key : Start) (words : Words) (views : List View) (me : ℕ) (v : View)
       spelled = all-mid_replaced SpellsRecord filling-last_part.before filling-last_part.behind old_part part spelled-part (all-old SpellsRecord s.filled.spelled);
       stands = laid-all_replaced (λ q. SpellsRecord q × StandsInRing key.ring words.durable words.ring q)
           (StandsInRing key.ring words.durable ring') _ _ filling-last_part.before filling-last_part.behind old_part part laid
-          (all-weaken_both SpellsRecord (StandsInRing key.ring words.durable words.ring) (λ q. SpellsRecord q × StandsInRing key.ring words.durable words.ring q) _
+          (all-both SpellsRecord (StandsInRing key.ring words.durable words.ring) (λ q. SpellsRecord q × StandsInRing key.ring words.durable words.ring q) _
           (λ q a b. (a, b)) (all-old SpellsRecord s.filled.spelled) (all-old (StandsInRing key.ring words.durable words.ring) s.filled.stands))
           stands-part (λ q h _ _ hi apart. stands-others q h hi apart);
     };

@@ -4,6 +4,7 @@ use Rattle.std.specs.List.{AllByRecursion}
 use mathlib.Core.Option.{some}
 use lib.ListN.{get_elem?}
 use Rattle.lsn_space.specs.Tiling.{IsTilingBoundary}
+use Rattle.lsn_space.proofs.TilingLemmas.{all-weaken, all-both}
 use Rattle.ring_core.specs.RingLog.{size_of}
 use Rattle.slot_core.specs.State.{SlotState}
 use Rattle.log_rule.specs.declared.start.Start.{Start}
@@ -24,7 +25,6 @@ use Rattle.log_rule.specs.Words.{Words}
 use Rattle.log_rule.proofs.AgreedUnits.{agrees-append}
 use Rattle.log_rule.proofs.Boundaries.{Cut, boundary-split_right, boundary-split_left, tiles-cut_at_boundary}
 use Rattle.log_rule.proofs.Carriers.{carrier-set, true_ends-log_changes}
-use Rattle.log_rule.proofs.Lists.{all-weaken_both, all-weaken}
 use Rattle.log_rule.proofs.Members.{KeepsView, seen_durable-keeps_seen, keeps_seen-loads_for_group, seen_in_group-more, keeps-view}
 use Rattle.log_rule.proofs.RangeLists.{tiles-append}
 use Rattle.log_rule.proofs.Roles.{crew-set_same, rests_if_quiet-set, sole-flusher}
@@ -92,7 +92,7 @@ module _ (key : Start) (words : Words) (views : List View) (me : ℕ) (v : View)
     read_to = omega (arith, all);
     loaded_seen = sends.loaded_seen;
     boundary = subst (λ l. IsRangeBoundary key.start l v.sending.exposed) same-ranges sends.boundary;
-    sent_agrees = all-weaken_both (AgreesFrom key.start v.sending.sent) (AgreesFrom words.durable v.sending.read)
+    sent_agrees = all-both (AgreesFrom key.start v.sending.sent) (AgreesFrom words.durable v.sending.read)
         (AgreesFrom key.start (v.sending.sent ++ v.sending.read)) log.parts
         (λ p first second. agrees-append key.start v.sending.sent v.sending.read p first
         (subst (λ n. AgreesFrom n v.sending.read p) (sym sends.sent_to) second)) sends.sent_agrees sends.read_agrees;

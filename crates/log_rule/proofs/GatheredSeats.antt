@@ -5,7 +5,10 @@ use mathlib.Core.Option.{some}
 use lib.ListN.{get_elem?}
 use Rattle.atomic_table.proofs.Lists.{set_else}
 use Rattle.slot_word.specs.AccountWord.{held_in, balance_in, last_commit_in}
-use Rattle.log_record.specs.declared.limits.TheConstants.{MOST_ACCOUNTS}
+use Rattle.lsn_space.specs.declared.opening.TheConstants.{MOST_ACCOUNTS}
+use Rattle.lsn_space.proofs.TilingLemmas.{all-append}
+use Rattle.lsn_space.proofs.ListLemmas.{everywhere-singleton, summed-set, summed-push}
+use Rattle.lsn_space.specs.Lists.{Everywhere, summed}
 use Rattle.log_record.specs.declared.rec.Placed.{Placed}
 use Rattle.log_record.specs.Spelling.{IsBalance}
 use Rattle.lock_core.specs.Sums.{BaseState}
@@ -13,9 +16,8 @@ use Rattle.lock_core.specs.Serial.{NumberedTransfer, IsRunWhole, IsCutShort, IsP
 use Rattle.log_rule.specs.declared.view.TakenJob.{TakenJob}
 use Rattle.log_rule.specs.declared.view.Books.{Books}
 use Rattle.log_rule.specs.Books.{no_books, task_of, times_held, times_taken, merging}
-use Rattle.log_rule.specs.Accounts.{Everywhere, summed, takers, IsAsTaken, HasDistinctJobs, WentBack, AccountsFollowList, KeepsAccounts}
-use Rattle.log_rule.proofs.Bookings.{everywhere-set, everywhere-push, everywhere-singleton, summed-set, summed-push, all-weaken_if_taken, distinct_jobs-numbers_differ, cond-zero_if_unequal, times_taken-append}
-use Rattle.log_rule.proofs.Lists.{all-append}
+use Rattle.log_rule.specs.Accounts.{takers, IsAsTaken, HasDistinctJobs, WentBack, AccountsFollowList, KeepsAccounts}
+use Rattle.log_rule.proofs.Bookings.{everywhere-set, everywhere-push, all-weaken_if_taken, distinct_jobs-numbers_differ, cond-zero_if_unequal, times_taken-append}
 use Rattle.log_rule.proofs.Taking.{RunsPartly, Lasts, Ties, FollowsAll, AllWentBack, LastIsOne}
 
 -- a seat that has nothing is added

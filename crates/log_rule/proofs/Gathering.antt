@@ -8,6 +8,8 @@ use lib.ListN.{get_elem?}
 use Rattle.atomic_table.specs.Table.{Final, Seen}
 use Rattle.lsn_space.specs.Tiling.{IsTiling, IsTilingBoundary}
 use Rattle.lsn_space.specs.declared.lsn.TheConstants.{LAST}
+use Rattle.lsn_space.proofs.TilingLemmas.{all-weaken, all-both}
+use Rattle.lsn_space.specs.Lists.{summed}
 use Rattle.log_rule.specs.declared.layout.TheConstants.{TAIL, EXPOSED}
 use Rattle.log_rule.specs.declared.start.Start.{Start}
 use Rattle.log_rule.specs.declared.view.Call.TheVariants.{Idle}
@@ -24,7 +26,7 @@ use Rattle.lock_core.specs.Records.{loss}
 use Rattle.lock_core.specs.AccountRows.{row}
 use Rattle.lock_core.specs.Sums.{BaseState, IsBalanceOf, last_commit_of, total}
 use Rattle.log_rule.specs.declared.view.Books.{Books}
-use Rattle.log_rule.specs.Accounts.{summed, holders, takers, HasDistinctJobs, WentBack, AccountsFollowList}
+use Rattle.log_rule.specs.Accounts.{holders, takers, HasDistinctJobs, WentBack, AccountsFollowList}
 use Rattle.log_rule.specs.Books.{task_of, times_held, times_taken}
 use Rattle.log_rule.specs.ClosedLog.{HasHeardOfWorkers, IsGathered, IsLedger, HasLedger, ReadsRows, records_of, history_of, in_use}
 use Rattle.log_rule.specs.Layout.{Account, Slot, index_of}
@@ -40,7 +42,6 @@ use Rattle.log_rule.proofs.AgreedUnits.{IsFront, agrees-append, full_part-is_spe
 use Rattle.log_rule.proofs.Boundaries.{part_size, boundary-entries}
 use Rattle.log_rule.proofs.AccountsKept.{books-at}
 use Rattle.log_rule.proofs.MemberBooks.{held-books_in, jobs-books_in}
-use Rattle.log_rule.proofs.Lists.{all-weaken_both, all-weaken}
 use Rattle.log_rule.proofs.Loads.{ranges_of-part_boundary}
 use Rattle.log_rule.proofs.Resting.{at_rest-all_exposed}
 use Rattle.log_rule.proofs.Vacancy.{slot_word_zero-at_rest, in_use-all_zero}
@@ -185,7 +186,7 @@ module _ (key : Start) (words : Words) (views : List View) (me : ℕ) (v : View)
 
   agrees : AllByRecursion (AgreesFrom key.start (v.sending.sent ++ v.sending.read)) mine
   agrees = all-mine (AgreesFrom key.start (v.sending.sent ++ v.sending.read))
-      (all-weaken_both (AgreesFrom key.start v.sending.sent) (AgreesFrom words.durable v.sending.read)
+      (all-both (AgreesFrom key.start v.sending.sent) (AgreesFrom words.durable v.sending.read)
       (AgreesFrom key.start (v.sending.sent ++ v.sending.read)) log.parts
       (λ p sent read. agrees-append key.start v.sending.sent v.sending.read p sent
       (subst (λ n. AgreesFrom n v.sending.read p) (sym sends.sent_to) read)) sends.sent_agrees sends.read_agrees)

@@ -11,13 +11,14 @@ use Rattle.lock_core.specs.Records.{gain, loss}
 use Rattle.lock_core.specs.History.{end_from}
 use Rattle.lock_core.specs.Transactions.{recs_of, changes_in, has_commit}
 use Rattle.lock_core.specs.Sums.{BaseState, moved, total, last_commit_of}
+use Rattle.lsn_space.proofs.ListLemmas.{summed-set, summed-member_le, summed-two_members_le}
 use Rattle.log_rule.specs.declared.view.Taken.{Taken}
 use Rattle.log_rule.specs.declared.view.Given.{Given}
 use Rattle.log_rule.specs.declared.view.Books.{Books}
 use Rattle.log_rule.specs.Books.{times_held, times_taken, balance_taken, without, giving}
 use Rattle.log_rule.specs.Accounts.{holders, IsAsTaken, HasOneHolder, moved_if_committed, commit_in, Follows, IsUpToDate, WentBack, AccountsFollowList, KeepsAccounts, MayGive}
 use Rattle.log_rule.specs.Words.{put}
-use Rattle.log_rule.proofs.Bookings.{everywhere-set_weaken, everywhere-set, summed-set, summed-member_le, summed-two_members_le, all-weaken_if_held, times_held-found, all-without, times_held-without, times_held-without_other}
+use Rattle.log_rule.proofs.Bookings.{everywhere-set_weaken, everywhere-set, all-weaken_if_held, times_held-found, all-without, times_held-without, times_held-without_other}
 use Rattle.log_rule.proofs.Taking.{put-at_equal, put-at_unequal, as_taken-put_other, free-put_other, distinct_jobs-before_set, Lasts, Ties, RunsPartly, FollowsAll, AllWentBack, LastIsOne}
 
 -- the account goes back as it is held, with the tail at or below the end of the list

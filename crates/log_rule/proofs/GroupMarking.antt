@@ -7,6 +7,7 @@ use mathlib.Core.Option.{some}
 use native.Mathlib.Decide.{ℕ_discrete}
 use lib.ListN.{get_elem?}
 use Rattle.lsn_space.specs.Tiling.{IsTilingBoundary}
+use Rattle.lsn_space.proofs.TilingLemmas.{all-weaken, all-both, boundary-from}
 use Rattle.ring_core.specs.RingLog.{IsFull as IsFilled, is_at, released_at}
 use Rattle.ring_core.specs.State.{base_in, worked_on}
 use Rattle.slot_core.specs.State.{InRing, Works, SlotState, task_of, ring_stage}
@@ -31,11 +32,11 @@ use Rattle.log_rule.specs.Slots.{pieces_at, is_shared_at, shared, phase_at}
 use Rattle.log_rule.specs.Sound.{HasSeenBoundaries, HasContiguousReservations, SendsIfFlusher, StoresStop, HasReadStop, LookedIfQuiet, HasWorkingOwner, HasConstants, RestsUnlessActive, OwnsIfWorker, HoldsIfActive, IsSound}
 use Rattle.log_rule.specs.Views.{run_in, entries_in, books_in, claims_in, counted}
 use Rattle.log_rule.specs.Words.{Words, put}
-use Rattle.log_rule.proofs.Boundaries.{range_size, part_size, boundary-start, boundary-append, boundary-start_le, boundary-end, range_boundary-part_boundary, boundary-mid_replaced}
+use Rattle.log_rule.proofs.Boundaries.{range_size, part_size, boundary-append, boundary-start_le, boundary-end, range_boundary-part_boundary, boundary-mid_replaced}
 use Rattle.log_rule.proofs.Carriers.{carrier-set_carrying, first_ends-mid_replaced, true_ends-log_changes}
 use Rattle.log_rule.proofs.Filling.{put-at, put-other}
 use Rattle.log_rule.proofs.AccountsKept.{same_books-keeps_accounts}
-use Rattle.log_rule.proofs.Lists.{Last, all-mid_replaced, all-middle, all-weaken_both, all-weaken, picked-append, picked-mid_replaced, picked-last}
+use Rattle.log_rule.proofs.Lists.{Last, all-mid_replaced, all-middle, picked-append, picked-mid_replaced, picked-last}
 use Rattle.log_rule.proofs.Loads.{all-tile}
 use Rattle.log_rule.proofs.Marking.{run_mark-step}
 use Rattle.log_rule.proofs.Members.{KeepsView, one_step_more-keeps_seen, seen_in_group-more, keeps-view}
@@ -304,13 +305,13 @@ module _ (key : Start) (words : Words) (views : List View) (me : ℕ) (v : View)
   -- the range begins and ends where parts do, all of which are released
   begins : IsTilingBoundary part_size key.start log.parts range.base
   begins = range_boundary-part_boundary (key.ring / 4) key.start key.start words.tail range.base log.parts (front ++ range ∷ held.behind) all-tiles ends-with
-      (boundary-start part_size key.start log.parts) (boundary-append range_size key.start range.base front (range ∷ held.behind)
+      (boundary-from part_size key.start log.parts) (boundary-append range_size key.start range.base front (range ∷ held.behind)
       (boundary-end (key.ring / 4) key.start range.base front (tiles-split _ _ _ front held.behind range all-tiles).0))
 
   as-filled : filled_in range.base range.size log.parts ≡ range.size
   as-filled = filled_in-full range.base range.size key.start words.tail log.parts s.contiguous.parts begins
       (all-middle (EndsWithPart key.start log.parts) front held.behind range ends-with)
-      (all-weaken_both IsFullIfReleased
+      (all-both IsFullIfReleased
       (λ (p : Part). range.base ≤ p.entry.start → p.entry.start < range.base + range.size → p.released ≡ true)
       (IsFullIn range.base range.size) log.parts (λ p full released lo hi. full (released lo hi)) s.below.full
       (unreleased_in_none-all_released key.start words.tail range.base range.size log.parts s.contiguous.parts none-remain))

@@ -5,6 +5,7 @@ use mathlib.Core.Option.{some}
 use lib.ListN.{get_elem?}
 use Rattle.atomic_table.proofs.Lists.{at_map}
 use Rattle.log_record.proofs.BoundLemmas.{length-spelling}
+use Rattle.lsn_space.proofs.TilingLemmas.{all-weaken, all-both}
 use Rattle.log_rule.specs.declared.group_view.MemberStep.{MemberStep}
 use Rattle.log_rule.specs.declared.group_view.MemberStep.TheVariants.{Closes, Waits, Hears, Places, Stores, Tells, Fills, Leaves}
 use Rattle.log_rule.specs.declared.start.Start.{Start}
@@ -24,7 +25,6 @@ use Rattle.log_rule.specs.Views.{nobody, books_in}
 use Rattle.log_rule.specs.Words.{Words}
 use Rattle.log_rule.proofs.Entering.{enters-spellable}
 use Rattle.log_rule.proofs.Groups.{IsUntold, untold-gathering}
-use Rattle.log_rule.proofs.Lists.{all-weaken_both, all-weaken}
 use Rattle.log_rule.proofs.SlotLeading.{is_active-role_active}
 use Rattle.log_rule.proofs.SlotStoring.{pieces_tile-sum_within}
 
@@ -130,7 +130,7 @@ module _ (number : ℕ → ℕ) where
   members-fit : (ms : List Member) (made : List ℕ) → AreOfOthers ms → AreMade made ms → length ms ≤ length made
   members-fit [] made apart known = omega arith
   members-fit (m ∷ ms) made apart known =
-      let left = all-weaken_both (λ (k : Member). number k.seat ≢ number m.seat) (λ (k : Member). Knows (number k.seat) made)
+      let left = all-both (λ (k : Member). number k.seat ≢ number m.seat) (λ (k : Member). Knows (number k.seat) made)
       (λ (k : Member). Knows (number k.seat) (without (number m.seat) made)) ms
       (λ k differ is. without-knows (number m.seat) (number k.seat) made differ is) apart.0 known.1 in
       let rest = members-fit ms (without (number m.seat) made) apart.1 left in
@@ -252,7 +252,7 @@ module _ (key : Start) (words : Words) (views : List View) (log : Log) (s : IsSo
   numbers-apart : (ms : List Member) → AreApart ms → AllByRecursion IsWorkers ms → AreOfOthers number ms
   numbers-apart [] apart all = tt
   numbers-apart (m ∷ ms) apart all = (
-    all-weaken_both (λ (k : Member). k.seat ≢ m.seat) IsWorkers (λ (k : Member). number k.seat ≢ number m.seat) ms
+    all-both (λ (k : Member). k.seat ≢ m.seat) IsWorkers (λ (k : Member). number k.seat ≢ number m.seat) ms
         (λ k differ is same. differ ((s.roles.pairs k.seat (view_at k.seat) is.there m.seat (view_at m.seat) all.0.there).apart
         (ap is_worker is.active) (ap is_worker all.0.active) same)) apart.0 all.1,
     numbers-apart ms apart.1 all.1,

@@ -6,6 +6,7 @@ use mathlib.Core.Option.{some, some-injective}
 use native.Mathlib.Decide.{ℕ_discrete}
 use lib.ListN.{get_elem?}
 use Rattle.slot_core.specs.State.{group_at}
+use Rattle.lsn_space.proofs.TilingLemmas.{all-both}
 use Rattle.log_rule.specs.declared.group_view.MemberStep.{MemberStep}
 use Rattle.log_rule.specs.declared.group_view.MemberStep.TheVariants.{Closes, Waits, Hears, Places, Stores, Tells, Fills, Leaves}
 use Rattle.log_rule.specs.declared.view.Books.{Books}
@@ -17,7 +18,6 @@ use Rattle.log_rule.specs.GroupViews.{unheard_entry, unheard_books, member_entry
 use Rattle.log_rule.specs.Log.{LogRange, Shared, claim_of, IsSharedByMembers, IsAtWork}
 use Rattle.log_rule.specs.Slots.{own_pieces, pieces_at, is_led_by, known_phase, led_phase, phase_led, phase_at, KnowsPhase, KnowsGroup, is_shared_at, shares, shared, range_of, sum_of, HasRemaining, IsAtPhase}
 use Rattle.log_rule.specs.Views.{entries_in, books_in}
-use Rattle.log_rule.proofs.Lists.{all-weaken_both}
 
 -- ---- the groups but one
 
@@ -199,7 +199,7 @@ each-shared slot (r ∷ rs) Q some_shared = (
 pub at_work-put_group : (groups : ℕ → Group) (slot : ℕ) (g : Group) (ahead : List LogRange) → (shared slot ahead ≢ [] → g.members ≢ [])
     → AllByRecursion (IsAtWork groups) ahead → AllByRecursion (IsAtWork (put_group groups slot g)) ahead
 at_work-put_group groups slot g ahead some_members work =
-    all-weaken_both (IsAtWork groups) (λ (r : LogRange). r.duty ≡ Shared slot → g.members ≢ []) (IsAtWork (put_group groups slot g)) ahead
+    all-both (IsAtWork groups) (λ (r : LogRange). r.duty ≡ Shared slot → g.members ≢ []) (IsAtWork (put_group groups slot g)) ahead
     (λ r at some_here. ⊎_elim (λ released. inl released)
     (λ owed. inr (⊎_elim (λ by_seat. inl by_seat) (λ by_members. inr (moved r by_members some_here)) owed)) at)
     work (each-shared slot ahead (g.members ≢ []) some_members)

@@ -14,14 +14,15 @@ use Rattle.lock_core.specs.Lawful.{tests, Passes}
 use Rattle.lock_core.specs.Serial.{IsRunWhole, IsCutShort}
 use Rattle.lock_core.proofs.OneMore.{of_transaction-first_own, of_transaction-first_other}
 use Rattle.lock_core.proofs.SerialFronts.{IsRunPartly, run_partly-other}
+use Rattle.lsn_space.proofs.TilingLemmas.{all-weaken, all-both}
+use Rattle.lsn_space.proofs.ListLemmas.{summed-set, summed-member_le, summed-two_members_le}
 use Rattle.log_rule.specs.declared.view.TakenJob.{TakenJob}
 use Rattle.log_rule.specs.declared.view.Taken.{Taken}
 use Rattle.log_rule.specs.declared.view.Given.{Given}
 use Rattle.log_rule.specs.declared.view.Books.{Books}
 use Rattle.log_rule.specs.Books.{task_of, times_held, times_taken}
 use Rattle.log_rule.specs.Accounts.{takers, IsAsTaken, HasOneHolder, HasDistinctJobs, Follows, WentBack, AccountsFollowList}
-use Rattle.log_rule.proofs.Bookings.{everywhere-set_weaken, everywhere-set, summed-set, summed-member_le, summed-two_members_le, all-weaken_if_held, all-weaken_if_taken, distinct_jobs-numbers_differ}
-use Rattle.log_rule.proofs.Lists.{all-weaken_both, all-weaken}
+use Rattle.log_rule.proofs.Bookings.{everywhere-set_weaken, everywhere-set, all-weaken_if_held, all-weaken_if_taken, distinct_jobs-numbers_differ}
 
 -- the entry leaves the account as it was
 pub record IsSameAt (base : BaseState) (h : List Placed) (entry : Placed) (account : ℕ) : Type 0 where
@@ -81,7 +82,7 @@ module _ (base : BaseState) (words : ℕ → ℕ) (h : List Placed) (all : List 
   runs-mine : IsRunPartly base (entry ∷ h) (task_of mine.last)
       → AllByRecursion (λ (taken : TakenJob). IsRunWhole base (entry ∷ h) (task_of taken) ⊎ IsCutShort (entry ∷ h) (task_of taken)) mine.jobs
   runs-mine ran = all-weaken_if_taken _ (λ (taken : TakenJob). IsRunPartly base (entry ∷ h) (task_of taken)) mine.jobs
-      (all-weaken_both (λ (taken : TakenJob). IsRunPartly base h (task_of taken)) (λ (taken : TakenJob). taken.number ≡ mine.last.number → taken.job ≡ mine.last.job)
+      (all-both (λ (taken : TakenJob). IsRunPartly base h (task_of taken)) (λ (taken : TakenJob). taken.number ≡ mine.last.number → taken.job ≡ mine.last.job)
       (λ (taken : TakenJob). IsRunPartly base h (task_of taken) × (taken.number ≡ mine.last.number → taken.job ≡ mine.last.job)) mine.jobs
       (λ _ a b. (a, b)) (s.runs me mine at) (s.last me mine at some_job))
       (λ taken has old. dite (ℕ_discrete taken.number mine.last.number)
@@ -110,7 +111,7 @@ module _ (base : BaseState) (words : ℕ → ℕ) (h : List Placed) (all : List 
         (λ (b : Books). AllByRecursion (Follows base (entry ∷ h) b.placed) b.held) all me new s.held
         follows
         (λ j x differ there old. all-weaken_if_held (λ z. IsAsTaken base.accounts words z × Follows base h x.placed z) (Follows base (entry ∷ h) x.placed) x.held
-        (all-weaken_both (IsAsTaken base.accounts words) (Follows base h x.placed) _ x.held (λ _ a b. (a, b)) (holder.taken j x there) old)
+        (all-both (IsAsTaken base.accounts words) (Follows base h x.placed) _ x.held (λ _ a b. (a, b)) (holder.taken j x there) old)
         (λ z has p. follows-same base h x.placed entry z
         (same z.account (one_holder-unheld_by_others base.accounts words all holder me j mine x at there differ z.account p.0.known has)) p.1));
     given = everywhere-set_weaken (λ (b : Books). AllByRecursion (WentBack base h) b.given) (λ (b : Books). AllByRecursion (WentBack base (entry ∷ h)) b.given)

@@ -10,6 +10,7 @@ use lib.ListN.{get_elem?}
 use prog.Atomic.{either}
 use Rattle.atomic_table.proofs.Lists.{at_map}
 use Rattle.lsn_space.specs.declared.lsn.TheConstants.{LAST}
+use Rattle.lsn_space.proofs.TilingLemmas.{all-weaken, all-append}
 use Rattle.ring_core.specs.RingLog.{fresh, reserved}
 use Rattle.slot_core.specs.State.{Task, SlotState, Group as MachineGroup, joined, task_of, with_task, membership, group, group_at}
 use Rattle.slot_core.specs.Machine.{MayPlace, closed_total, fits, after_place, placed_group}
@@ -48,7 +49,7 @@ use Rattle.log_rule.proofs.GroupEntering.{Entrant, history_with, books_with, May
 use Rattle.log_rule.proofs.GroupPlacing.{placed_parts, entries_at, own-placed, parts_of-append, laid-placed, empty-placed, unreleased-placed, all-placed, IsAmong, own_pieces-all_members, IsOneAtMost, pieces_at-one_at_most, IsMemberAt, member-at, seat-view_or_nobody, IsPlacedAt, knows_closed-placed_at, PlacesPiece, PlacesNone, OncePlaced, once-placed, entrant, entrants, all-entrants, enters-not, enters-as, entrants-are_apart, history-placed, records-append}
 use Rattle.log_rule.proofs.Groups.{put_group-at, put_group-at_equal, put_group-other, range_of-some_members, at_work-put_group, groups_from-put_group}
 use Rattle.log_rule.proofs.AccountsKept.{history-end}
-use Rattle.log_rule.proofs.Lists.{picked-append, all-append, all-weaken}
+use Rattle.log_rule.proofs.Lists.{picked-append}
 use Rattle.log_rule.proofs.Members.{seen_in_group-more, loads_for_group-weaken}
 use Rattle.log_rule.proofs.Sharing.{shared-push_unshared}
 use Rattle.log_rule.proofs.MachineShown.{hands_of-set, task_of-hands_of}

@@ -26,7 +26,7 @@ mod Groups
 mod Growing
 pub mod LeaderPlacing
 mod Lifting
-mod Lists
+pub mod Lists
 pub mod Loads
 mod MachineShown
 mod MarkLooks

@@ -71,18 +71,6 @@ module _ {A : Type 0} {B : Type 0} (test : A → Bool) (tell : A → B) where
       by_test false fails e all is go = later told [] refl (ap (λ b. cond b (tell x ∷ []) []) fails) (go told e)
 
 module _ {A : Type 0} where
-  pub all-append : (P : A → Type 0) (xs ys : List A) → AllByRecursion P xs → AllByRecursion P ys → AllByRecursion P (xs ++ ys)
-  all-append P [] ys a b = b
-  all-append P (x ∷ xs) ys a b = (a.0, all-append P xs ys a.1 b)
-
-  pub all-weaken : (P Q : A → Type 0) (xs : List A) → ((x : A) → P x → Q x) → AllByRecursion P xs → AllByRecursion Q xs
-  all-weaken P Q [] f a = tt
-  all-weaken P Q (x ∷ xs) f a = (f x a.0, all-weaken P Q xs f a.1)
-
-  pub all-weaken_both : (P Q R : A → Type 0) (xs : List A) → ((x : A) → P x → Q x → R x) → AllByRecursion P xs → AllByRecursion Q xs → AllByRecursion R xs
-  all-weaken_both P Q R [] f a b = tt
-  all-weaken_both P Q R (x ∷ xs) f a b = (f x a.0 b.0, all-weaken_both P Q R xs f a.1 b.1)
-
   -- one is exchanged for another
   pub all-mid_replaced : (P : A → Type 0) (ls rs : List A) (x x' : A) → P x' → AllByRecursion P (ls ++ x ∷ rs) → AllByRecursion P (ls ++ x' ∷ rs)
   all-mid_replaced P [] rs x x' now a = (now, a.1)
@@ -92,11 +80,6 @@ module _ {A : Type 0} where
   pub all-middle : (P : A → Type 0) (ls rs : List A) (x : A) → AllByRecursion P (ls ++ x ∷ rs) → P x
   all-middle P [] rs x a = a.0
   all-middle P (l ∷ ls) rs x a = all-middle P ls rs x a.1
-
-  -- those behind
-  pub all-behind : (P : A → Type 0) (xs ys : List A) → AllByRecursion P (xs ++ ys) → AllByRecursion P ys
-  all-behind P [] ys a = a
-  all-behind P (x ∷ xs) ys a = all-behind P xs ys a.1
 
 -- ---- numbers in a list
 

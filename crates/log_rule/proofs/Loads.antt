@@ -4,6 +4,7 @@ use mathlib.Core.Option.{some}
 use lib.ListN.{get_elem?}
 use Rattle.lsn_space.specs.Tiling.{IsTilingBoundary}
 use Rattle.lsn_space.specs.declared.lsn.TheConstants.{LAST}
+use Rattle.lsn_space.proofs.TilingLemmas.{boundary-from}
 use Rattle.log_rule.specs.declared.start.Start.{Start}
 use Rattle.log_rule.specs.declared.view.Constants.{Constants}
 use Rattle.log_rule.specs.declared.view.Seen.{Seen}
@@ -21,7 +22,7 @@ use Rattle.log_rule.proofs.AccountsKept.{same_books-keeps_accounts}
 use Rattle.log_rule.proofs.Lifting.{Tells}
 use Rattle.log_rule.proofs.Members.{KeepsSeen, one_step_more-keeps_seen, seen_tail-keeps_seen, seen_durable-keeps_seen, keeps_seen-loads_for_group, keeps-view}
 use Rattle.log_rule.proofs.Roles.{crew-set_same, rests_if_quiet-set, change_standing-leads}
-use Rattle.log_rule.proofs.Boundaries.{range_size, part_size, boundary-start, range_boundary-part_boundary, boundary-append, boundary-end, boundary-prepend_tiling}
+use Rattle.log_rule.proofs.Boundaries.{range_size, part_size, range_boundary-part_boundary, boundary-append, boundary-end, boundary-prepend_tiling}
 use Rattle.log_rule.proofs.RangeLists.{tiles-le, tiles-append}
 use Rattle.log_rule.proofs.ViewChanges.{each_view-set}
 
@@ -44,7 +45,7 @@ module _ (start ring tail exposed durable : ℕ) (log : Log) (c : HasContiguousR
   -- each boundary of reservations is one of the parts
   pub ranges_of-part_boundary : (at : ℕ) → IsRangeBoundary start (ranges_of log) at → IsTilingBoundary part_size start log.parts at
   ranges_of-part_boundary at b = range_boundary-part_boundary _ start start tail at log.parts (ranges_of log) all-tile c.aligned
-      (boundary-start part_size start log.parts) b
+      (boundary-from part_size start log.parts) b
 
 -- the seat sees a word, or its part in the sending change_seen-leads, or whether it is contended
 module _ (key : Start) (words : Words) (stop : ℕ) (views : List View) (me : ℕ) (v : View) (log : Log) (seen : Seen) (contended : Bool) (sending : Sending)

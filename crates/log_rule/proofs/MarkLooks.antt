@@ -6,6 +6,8 @@ use mathlib.Core.Logic.{dite}
 use native.Mathlib.Decide.{dec_lt}
 use Rattle.ring_core.specs.RingLog.{is_marked}
 use Rattle.ring_core.specs.State.{Reservation, is_at}
+use Rattle.lsn_space.proofs.TilingLemmas.{all-weaken, all-append}
+use Rattle.slot_core.proofs.Lists.{all-right_of_append}
 use Rattle.log_rule.specs.declared.start.Start.{Start}
 use Rattle.log_rule.specs.declared.view.View.{View}
 use Rattle.log_rule.specs.Events.{reservation_of}
@@ -13,7 +15,7 @@ use Rattle.log_rule.specs.Log.{Duty, Shared, Owed, Released, LogRange, Log, rang
 use Rattle.log_rule.specs.Marks.{IsReady, IsCurrentMark, HasTrueMark, IsFirstReleased, IsPassed}
 use Rattle.log_rule.specs.Sound.{IsSound}
 use Rattle.log_rule.specs.Words.{Words}
-use Rattle.log_rule.proofs.Lists.{all-append, all-middle, all-behind, all-weaken}
+use Rattle.log_rule.proofs.Lists.{all-middle}
 use Rattle.log_rule.proofs.Loads.{all-tile}
 use Rattle.log_rule.proofs.RangeLists.{tiles-le, tiles-split, tiles-within}
 use Rattle.log_rule.proofs.MachineShown.{find-reservation_at_base, find-none_at_end}
@@ -69,8 +71,8 @@ module _ (key : Start) (words : Words) (views : List View) (log : Log) (s : IsSo
   tiles = s.contiguous.to_tail
 
   true-ahead : AllByRecursion (HasTrueMark size words.mark) log.ahead
-  true-ahead = all-behind (HasTrueMark size words.mark) log.exposed log.ahead
-      (all-behind (HasTrueMark size words.mark) log.flushed (log.exposed ++ log.ahead) s.marks.true_marks)
+  true-ahead = all-right_of_append (HasTrueMark size words.mark) log.exposed log.ahead
+      (all-right_of_append (HasTrueMark size words.mark) log.flushed (log.exposed ++ log.ahead) s.marks.true_marks)
 
   current-now : IsCurrentMark size words.mark log.ahead words.exposed
   current-now = s.marks.current words.exposed (le_refl _) (omega (arith, s.ordered.least_ring))

@@ -7,6 +7,7 @@ use mathlib.Core.Option.{some}
 use native.Mathlib.Decide.{ℕ_discrete}
 use lib.ListN.{get_elem?}
 use Rattle.lsn_space.specs.Tiling.{IsTilingBoundary}
+use Rattle.lsn_space.proofs.TilingLemmas.{all-weaken}
 use Rattle.ring_core.specs.RingLog.{IsFull as IsFilled, released_at}
 use Rattle.ring_core.specs.State.{base_in, worked_on}
 use Rattle.slot_core.specs.State.{InRing, Works, SlotState, task_of, ring_stage}
@@ -38,7 +39,7 @@ use Rattle.log_rule.proofs.Boundaries.{range_size, part_size, boundary-mid_repla
 use Rattle.log_rule.proofs.Carriers.{carrier-set_carrying, first_ends-mid_replaced, true_ends-log_changes}
 use Rattle.log_rule.proofs.Filling.{HeldRange, range-front, held-range, ranges_of-around_held, tiles-held, filling-task_is_works, find-held_reservation, put-at, put-other}
 use Rattle.log_rule.proofs.AccountsKept.{same_books-keeps_accounts, records-mid_replaced}
-use Rattle.log_rule.proofs.Lists.{all-mid_replaced, all-middle, all-weaken, picked-append, picked-mid_replaced}
+use Rattle.log_rule.proofs.Lists.{all-mid_replaced, all-middle, picked-append, picked-mid_replaced}
 use Rattle.log_rule.proofs.Members.{KeepsView, one_step_more-keeps_seen, seen_in_group-more, keeps-view}
 use Rattle.log_rule.proofs.OwnedParts.{LastPart, own-last_part, own-last_replaced, own-mid_replaced_others, parts_of-push, duty-owed, owed-unreleased}
 use Rattle.log_rule.proofs.RangeLists.{append-assoc_four, tiles-le, tiles-split, tiles-same_base_size, tiles-all_replaced, laid-same_start_size, unreleased_in-mid_replaced, inside-starting_within, inside-starting_elsewhere, filled_in-mid_replaced, filled_in-range_of_part}

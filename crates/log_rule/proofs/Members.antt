@@ -6,6 +6,7 @@ use mathlib.Core.Logic.{dite}
 use mathlib.Core.Option.{some}
 use native.Mathlib.Decide.{dec_le}
 use lib.ListN.{get_elem?}
+use Rattle.lsn_space.proofs.TilingLemmas.{all-weaken}
 use Rattle.log_rule.specs.declared.group_view.HeardRefusal.{HeardRefusal}
 use Rattle.log_rule.specs.declared.group_view.MemberStep.{MemberStep}
 use Rattle.log_rule.specs.declared.group_view.MemberStep.TheVariants.{Closes, Waits, Hears, Places, Stores, Tells, Fills, Leaves}
@@ -26,7 +27,7 @@ use Rattle.log_rule.specs.Sound.{EachView, EachPair, IsSound}
 use Rattle.log_rule.specs.Views.{seen_tail, seen_durable, seen_exposed}
 use Rattle.log_rule.specs.Words.{Words}
 use Rattle.log_rule.proofs.Groups.{put_group-at, put_group-all, led_phase-known_phase, known_phase-equal_if_whole}
-use Rattle.log_rule.proofs.Lists.{all-weaken, or-true_right, among-first, among-more}
+use Rattle.log_rule.proofs.Lists.{or-true_right, among-first, among-more}
 use Rattle.log_rule.proofs.ViewChanges.{each_pair-set}
 
 -- ---- what a seat saw last

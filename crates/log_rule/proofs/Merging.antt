@@ -5,6 +5,7 @@ use lib.ListN.{get_elem?}
 use Rattle.atomic_table.specs.Table.{Joins}
 use Rattle.atomic_table.proofs.Lists.{at_set}
 use Rattle.lock_core.specs.History.{history_from}
+use Rattle.lsn_space.proofs.TilingLemmas.{all-weaken, all-append}
 use Rattle.log_rule.specs.declared.view.Books.{Books}
 use Rattle.log_rule.specs.Accounts.{KeepsAccounts}
 use Rattle.log_rule.specs.Books.{no_books, merging}
@@ -25,7 +26,6 @@ use Rattle.log_rule.specs.Words.{Words, words_in}
 use Rattle.log_rule.proofs.Carriers.{carrier-set, true_ends-log_changes}
 use Rattle.log_rule.proofs.CrewMerging.{has_ended-not_active, ended-unspent, other_seat-not_flusher, without, at-without, each-merged, merge-sound_crew}
 use Rattle.log_rule.proofs.AccountsKept.{books-at, books-set}
-use Rattle.log_rule.proofs.Lists.{all-append, all-weaken}
 use Rattle.log_rule.proofs.Members.{among-max, heard_of_workers-set}
 use Rattle.log_rule.proofs.Renaming.{rename, own-renamed_merged, own-renamed-from, own-renamed-else, all-renamed, laid-renamed, unreleased_in-renamed, boundary-renamed, records-renamed}
 use Rattle.log_rule.proofs.Roles.{rests_if_quiet-set}

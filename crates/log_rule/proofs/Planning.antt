@@ -5,7 +5,7 @@ use Rattle.std.specs.Prelude.{MatchBool}
 use Rattle.log_record.specs.declared.rec.Rec.{Rec}
 use Rattle.log_record.specs.declared.rec.Rec.TheVariants.{Genesis, Update, Commit, Short, Over, Note}
 use Rattle.log_record.specs.Spelling.{IsBalance}
-use Rattle.log_record.specs.declared.limits.TheConstants.{MOST_BALANCE}
+use Rattle.lsn_space.specs.declared.opening.TheConstants.{MOST_BALANCE}
 use Rattle.lock_core.specs.declared.update.Change.{Change}
 use Rattle.lock_core.specs.Records.{lowers, gain, loss}
 use Rattle.lock_core.specs.Transactions.{changes_in, has_end, touches, all_without_prev, in_order}
@@ -13,7 +13,8 @@ use Rattle.lock_core.specs.Sums.{moved}
 use Rattle.lock_core.specs.Tests.{IsPaired, IsOpposite}
 use Rattle.lock_core.specs.Alone.{lacks, overfills, after_leg, with_note, leg_updates, planned_from, planned_records}
 use Rattle.lock_core.specs.Serial.{NumberedTransfer}
-use Rattle.log_rule.proofs.Deltas.{lowers-negated, gain-negated, loss-negated, negated-twice}
+use Rattle.lock_core.proofs.Doing.{gain-negated, loss-negated}
+use Rattle.log_rule.proofs.Deltas.{lowers-negated, negated-twice}
 
 -- each record of a list has this, with the records before it, newest first, and those behind it
 abbrev pub Walk : (List Rec → Rec → List Rec → Type 0) → List Rec → List Rec → Type 0

@@ -10,6 +10,7 @@ use native.Mathlib.Decide.{ℕ_discrete, dec_lt}
 use lib.ListN.{get_elem?}
 use prog.Atomic.{either}
 use Rattle.lsn_space.specs.declared.lsn.TheConstants.{LAST}
+use Rattle.lsn_space.proofs.TilingLemmas.{all-weaken, all-both, all-append}
 use Rattle.ring_core.specs.RingLog.{end_at, end_of}
 use Rattle.ring_core.specs.State.{raises_from}
 use Rattle.slot_core.specs.State.{Raises, Holds, InRing, SlotState, with_task, task_of, ring_stage}
@@ -35,7 +36,6 @@ use Rattle.log_rule.proofs.Carriers.{carrier-set_carrying}
 use Rattle.log_rule.proofs.Exposing.{missed_raise-leads}
 use Rattle.log_rule.proofs.AccountsKept.{same_books-keeps_accounts}
 use Rattle.log_rule.proofs.Lifting.{Tells}
-use Rattle.log_rule.proofs.Lists.{all-append, all-weaken_both, all-weaken}
 use Rattle.log_rule.proofs.Loads.{exposed-boundary}
 use Rattle.log_rule.proofs.Members.{KeepsView, seen_exposed-keeps_seen, seen_in_group-more, keeps-view}
 use Rattle.log_rule.proofs.MarkLooks.{StartsAt, starts_at-reservation_found, first_released-mark_above, mark_above-first_ready}
@@ -178,7 +178,7 @@ module _ (key : Start) (words : Words) (views : List View) (me : ℕ) (v : View)
     filled = s.filled;
     below = record {
       full = s.below.full;
-      below = all-weaken_both (IsReleasedBelow words.exposed) (λ (q : Part). range.base ≤ q.entry.start → q.entry.start < range.base + range.size
+      below = all-both (IsReleasedBelow words.exposed) (λ (q : Part). range.base ≤ q.entry.start → q.entry.start < range.base + range.size
           → q.released ≡ true) (IsReleasedBelow to) log.parts
           (λ q low here lt. dite (dec_lt q.entry.start words.exposed) (λ yes'. low yes') (λ no'. here (omega (arith, tiles.0)) (omega (arith, tiles.0, end, lt))))
           s.below.below (unreleased_in_none-all_released _ _ range.base range.size log.parts s.contiguous.parts none-left);

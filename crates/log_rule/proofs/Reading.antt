@@ -3,6 +3,7 @@ use Rattle.std.proofs.Common.{◌≡◌, ℕ, ◌==◌, ◌+◌, ◌%◌, ◌<�
 use Rattle.std.specs.List.{AllByRecursion}
 use mathlib.Core.Option.{some}
 use lib.ListN.{get_elem?}
+use Rattle.lsn_space.proofs.TilingLemmas.{all-both}
 use Rattle.log_rule.specs.declared.start.Start.{Start}
 use Rattle.log_rule.specs.declared.view.Constants.{Constants}
 use Rattle.log_rule.specs.declared.view.View.{View}
@@ -17,7 +18,6 @@ use Rattle.log_rule.specs.Views.{counted, has_read, sent_to}
 use Rattle.log_rule.specs.Words.{Words, put}
 use Rattle.log_rule.proofs.AgreedUnits.{agrees-push, between_boundaries-are_entries}
 use Rattle.log_rule.proofs.Lifting.{Tells}
-use Rattle.log_rule.proofs.Lists.{all-weaken_both}
 use Rattle.log_rule.proofs.Loads.{change_sending-leads, durable-boundary, ranges_of-part_boundary}
 use Rattle.log_rule.proofs.Members.{one_step_more-keeps_seen}
 use Rattle.log_rule.proofs.ViewChanges.{each_view-set}
@@ -57,14 +57,14 @@ module _ (key : Start) (words : Words) (views : List View) (me : ℕ) (v : View)
     loaded_seen = sends.loaded_seen;
     boundary = sends.boundary;
     sent_agrees = sends.sent_agrees;
-    read_agrees = all-weaken_both (AgreesFrom words.durable v.sending.read) (StandsInRing key.ring words.durable words.ring)
+    read_agrees = all-both (AgreesFrom words.durable v.sending.read) (StandsInRing key.ring words.durable words.ring)
         (AgreesFrom words.durable read) log.parts
         (λ p old stands. agrees-push words.durable v.sending.read unit p old
         (λ i lt here. ap (λ x. words.ring (x % key.ring)) (next ∙ sym here) ∙ stands i lt (omega (arith, here)))) sends.read_agrees s.filled.stands;
   }
 
   full : AllByRecursion (λ (p : Part). p.entry.start < v.sending.exposed → IsFull p.entry) log.parts
-  full = all-weaken_both IsFullIfReleased (IsReleasedBelow words.exposed) (λ (p : Part). p.entry.start < v.sending.exposed → IsFull p.entry) log.parts
+  full = all-both IsFullIfReleased (IsReleasedBelow words.exposed) (λ (p : Part). p.entry.start < v.sending.exposed → IsFull p.entry) log.parts
       (λ p is_full below low. is_full (below (omega (arith, low, sends.loaded_seen)))) s.below.full s.below.below
 
   pub has_read-whole_entries : ReadsWholeEntries (has_read unit v)

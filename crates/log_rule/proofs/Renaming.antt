@@ -4,11 +4,11 @@ use Rattle.std.specs.List.{AllByRecursion}
 use mathlib.Core.Logic.{dite}
 use native.Mathlib.Decide.{ℕ_discrete}
 use Rattle.lsn_space.specs.Tiling.{IsTilingBoundary}
+use Rattle.lsn_space.proofs.TilingLemmas.{all-weaken}
 use Rattle.log_rule.specs.declared.view.Entry.{Entry}
 use Rattle.log_rule.specs.Log.{Part, picked, own, is_by, parts_of, Laid, unreleased_in, records_in}
 use Rattle.log_rule.specs.CrewViews.{inserted, merged_entries}
 use Rattle.log_rule.proofs.Boundaries.{part_size}
-use Rattle.log_rule.proofs.Lists.{all-weaken}
 
 abbrev pub rename_one : ℕ → ℕ → Part → Part
 rename_one from to p = record { owner = cond (p.owner == from) to p.owner; entry = p.entry; released = p.released }

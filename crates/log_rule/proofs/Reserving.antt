@@ -5,6 +5,7 @@ use mathlib.Core.Option.{some}
 use lib.ListN.{get_elem?}
 use prog.Atomic.{either}
 use Rattle.lsn_space.specs.declared.lsn.TheConstants.{LAST}
+use Rattle.lsn_space.proofs.TilingLemmas.{all-append}
 use Rattle.ring_core.specs.RingLog.{fresh}
 use Rattle.log_rule.specs.declared.start.Start.{Start}
 use Rattle.log_rule.specs.declared.view.Call.TheVariants.{Filling}
@@ -36,7 +37,6 @@ use Rattle.log_rule.specs.Books.{next_of, placing}
 use Rattle.log_rule.proofs.Entering.{may_enter-keeps_accounts, enters-spellable}
 use Rattle.log_rule.proofs.AccountsKept.{books-at, records-push, history-push, history-end}
 use Rattle.std.proofs.lemmas.List.{map-set}
-use Rattle.log_rule.proofs.Lists.{all-append}
 use Rattle.log_rule.proofs.Members.{seen_in_group-more}
 use Rattle.log_rule.proofs.OwnedParts.{own-push, own-push_others, owed-push, owed-push_others}
 use Rattle.log_rule.proofs.RangeLists.{inside-starting_within}

@@ -4,6 +4,8 @@ use Rattle.std.proofs.Common.{◌≡◌, ⊎_elim, ℕ, zero, suc, ◌+◌, ◌<
 use Rattle.std.specs.List.{AllByRecursion}
 use Rattle.std.proofs.lemmas.List.{nil_from_length}
 use Rattle.lsn_space.specs.Tiling.{IsTilingBoundary}
+use Rattle.lsn_space.proofs.TilingLemmas.{all-weaken, all-both, all-append}
+use Rattle.lsn_space.specs.Lists.{Everywhere}
 use Rattle.log_record.specs.declared.rec.Rec.{Rec}
 use Rattle.log_record.specs.declared.rec.Placed.{Placed}
 use Rattle.log_record.specs.LogList.{AreUnitsOf}
@@ -23,7 +25,7 @@ use Rattle.log_rule.specs.declared.view.Constants.{Constants}
 use Rattle.log_rule.specs.declared.view.Role.TheVariants.{Flusher}
 use Rattle.log_rule.specs.declared.view.TakenJob.{TakenJob}
 use Rattle.log_rule.specs.declared.view.View.{View}
-use Rattle.log_rule.specs.Accounts.{Everywhere, takers, HasDistinctJobs, AccountsFollowList}
+use Rattle.log_rule.specs.Accounts.{takers, HasDistinctJobs, AccountsFollowList}
 use Rattle.log_rule.specs.Books.{task_of, times_taken}
 use Rattle.log_rule.specs.Groups.{Group}
 use Rattle.log_rule.specs.Log.{Part, Laid, IsRangeBoundary, ranges_of, IsFull, IsFullIfReleased, IsReleasedBelow, IsSpelled, SpellsRecord, AgreesFrom, records_in}
@@ -36,7 +38,6 @@ use Rattle.log_rule.proofs.Bookings.{times_taken-append}
 use Rattle.log_rule.proofs.Boundaries.{part_size, boundary-start_le}
 use Rattle.log_rule.proofs.GatheredSeats.{all_jobs-partly_serial}
 use Rattle.log_rule.proofs.GroupPlacing.{records-append}
-use Rattle.log_rule.proofs.Lists.{all-append, all-weaken_both, all-weaken}
 use Rattle.log_rule.proofs.Loads.{ranges_of-part_boundary, durable-boundary}
 use Rattle.log_rule.proofs.MemberBooks.{jobs-books_in}
 
@@ -123,7 +124,7 @@ module _ (key : Start) (seat : ℕ) (view : View) (once : HoldsAtOnce key seat v
   s = once.rule
 
   full : AllByRecursion (λ (p : Part). p.entry.start < until → IsFull p.entry) once.log.parts
-  full = all-weaken_both IsFullIfReleased (IsReleasedBelow once.words.exposed) (λ (p : Part). p.entry.start < until → IsFull p.entry) once.log.parts
+  full = all-both IsFullIfReleased (IsReleasedBelow once.words.exposed) (λ (p : Part). p.entry.start < until → IsFull p.entry) once.log.parts
       (λ p is_full released low. is_full (released (omega (arith, low, below)))) s.below.full s.below.below
 
   sent : SentParts once.log.parts units
@@ -196,7 +197,7 @@ module _ (key : Start) (seat : ℕ) (view : View) (once : HoldsAtOnce key seat v
       let start : view.constants.start ≡ key.start = ap (λ (c : Constants). c.start) (once.rule.constants seat view once.own (ap is_spent flusher)) in
       spells-lawfully key seat view once (view.sending.sent ++ view.sending.read) view.sending.exposed sends.boundary
       (omega (arith, length-append view.sending.sent view.sending.read, all, start)) sends.loaded_seen
-      (all-weaken_both (AgreesFrom key.start view.sending.sent) (AgreesFrom once.words.durable view.sending.read)
+      (all-both (AgreesFrom key.start view.sending.sent) (AgreesFrom once.words.durable view.sending.read)
       (AgreesFrom key.start (view.sending.sent ++ view.sending.read)) once.log.parts
       (λ p first second. agrees-append key.start view.sending.sent view.sending.read p first
       (subst (λ n. AgreesFrom n view.sending.read p) (sym sends.sent_to) second)) sends.sent_agrees sends.read_agrees)

@@ -14,6 +14,7 @@ use Rattle.slot_core.specs.State.{SlotState, joined, group, member as machine-me
 use Rattle.slot_core.specs.Machine.{moved, group_joined}
 use Rattle.log_record.specs.Spelling.{spelling, IsSpellable}
 use Rattle.log_record.proofs.BoundLemmas.{length-spelling}
+use Rattle.lsn_space.proofs.TilingLemmas.{all-append}
 use Rattle.log_rule.specs.declared.group_view.MemberStep.{MemberStep}
 use Rattle.log_rule.specs.declared.group_view.MemberStep.TheVariants.{Closes, Waits}
 use Rattle.log_rule.specs.declared.start.Start.{Start}
@@ -41,7 +42,7 @@ use Rattle.log_rule.proofs.Entering.{enters-spellable}
 use Rattle.log_rule.proofs.Filling.{put-at, put-other}
 use Rattle.log_rule.proofs.Groups.{SameUnheard, IsUntold, Others, same_unheard-keeps, untold-knows_any_phase, untold-vacant, untold-gathering, put_group-at}
 use Rattle.log_rule.proofs.AccountsKept.{books-at}
-use Rattle.log_rule.proofs.Lists.{all-append, picked-append}
+use Rattle.log_rule.proofs.Lists.{picked-append}
 use Rattle.log_rule.proofs.Members.{KeepsMembers, one_step_more-keeps_seen}
 use Rattle.log_rule.proofs.Reserving.{spelling-some}
 use Rattle.log_rule.proofs.MachineShown.{task_of-hands_of}

@@ -8,6 +8,7 @@ use mathlib.Core.Option.{some}
 use native.Mathlib.Decide.{ℕ_discrete}
 use lib.ListN.{get_elem?}
 use Rattle.lsn_space.specs.Tiling.{IsTilingBoundary}
+use Rattle.lsn_space.proofs.TilingLemmas.{all-weaken}
 use Rattle.slot_parts.specs.Tasks.{HasDone}
 use Rattle.slot_core.specs.State.{SlotState, Membership, Group as MachineGroup, joined, membership, task_of, with_task, group_at}
 use Rattle.slot_core.specs.Machine.{after_release}
@@ -38,7 +39,7 @@ use Rattle.log_rule.proofs.Filling.{put-at, put-other}
 use Rattle.log_rule.proofs.GroupLeaving.{ToldMember, Left, left-keeps_members, picked-none_around, picked-none_front, picked-none_behind, task_in-left, group_shown-left}
 use Rattle.log_rule.proofs.Groups.{Others, HasAsBefore, as-before, put_group-at, put_group-at_equal, put_group-other, put_group-all, range_of-some_members, at_work-put_group, map-set_agreeing, groups_from-put_group, group_at-groups_from}
 use Rattle.log_rule.proofs.AccountsKept.{records-mid_replaced}
-use Rattle.log_rule.proofs.Lists.{all-mid_replaced, all-middle, all-weaken, Last, picked-last, picked-mid_replaced}
+use Rattle.log_rule.proofs.Lists.{all-mid_replaced, all-middle, Last, picked-last, picked-mid_replaced}
 use Rattle.log_rule.proofs.Members.{KeepsMembers, seen_in_group-more, heard_of_workers-set_same, loads_for_group-put_group}
 use Rattle.log_rule.proofs.OwnedParts.{LastPart, own-last_part, own-last_replaced, own-mid_replaced_others, parts_of-push}
 use Rattle.log_rule.proofs.RangeLists.{append-assoc_four, tiles-le, tiles-split, tiles-same_base_size, tiles-all_replaced, laid-same_start_size, unreleased_in-mid_replaced, inside-starting_within, inside-starting_elsewhere, filled_in-mid_replaced}

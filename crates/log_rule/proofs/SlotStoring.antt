@@ -6,6 +6,7 @@ use Rattle.std.specs.List.{AllByRecursion}
 use mathlib.Core.Option.{some}
 use lib.ListN.{get_elem?}
 use Rattle.lsn_space.specs.declared.lsn.TheConstants.{LAST}
+use Rattle.lsn_space.proofs.TilingLemmas.{all-both}
 use Rattle.slot_core.specs.State.{Hand, Task, SlotState, Group as MachineGroup, empty_group as machine-empty, joined, row_of, task_of, with_task, membership, group, group_at}
 use Rattle.slot_core.specs.Machine.{PutBase, IsMemberAt, MayPlace, closed_total, fits, after_place, after_lead, placed_group, next_phase}
 use Rattle.slot_core.proofs.Hands.{task_of-with_task_self}
@@ -32,7 +33,7 @@ use Rattle.log_rule.specs.Views.{counted}
 use Rattle.log_rule.specs.Words.{Words, put}
 use Rattle.log_rule.proofs.Filling.{put-at, put-other}
 use Rattle.log_rule.proofs.Groups.{untold-placed, untold-closed}
-use Rattle.log_rule.proofs.Lists.{all-weaken_both, all-among}
+use Rattle.log_rule.proofs.Lists.{all-among}
 use Rattle.log_rule.proofs.Members.{KeepsMembers, one_step_more-keeps_seen, keeps_seen-keeps_members, total_of_workers-new_phase}
 use Rattle.log_rule.proofs.RangeLists.{tiles-le}
 use Rattle.log_rule.proofs.SlotLeading.{Leading, joined-active, phase_led-whole_phase, slot-is_at_phase, leader_step-sound, leader_step-leads}
@@ -207,7 +208,7 @@ module _ (key : Start) (words : Words) (views : List View) (me : ℕ) (v : View)
     refusal-outcome =
         let loaded : LoadedSince may.closed v.seen (log.groups slot).members = subst (LoadsForGroup log.groups v.seen) may.places (s.loads me v at) in
         let old = s.seen me v at in let last = s.lasts me v at (ap is_spent role) in record {
-          members_seen = all-weaken_both (λ (m : Member). m.piece.tail ≤ tail) (λ (m : Member). m.piece.durable ≤ durable) (HadSeenUpTo tail durable)
+          members_seen = all-both (λ (m : Member). m.piece.tail ≤ tail) (λ (m : Member). m.piece.durable ≤ durable) (HadSeenUpTo tail durable)
               (log.groups slot).members (λ _ a b. record { tail_seen = a; durable_seen = b })
               (loaded.tail_loaded may.tail_loaded) (loaded.durable_loaded may.durable_loaded);
           is_true = record {

@@ -8,6 +8,7 @@ use lib.ListN.{get_elem?}
 use prog.Atomic.{either}
 use Rattle.lsn_space.specs.Tiling.{IsTilingBoundary}
 use Rattle.lsn_space.specs.declared.lsn.TheConstants.{LAST}
+use Rattle.lsn_space.proofs.TilingLemmas.{all-weaken, all-append}
 use Rattle.ring_core.specs.RingLog.{fresh}
 use Rattle.log_rule.specs.declared.start.Start.{Start}
 use Rattle.log_rule.specs.declared.view.Books.{Books}
@@ -29,7 +30,6 @@ use Rattle.log_rule.specs.Views.{seen_tail}
 use Rattle.log_rule.specs.Words.{Words}
 use Rattle.log_rule.proofs.Boundaries.{range_size, part_size, boundary-append, laid-end}
 use Rattle.log_rule.proofs.Carriers.{carrier-set, first_released-front, first_ends-append, true_ends-log_changes}
-use Rattle.log_rule.proofs.Lists.{all-append, all-weaken}
 use Rattle.log_rule.proofs.Loads.{tail-boundary, saw_tail_contended-step}
 use Rattle.log_rule.proofs.Members.{heard_of_workers-set_same, seen_tail-keeps_seen}
 use Rattle.log_rule.proofs.RangeLists.{tiles-le, tiles-push, tiles-within, laid-append, unreleased_in-append, unreleased_in-none_outside, filled_in-append, filled_in-apart}

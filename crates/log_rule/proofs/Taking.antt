@@ -13,13 +13,15 @@ use Rattle.lock_core.specs.Transactions.{of_transaction, recs_of, changes_in, ha
 use Rattle.lock_core.specs.Sums.{BaseState, moved}
 use Rattle.lock_core.specs.Alone.{with_note, leg_updates}
 use Rattle.lock_core.specs.Serial.{IsRunWhole, IsCutShort}
+use Rattle.lsn_space.proofs.ListLemmas.{summed-set}
+use Rattle.lsn_space.specs.Lists.{Everywhere}
 use Rattle.log_rule.specs.declared.view.TakenJob.{TakenJob}
 use Rattle.log_rule.specs.declared.view.Taken.{Taken}
 use Rattle.log_rule.specs.declared.view.Books.{Books}
 use Rattle.log_rule.specs.Books.{task_of, times_held, times_taken, taking_job, taking}
-use Rattle.log_rule.specs.Accounts.{Everywhere, IsAsTaken, MayBeTaken, HasOneHolder, HasDistinctJobs, moved_if_committed, Follows, IsUpToDate, WentBack, AccountsFollowList, KeepsAccounts}
+use Rattle.log_rule.specs.Accounts.{IsAsTaken, MayBeTaken, HasOneHolder, HasDistinctJobs, moved_if_committed, Follows, IsUpToDate, WentBack, AccountsFollowList, KeepsAccounts}
 use Rattle.log_rule.specs.Words.{put}
-use Rattle.log_rule.proofs.Bookings.{everywhere-set, summed-set, all-weaken_if_held, all-weaken_if_taken, cond-one_if_equal, cond-zero_if_unequal}
+use Rattle.log_rule.proofs.Bookings.{everywhere-set, all-weaken_if_held, all-weaken_if_taken, cond-one_if_equal, cond-zero_if_unequal}
 
 pub put-at_equal : (words : ℕ → ℕ) (account word other : ℕ) → other ≡ account → put words account word other ≡ word
 put-at_equal words account word other same = ap (λ (b : Bool). cond b word (words other)) (eq-eqb other account same)

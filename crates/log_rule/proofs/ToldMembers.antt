@@ -3,6 +3,7 @@ use Rattle.std.proofs.Common.{◌≡◌, inr, ℕ, ◌+◌, ◌/◌, ◌≤◌, 
 use Rattle.std.specs.List.{AllByRecursion}
 use mathlib.Core.Option.{some}
 use lib.ListN.{get_elem?}
+use Rattle.lsn_space.proofs.TilingLemmas.{boundary-from}
 use Rattle.log_rule.specs.declared.group_view.MemberStep.{MemberStep}
 use Rattle.log_rule.specs.declared.start.Start.{Start}
 use Rattle.log_rule.specs.declared.view.Call.TheVariants.{Joined}
@@ -12,7 +13,7 @@ use Rattle.log_rule.specs.Log.{LogRange, Claim, Log, Tiles, ranges_of, claim_of,
 use Rattle.log_rule.specs.Slots.{is_member, piece_of, own_pieces, pieces_at, shares, range_of, LiesWithin, IsTold}
 use Rattle.log_rule.specs.Sound.{HasWorkingOwner, IsSound}
 use Rattle.log_rule.specs.Words.{Words}
-use Rattle.log_rule.proofs.Boundaries.{range_size, boundary-start, boundary-prepend_tiling}
+use Rattle.log_rule.proofs.Boundaries.{range_size, boundary-prepend_tiling}
 use Rattle.log_rule.proofs.Filling.{ranges-split}
 use Rattle.log_rule.proofs.Lists.{Last, picked-last, all-middle}
 use Rattle.log_rule.proofs.RangeLists.{tiles-le, tiles-split}
@@ -36,10 +37,10 @@ range_ahead-boundaries most start tail log before behind r tiles is =
     let mid = tiles-split most start tail front behind r (subst (λ l. Tiles most start l tail) split tiles) in (
       subst (λ l. IsRangeBoundary start l (r.base + r.size)) (sym split)
           (boundary-prepend_tiling most start r.base (r.base + r.size) front (r ∷ behind) mid.0
-          (inr (boundary-start range_size (r.base + r.size) behind))),
+          (inr (boundary-from range_size (r.base + r.size) behind))),
       tiles-le most (r.base + r.size) tail behind mid.3,
       subst (λ l. IsRangeBoundary start l r.base) (sym split)
-          (boundary-prepend_tiling most start r.base r.base front (r ∷ behind) mid.0 (boundary-start range_size r.base (r ∷ behind))),
+          (boundary-prepend_tiling most start r.base r.base front (r ∷ behind) mid.0 (boundary-from range_size r.base (r ∷ behind))),
     )
 
 module _ (key : Start) (words : Words) (views : List View) (me : ℕ) (v : View) (slot : ℕ) (piece : Piece) (step : MemberStep) (log : Log)

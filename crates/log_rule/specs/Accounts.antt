@@ -1,11 +1,10 @@
 -- The account part of the rule: accounts follow the list. `words` are the accounts' words, `h` is the list that was inserted as a
 -- history, newest first, and `base` the state of the accounts before it.
-use Rattle.std.specs.Prelude.{◌≡◌, ◌&&◌, ℕ, ℤ, ◌+◌, ◌<◌, ◌≤◌, if◌then◌else◌, false, true, ◌⊎◌, List, [], ◌∷◌, ◌++◌}
+use Rattle.std.specs.Prelude.{◌≡◌, ◌&&◌, ℕ, ℤ, ◌+◌, ◌<◌, ◌≤◌, if◌then◌else◌, false, true, ◌⊎◌, List, [], ◌++◌}
 use Rattle.std.specs.List.{AllByRecursion}
-use mathlib.Core.Option.{some}
-use lib.ListN.{get_elem?}
 use Rattle.slot_word.specs.AccountWord.{held_in, balance_in, last_commit_in}
-use Rattle.log_record.specs.declared.limits.TheConstants.{MOST_ACCOUNTS}
+use Rattle.lsn_space.specs.declared.opening.TheConstants.{MOST_ACCOUNTS}
+use Rattle.lsn_space.specs.Lists.{Everywhere, summed}
 use Rattle.log_record.specs.declared.rec.Placed.{Placed}
 use Rattle.log_record.specs.Spelling.{IsTxn}
 use Rattle.lock_core.specs.Transfers.{IsAllowedJob}
@@ -20,15 +19,6 @@ use Rattle.log_rule.specs.declared.view.Taken.{Taken}
 use Rattle.log_rule.specs.declared.view.Given.{Given}
 use Rattle.log_rule.specs.declared.view.Books.{Books}
 use Rattle.log_rule.specs.Books.{task_of, times_held, times_taken, balance_taken, last_commit_taken}
-
--- each element has this
-abbrev pub Everywhere : {A : Type 0} → (A → Type 0) → List A → Type 0
-Everywhere P list = (i : ℕ) (x : _) → get_elem? list i ≡ some x → P x
-
--- the sum over all elements
-abbrev pub summed : {A : Type 0} → (A → ℕ) → List A → ℕ
-summed amount [] = 0
-summed amount (x ∷ more) = amount x + summed amount more
 
 -- how often all seats together hold the account, and took a job of this number
 abbrev pub holders : ℕ → List Books → ℕ

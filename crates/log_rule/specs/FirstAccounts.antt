@@ -1,7 +1,7 @@
 -- What a table starts with.
 use Rattle.std.specs.Prelude.{◌≡◌, ℕ, ◌+◌, ◌*◌, ◌<◌, ◌≤◌, false, List, length, slice_index}
 use Rattle.slot_word.specs.AccountWord.{packed}
-use Rattle.log_record.specs.declared.limits.TheConstants.{MOST_ACCOUNTS}
+use Rattle.lsn_space.specs.declared.opening.TheConstants.{MOST_ACCOUNTS}
 use Rattle.lock_core.specs.AccountRows.{row, AreRowsInRange}
 use Rattle.log_rule.specs.declared.layout.TheConstants.{STRIDE, RING}
 use Rattle.log_rule.specs.declared.start.Start.{Start}

@@ -1,10 +1,9 @@
 //! The words of the accounts, as they are put before a table starts and read once it is closed.
 ghost use Rattle.std.specs.Prelude.{◌≡◌, ◌≤◌, length};
-ghost use Rattle.lsn_space.specs.declared.lsn.TheConstants.{LEAST_RING, GREATEST_RING};
+ghost use Rattle.lsn_space.specs.declared.lsn.TheConstants.{LEAST_RING, GREATEST_RING, MOST_SLOTS};
 ghost use Rattle.log_rule.specs.Layout.{word_count};
-ghost use Rattle.log_rule.specs.declared.layout.TheConstants.{MOST_SLOTS};
 ghost use Rattle.log_rule.specs.FirstAccounts.{HasAccounts, PutsAccounts};
-ghost use Rattle.log_record.specs.declared.limits.TheConstants.{MOST_ACCOUNTS};
+ghost use Rattle.lsn_space.specs.declared.opening.TheConstants.{MOST_ACCOUNTS};
 ghost use Rattle.log_rule.specs.ClosedLog.{ReadsRows};
 ghost use Rattle.std.specs.Slots.{slots_len, slots_items, IsFull};
 

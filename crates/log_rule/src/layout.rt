@@ -2,16 +2,13 @@
 //! lines from one another, or more. `proofs/WordPlaces.antt` shows that no two words share a place.
 
 ghost use Rattle.std.specs.Prelude.{◌≡◌, ◌≤◌, ◌+◌, ◌*◌, ◌%◌};
-ghost use Rattle.lsn_space.specs.declared.lsn.TheConstants.{LEAST_RING, GREATEST_RING};
-ghost use Rattle.log_record.specs.declared.limits.TheConstants.{MOST_ACCOUNTS};
-ghost use Rattle.log_rule.specs.declared.layout.TheConstants.{STRIDE, RING, MOST_SLOTS};
+ghost use Rattle.lsn_space.specs.declared.lsn.TheConstants.{LEAST_RING, GREATEST_RING, MOST_SLOTS};
+ghost use Rattle.lsn_space.specs.declared.opening.TheConstants.{MOST_ACCOUNTS};
+ghost use Rattle.log_rule.specs.declared.layout.TheConstants.{STRIDE, RING};
 
 use lsn_space::{Lsn, place};
 
-/// The most slots of a table.
-pub const MOST_SLOTS: u32 = 16;
-
-/// Words from one shared word to the next, two cache lines.
+/// Words from one word to the next where they aren't packed, two cache lines.
 pub const STRIDE: usize = 16;
 
 /// The end of the last reservation. `split_seat` and `join_seat` of `atomic_table` load word 0.

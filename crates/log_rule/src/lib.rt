@@ -13,8 +13,8 @@ pub use account_words::{put_accounts, read_rows};
 pub use group_view::{After, HeardRefusal, MemberStep, Piece};
 pub use laws::sent_lawfully;
 pub use layout::{
-    CREW, DURABLE, EXPOSED, MOST_SLOTS, RING, STOP, STRIDE, TAIL, account_place, base_place,
-    fixed_layout, mark_place, slot_place,
+    CREW, DURABLE, EXPOSED, RING, STOP, STRIDE, TAIL, account_place, base_place, fixed_layout,
+    mark_place, slot_place,
 };
 pub use start::Start;
 pub use view::{

@@ -10,6 +10,7 @@ use Rattle.log_rule.specs.declared.view.Sending.{Sending}
 use Rattle.log_rule.specs.declared.view.View.{View}
 use Rattle.log_rule.specs.Books.{merging, no_books}
 use Rattle.log_rule.specs.CrewViews.{enrolled, hired, hires, noted, takes_in}
+use Rattle.log_rule.proofs.Lists.{or-true_right}
 use Rattle.log_table.specs.HiredWorkers.{hired_numbers, KnowsHired}
 
 -- a number is not among those below it
@@ -17,10 +18,6 @@ pub hired_numbers-lacks : (n number : ℕ) → n ≤ number → list_any (eqb nu
 hired_numbers-lacks zero number above = refl
 hired_numbers-lacks (suc n) number above =
     (λ i. ne_eqb number n (λ e. absurd (omega arith)) i || hired_numbers-lacks n number (omega arith) i)
-
-or-true : (b c : Bool) → c ≡ true → (b || c) ≡ true
-or-true true c is = refl
-or-true false c is = is
 
 true-or : (b c : Bool) → b ≡ true → (b || c) ≡ true
 true-or b c is = ap (λ x. x || c) is
@@ -30,7 +27,7 @@ knows-push enrolled number worker knows = list_any-append (eqb worker) enrolled 
 
 knows-last : (enrolled : List ℕ) (number : ℕ) → list_any (eqb number) (enrolled ++ number ∷ []) ≡ true
 knows-last enrolled number =
-    list_any-append (eqb number) enrolled (number ∷ []) ∙ or-true _ _ (true-or _ _ (eq-eqb number number refl))
+    list_any-append (eqb number) enrolled (number ∷ []) ∙ or-true_right _ _ (true-or _ _ (eq-eqb number number refl))
 
 knows_all-push : (enrolled made : List ℕ) (number : ℕ) → list_all (λ worker. list_any (eqb worker) enrolled) made ≡ true
     → list_all (λ worker. list_any (eqb worker) (enrolled ++ number ∷ [])) made ≡ true

@@ -44,3 +44,12 @@ pub at_once-becomes : (key : Start) (old new : Seat) (view : View) → Becomes o
     → HoldsAtOnce key (number_of new) (view_of new)
 at_once-becomes key old new view becomes = subst (λ (who : ℕ × View). HoldsAtOnce key who.0 who.1)
     (λ i. (sym becomes.number i, sym (ap (λ m. m.0) becomes.me) i))
+
+-- one step after another
+pub Becomes-trans : (a b c : Seat) (view : View) (f : View → View) → Becomes a b view → Becomes b c (f (view_of b)) → Becomes a c (f view)
+Becomes-trans a b c view f first second = record {
+  table_is = second.table_is ∙ first.table_is;
+  number = second.number ∙ first.number;
+  me = second.me ∙ ap (λ m. (f m.0, m.1)) first.me;
+  worker = second.worker ∙ first.worker;
+}

@@ -1,6 +1,6 @@
 //! The end of a table, when all workers have ended and were merged.
 ghost use Rattle.std.specs.Prelude.{◌≡◌, ◌<◌, ◌≤◌, length};
-ghost use Rattle.lsn_space.specs.declared.lsn.TheConstants.{GREATEST_RING};
+ghost use Rattle.lsn_space.specs.declared.lsn.TheConstants.{GREATEST_RING, MOST_SLOTS};
 ghost use Rattle.lock_core.specs.AccountRows.{row};
 ghost use Rattle.log_rule.specs.ClosedLog.{HasHeardOfWorkers, IsGathered, HasLedger, in_use};
 ghost use Rattle.log_rule.specs.May.{MayClose};
@@ -8,7 +8,6 @@ ghost use Rattle.log_table.specs.Seats.{IsOf, view_of, key_of};
 ghost use Rattle.log_rule.specs.Sound.{base_of};
 ghost use Rattle.std.specs.Slots.{slots_len, slots_items, IsFull};
 ghost use Rattle.log_rule.specs.Layout.{word_count};
-ghost use Rattle.log_rule.specs.declared.layout.TheConstants.{MOST_SLOTS};
 
 use crate::table::{LogTable, Seat};
 use log_rule::{EXPOSED, TAIL, read_rows, slot_place};

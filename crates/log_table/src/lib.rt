@@ -12,7 +12,7 @@ mod table;
 
 pub use closed::Closed;
 pub use log_rule::{
-    After, Books, Call, Constants, Entry, Given, HeardRefusal, MOST_SLOTS, MemberStep, Piece, Role,
-    Seen, Sending, Standing, Start, Taken, TakenJob, View, fixed_layout,
+    After, Books, Call, Constants, Entry, Given, HeardRefusal, MemberStep, Piece, Role, Seen,
+    Sending, Standing, Start, Taken, TakenJob, View, fixed_layout,
 };
 pub use table::{LogTable, Seat};

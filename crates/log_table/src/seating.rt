@@ -1,7 +1,6 @@
 //! Seats are made, and taken in again.
 ghost use Rattle.std.specs.Prelude.{◌≡◌, ◌≤◌, ◌^◌, ℕ, length, IfOk, false};
-ghost use Rattle.lsn_space.specs.declared.lsn.TheConstants.{LEAST_RING, GREATEST_RING};
-ghost use Rattle.log_rule.specs.declared.layout.TheConstants.{MOST_SLOTS};
+ghost use Rattle.lsn_space.specs.declared.lsn.TheConstants.{LEAST_RING, GREATEST_RING, MOST_SLOTS};
 ghost use Rattle.log_rule.specs.May.{MaySplit, MayMerge};
 ghost use Rattle.log_rule.specs.FirstAccounts.{HasAccounts};
 ghost use Rattle.log_table.specs.Seats.{IsOf, Becomes, view_of, key_of};

@@ -1,11 +1,9 @@
 //! The table, its rule, and a seat of it.
 ghost use Rattle.std.specs.Prelude.{◌≡◌, ◌≤◌, length};
-ghost use Rattle.lsn_space.specs.declared.lsn.TheConstants.{LEAST_RING, GREATEST_RING};
-ghost use Rattle.log_record.specs.declared.limits.TheConstants.{MOST_ACCOUNTS};
+ghost use Rattle.lsn_space.specs.declared.lsn.TheConstants.{LEAST_RING, GREATEST_RING, MOST_SLOTS};
+ghost use Rattle.lsn_space.specs.declared.opening.TheConstants.{MOST_ACCOUNTS};
 ghost use Rattle.log_rule.specs.Layout.{word_count};
-ghost use Rattle.log_rule.specs.declared.layout.TheConstants.{MOST_SLOTS};
 ghost use Rattle.log_rule.specs.FirstAccounts.{HasAccounts};
-ghost use Rattle.log_rule.specs.Views.{constants_of};
 
 use atomic_table::{Table, TableRule};
 use log_rule::{Start, View};

@@ -1,1 +1,3 @@
+pub mod ListLemmas
 pub mod TilingLemmas
+pub mod UnitLemmas

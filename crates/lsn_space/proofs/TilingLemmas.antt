@@ -57,6 +57,10 @@ module _ {A : Type 0} where
   all-map P f [] all = tt
   all-map P f (x ∷ xs) all = (all.0, all-map P f xs all.1)
 
+  pub all-append : (P : A → Type 0) (xs ys : List A) → AllByRecursion P xs → AllByRecursion P ys → AllByRecursion P (xs ++ ys)
+  all-append P [] ys first second = second
+  all-append P (x ∷ xs) ys first second = (first.0, all-append P xs ys first.1 second)
+
   pub all-push : (P : A → Type 0) (xs : List A) (x : A) → AllByRecursion P xs → P x → AllByRecursion P (xs ++ x ∷ [])
   all-push P [] x all last = (last, tt)
   all-push P (y ∷ ys) x all last = (all.0, all-push P ys x all.1 last)

@@ -1,4 +1,5 @@
 pub mod Accounts
+pub mod Lists
 pub mod Number
 pub mod Opening
 pub mod Tiling

@@ -11,9 +11,9 @@ mod unit;
 mod word;
 
 pub use balances::Balances;
-pub use lsn::{GREATEST_RING, LAST, LEAST_RING, Lsn, format_numbers, place};
+pub use lsn::{GREATEST_RING, LAST, LEAST_RING, Lsn, MOST_SLOTS, format_numbers, place};
 pub use memory::NoMemory;
 pub use numerals::{MOST_GENERATED, decimal, number};
 pub use opening::{MOST_ACCOUNTS, MOST_BALANCE, Opening};
-pub use unit::{bytes_of, unit_bytes_inverse, unit_of};
+pub use unit::{UNIT_BYTES, bytes_of, unit_bytes_inverse, unit_of};
 pub use word::Word;

@@ -4,6 +4,9 @@ ghost use Rattle.lsn_space.specs.Unit.{unit_value, unit_bytes};
 
 use byteorder::{BigEndian, ByteOrder};
 
+/// The bytes of a unit.
+pub const UNIT_BYTES: usize = 8;
+
 /// The unit that eight bytes stand for, the highest byte first.
 pub fn unit_of(bytes: [u8; 8]) -> u64
     ensures { result ≡ unit_value bytes }

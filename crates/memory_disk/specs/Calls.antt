@@ -1,5 +1,5 @@
 -- What a call of the disk in memory does, and what is made of one.
-use Rattle.std.specs.Prelude.{◌≡◌, ◌≤◌, ◌↔◌, ⊤, ℕ, ◌+◌, List, [], length, Option, None, Result, IsErr}
+use Rattle.std.specs.Prelude.{◌≡◌, ◌≤◌, ◌↔◌, ⊤, ℕ, ◌+◌, List, [], length, None, Result, IsErr}
 use Rattle.log_disk.specs.Disk.{Elapses, IsOnlyImage, IsTorn, Keeps, MayBeTorn}
 use Rattle.log_disk.specs.Faults.{HasCause, raised}
 use Rattle.memory_disk.specs.History.{file_at_sync, Images, Lands}

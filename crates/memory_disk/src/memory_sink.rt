@@ -1,5 +1,5 @@
 //! The sink in memory.
-ghost use Rattle.std.specs.Prelude.{◌≡◌, ◌<◌, ◌≤◌, ◌-◌, ◌↔◌, [], min, length, IsErr, IfOk, OnOk, Some};
+ghost use Rattle.std.specs.Prelude.{◌≡◌, ◌<◌, ◌≤◌, ◌-◌, ◌↔◌, [], min, length, IsErr, IfOk, Some};
 ghost use Rattle.std.specs.Io.KnownBytes.{WriteAppends};
 ghost use Rattle.log_disk.specs.Faults.{HasCause, raised};
 ghost use Rattle.memory_disk.specs.Memory.{WriteFails};

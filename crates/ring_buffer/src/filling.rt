@@ -1,5 +1,5 @@
 //! A range is filled.
-ghost use Rattle.std.specs.Prelude.{◌≡◌, ◌+◌, length};
+ghost use Rattle.std.specs.Prelude.{◌≡◌, ◌+◌};
 ghost use Rattle.log_table.specs.Seats.{IsOf, Becomes, view_of};
 ghost use Rattle.ring_buffer.specs.Calls.{HasReserved, with_units};
 

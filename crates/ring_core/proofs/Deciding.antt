@@ -10,44 +10,44 @@ use Rattle.ring_core.specs.RingLog.{size_of, Reservation, RingLog, HasRoom, HasU
 use Rattle.ring_core.specs.State.{Stage, Idle, Works, Marked, Holds, Raises, RingState, log_of, stage_of, looks_at, raises_from, in_hand}
 use Rattle.ring_core.specs.Machine.{MayReserve, IsEnabled, state_after, RingStep, RunsRing}
 
-abbrev IsDecided : Type 0 → Type 0
+abbrev pub IsDecided : Type 0 → Type 0
 IsDecided A = A ⊎ (¬ A)
 
 module _ {A B : Type 0} where
-  decided-both : IsDecided A → IsDecided B → IsDecided (A × B)
+  pub decided-both : IsDecided A → IsDecided B → IsDecided (A × B)
   decided-both a b = ⊎_elim (λ yes. ⊎_elim (λ also. inl (yes, also)) (λ no_b. inr (λ both. no_b both.1)) b) (λ no_a. inr (λ both. no_a both.0)) a
 
-  decided-either : IsDecided A → IsDecided B → IsDecided (A ⊎ B)
+  pub decided-either : IsDecided A → IsDecided B → IsDecided (A ⊎ B)
   decided-either a b = ⊎_elim (λ yes. inl (inl yes)) (λ no_a. ⊎_elim (λ also. inl (inr also)) (λ no_b. inr (λ either. ⊎_elim no_a no_b either)) b) a
 
-  decided-same : (A → B) → (B → A) → IsDecided A → IsDecided B
+  pub decided-same : (A → B) → (B → A) → IsDecided A → IsDecided B
   decided-same to back a = ⊎_elim (λ yes. inl (to yes)) (λ no_a. inr (λ b. no_a (back b))) a
 
-eq-decided : (m n : ℕ) → IsDecided (m ≡ n)
+pub eq-decided : (m n : ℕ) → IsDecided (m ≡ n)
 eq-decided m n = ⊎_elim (λ yes. inl yes.1) (λ no_eq. inr no_eq.1) (eqb_tells m n)
 
-le-decided : (m n : ℕ) → IsDecided (m ≤ n)
+pub le-decided : (m n : ℕ) → IsDecided (m ≤ n)
 le-decided m n = ⊎_elim (λ yes. inl yes.1) (λ above. inr (λ le. omega (arith, above.1, le))) (leb_tells m n)
 
-idle-decided : (stage : Stage) → IsDecided (stage ≡ Idle)
+pub idle-decided : (stage : Stage) → IsDecided (stage ≡ Idle)
 idle-decided Idle = inl refl
 idle-decided (Works base) = inr (λ is. cc)
 idle-decided Marked = inr (λ is. cc)
 idle-decided (Holds at) = inr (λ is. cc)
 idle-decided (Raises at) = inr (λ is. cc)
 
-mark-decided : (stage : Stage) → IsDecided (stage ≡ Marked)
-mark-decided Idle = inr (λ is. cc)
-mark-decided (Works base) = inr (λ is. cc)
-mark-decided Marked = inl refl
-mark-decided (Holds at) = inr (λ is. cc)
-mark-decided (Raises at) = inr (λ is. cc)
+pub marked-decided : (stage : Stage) → IsDecided (stage ≡ Marked)
+marked-decided Idle = inr (λ is. cc)
+marked-decided (Works base) = inr (λ is. cc)
+marked-decided Marked = inl refl
+marked-decided (Holds at) = inr (λ is. cc)
+marked-decided (Raises at) = inr (λ is. cc)
 
 some-decided : (o : Option ℕ) → IsDecided (IsSome o)
 some-decided None = inr (λ is. true≢false (sym is))
 some-decided (Some n) = inl refl
 
-boundary-decided : (from : ℕ) (rs : List Reservation) (to : ℕ) → IsDecided (IsTilingBoundary size_of from rs to)
+pub boundary-decided : (from : ℕ) (rs : List Reservation) (to : ℕ) → IsDecided (IsTilingBoundary size_of from rs to)
 boundary-decided from [] to = eq-decided to from
 boundary-decided from (r ∷ rs) to = decided-either (eq-decided to from) (boundary-decided (from + r.size) rs to)
 
@@ -76,7 +76,7 @@ pub enabled-decided : (s : RingState) (event : RingEvent) → IsDecided (IsEnabl
 enabled-decided s (Reserve actor n) = reserve-decided s actor n
 enabled-decided s (Fill actor) = some_and-decided HasUnfilled (in_hand s actor) (λ r. decided-same (λ le. omega (arith, le)) (λ lt. omega (arith, lt)) (le-decided (r.filled + 1) r.size))
 enabled-decided s (Mark actor) = some_and-decided IsFull (in_hand s actor) (λ r. eq-decided r.filled r.size)
-enabled-decided s (LookExposed actor) = mark-decided (stage_of actor s.hands)
+enabled-decided s (LookExposed actor) = marked-decided (stage_of actor s.hands)
 enabled-decided s (LookMark actor) = some-decided (looks_at (stage_of actor s.hands))
 enabled-decided s (Raise actor) = some-decided (raises_from (stage_of actor s.hands))
 enabled-decided s (Flushed to) = flush-decided (log_of s) to

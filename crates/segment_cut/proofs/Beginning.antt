@@ -1,5 +1,5 @@
 -- A head that was written behind the closed first gate of a disk without a log.
-use Rattle.std.proofs.Common.{◌≡◌, ◌≤◌, ◌∙◌, ap, ℕ, ◌+◌, ◌*◌, List, [], length, Result, Ok, Err, IfOk, arith}
+use Rattle.std.proofs.Common.{◌≡◌, ◌∙◌, ap, ◌+◌, ◌*◌, [], length, Result, Ok, Err, IfOk, arith}
 use Rattle.log_disk.specs.Calls.{Uses}
 use Rattle.log_disk.specs.Disk.{put, Leaves}
 use Rattle.log_disk.specs.Faults.{raised, Rose}

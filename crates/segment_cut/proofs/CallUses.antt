@@ -1,5 +1,5 @@
 -- What a call uses of a disk, where an inner call failed or was the last one.
-use Rattle.std.proofs.Common.{◌≡◌, ◌≤◌, ℕ, Result, Ok, Err, arith}
+use Rattle.std.proofs.Common.{◌≡◌, ◌≤◌, ℕ, Result, Ok, Err}
 use Rattle.log_disk.specs.Calls.{Uses}
 use Rattle.log_disk.specs.Faults.{Rose}
 use Rattle.log_disk.specs.declared.disk.LogDisk.{Ghosts}

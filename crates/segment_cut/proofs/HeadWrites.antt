@@ -1,5 +1,5 @@
 -- A head that is written behind the closed first gate, which is then opened.
-use Rattle.std.proofs.Common.{◌≡◌, ◌≤◌, refl, ℕ, ◌+◌, ◌*◌, List, [], ◌∷◌, length, Result, Ok, Err, IfOk, OnOk, arith}
+use Rattle.std.proofs.Common.{◌≡◌, refl, ℕ, ◌+◌, ◌*◌, [], ◌∷◌, length, Result, Ok, Err, IfOk, OnOk, arith}
 use Rattle.log_disk.specs.Calls.{Uses}
 use Rattle.log_disk.specs.Disk.{put, IsOnlyImage, Leaves}
 use Rattle.log_disk.specs.Faults.{Rose}

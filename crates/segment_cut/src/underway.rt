@@ -12,12 +12,9 @@ ghost use Rattle.segment_cut.specs.Calls.{AddsCut, BeginsCut, IsOnDisk, OpensCut
 use log_disk::LogDisk;
 use lsn_space::Lsn;
 use segment_file::{
-    Batch, DiskFault, Tail, close_gate, write_opened, write_synced, write_unsynced,
+    Batch, DiskFault, OPEN, Tail, close_gate, write_opened, write_synced, write_unsynced,
 };
 use segment_head::Head;
-
-/// The byte of an open gate.
-const OPEN: u8 = 0x4f;
 
 /// Closes the first gate of a disk without a log, and writes the head and the next gate, closed, behind it. Until
 /// `open_cut` a crash leaves no log.

@@ -1,16 +1,12 @@
 -- The bytes of batches.
-use Rattle.std.proofs.Common.{◌≡◌, ◌≤◌, ◌∙◌, ap, refl, ℕ, ◌+◌, ◌*◌, List, [], ◌∷◌, ◌++◌, length, get_or, arith, length-append}
+use Rattle.std.proofs.Common.{◌≡◌, ◌≤◌, ◌∙◌, ap, ℕ, ◌+◌, ◌*◌, List, [], ◌∷◌, ◌++◌, length, get_or, arith, length-append}
 use Rattle.std.specs.List.{flat_map}
 use Rattle.std.specs.Int.{w32, to_be_bytes, from_be_bytes}
 use Rattle.std.proofs.lemmas.Nat.{from_be_bytes-to_be_bytes_4}
 use Rattle.lsn_space.specs.Unit.{unit_bytes}
+use Rattle.lsn_space.proofs.UnitLemmas.{length-unit_bytes}
 use Rattle.segment_file.specs.declared.layout.TheConstants.{MOST_UNITS}
 use Rattle.segment_file.specs.File.{batch}
-
--- a unit takes eight bytes
-pub length-unit_bytes : (units : List ℕ) → length (flat_map unit_bytes units) ≡ 8 * length units
-length-unit_bytes [] = refl
-length-unit_bytes (unit ∷ units) = omega (arith, length-unit_bytes units)
 
 -- the number in the first four bytes
 abbrev pub count_at : List ℕ → ℕ

@@ -1,15 +1,10 @@
 -- The bytes of a file, batch by batch.
-use Rattle.std.proofs.Common.{◌≡◌, ◌<◌, ◌∙◌, sym, ap, refl, ℕ, List, [], ◌∷◌, ◌++◌, length, drop, arith, append_assoc, subst}
+use Rattle.std.proofs.Common.{◌≡◌, ◌<◌, ◌∙◌, sym, ap, refl, ℕ, List, [], ◌∷◌, ◌++◌, length, arith, append_assoc, subst}
 use Rattle.std.specs.List.{flat_map, AllByRecursion}
 use Rattle.std.proofs.lemmas.List.{append-nil}
 use Rattle.std.proofs.lemmas.List.Concat.{flat_map-append}
-use Rattle.std.proofs.Math.Seq.{drop-append_seam}
 use Rattle.segment_file.specs.declared.layout.TheConstants.{OPEN}
 use Rattle.segment_file.specs.File.{gated, joined, IsCountedBatch, BeginsOpen}
-
--- what follows the same front is the same
-pub append-cancel_left : (front xs ys : List ℕ) → front ++ xs ≡ front ++ ys → xs ≡ ys
-append-cancel_left front xs ys same = sym (drop-append_seam front xs) ∙ ap (drop (length front)) same ∙ drop-append_seam front ys
 
 -- one more batch stands behind its gate
 pub gated-push : (read : List (List ℕ)) (units : List ℕ) → flat_map gated (read ++ units ∷ []) ≡ flat_map gated read ++ gated units

@@ -1,5 +1,5 @@
 -- A gate that is closed for good, and what a call does that closes one first.
-use Rattle.std.proofs.Common.{◌≡◌, ◌≤◌, ◌∙◌, ◌↔◌, ap, refl, ℕ, ◌+◌, ◌*◌, List, Result, Ok, IsErrAnd, length, arith}
+use Rattle.std.proofs.Common.{◌≡◌, ◌∙◌, ◌↔◌, ap, refl, ◌+◌, ◌*◌, Result, Ok, IsErrAnd, length, arith}
 use Rattle.std.proofs.lemmas.Result.{err_from_is_err_and}
 use Rattle.log_disk.specs.Disk.{IsOnlyImage, Leaves}
 use Rattle.log_disk.specs.Faults.{raised, Rose}

@@ -1,5 +1,5 @@
 -- A body that is written behind a gate, and then the gate's byte: what the two writes do together.
-use Rattle.std.proofs.Common.{◌≡◌, ◌≤◌, ◌∙◌, inl, inr, subst, ℕ, ◌+◌, List, [], ◌∷◌, Result, IsErrAnd, OnOk, arith}
+use Rattle.std.proofs.Common.{◌≡◌, ◌∙◌, inl, inr, subst, ℕ, ◌+◌, List, [], ◌∷◌, Result, IsErrAnd, OnOk, arith}
 use Rattle.std.proofs.lemmas.Result.{err_from_is_err_and}
 use Rattle.log_disk.specs.Disk.{put, IsOnlyImage, IsTorn}
 use Rattle.log_disk.specs.Faults.{Rose}

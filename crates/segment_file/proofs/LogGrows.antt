@@ -1,5 +1,5 @@
 -- A batch that was written behind the gate at the tail, and the answer where the log then goes on.
-use Rattle.std.proofs.Common.{◌≡◌, subst, ℕ, ◌+◌, ◌*◌, length, refl, Result, Ok, IsErrAnd, arith}
+use Rattle.std.proofs.Common.{◌≡◌, refl, Result, Ok, IsErrAnd, arith}
 use Rattle.std.proofs.lemmas.Result.{err_from_is_err_and}
 use Rattle.log_disk.specs.Disk.{IsOnlyImage}
 use Rattle.log_disk.specs.Faults.{Rose}

@@ -5,6 +5,7 @@ use Rattle.std.proofs.Props.{props}
 use mathlib.Core.HLevel.{is_prop→PathP, ×_prop}
 use Rattle.std.proofs.lemmas.List.Concat.{flat_map-append}
 use Rattle.std.proofs.lemmas.Nat.{from_be_bytes-to_be_bytes_8}
+use Rattle.std.proofs.lemmas.List.{append_cancel_left}
 use Rattle.lsn_space.specs.declared.lsn.TheConstants.{LAST}
 use Rattle.lsn_space.specs.Opening.{Opening, no_opening, IsSnapshot}
 use Rattle.lsn_space.specs.Unit.{unit_bytes, unit_value}
@@ -17,7 +18,7 @@ use Rattle.segment_file.specs.StandingLog.{LogStandsAt}
 use Rattle.segment_file.specs.declared.scan_result.Tail.{Tail}
 use Rattle.segment_file.proofs.BatchLemmas.{count_at-batch}
 use Rattle.segment_file.proofs.FirstFormat.{HoldsUnits-HoldsLog}
-use Rattle.segment_file.proofs.FileLemmas.{append-cancel_left, open_byte-begins_open}
+use Rattle.segment_file.proofs.FileLemmas.{open_byte-begins_open}
 
 -- units that stand at the same place are the same
 same_units : (us vs x y : List ℕ) → AreUnits us → AreUnits vs → length us ≡ length vs
@@ -38,7 +39,7 @@ unfolding batch
 same_batch us vs x y is_us is_vs same =
     let long : length us ≡ length vs = sym (count_at-batch (batch us ++ x) us x is_us.most refl) ∙ count_at-batch (batch us ++ x) vs y is_vs.most same in
     let units : us ≡ vs = same_units us vs x y is_us.each is_vs.each long (ap (drop 4) same) in
-    (units, append-cancel_left (batch vs) x y (subst (λ ws. batch ws ++ x ≡ batch vs ++ y) units same))
+    (units, append_cancel_left (batch vs) x y (subst (λ ws. batch ws ++ x ≡ batch vs ++ y) units same))
 
 -- two lists of batches in front of the same bytes: they are the same, or one begins with the other
 data Aligned (bs cs : List (List ℕ)) (x y : List ℕ) : Type 0 where
@@ -115,7 +116,7 @@ rest-next bs cs later c x y is whole =
     let split : flat_map gated (bs ++ c ∷ later) ++ y ≡ flat_map gated bs ++ (gated c ++ (flat_map gated later ++ y)) =
     ap (λ bytes. bytes ++ y) (flat_map-append gated bs (c ∷ later)) ∙ append_assoc (flat_map gated bs) (gated c ++ flat_map gated later) y
     ∙ ap (λ bytes. flat_map gated bs ++ bytes) (append_assoc (gated c) (flat_map gated later) y) in
-    append-cancel_left (flat_map gated bs) _ _ (whole ∙ ap (λ list. flat_map gated list ++ y) is ∙ split)
+    append_cancel_left (flat_map gated bs) _ _ (whole ∙ ap (λ list. flat_map gated list ++ y) is ∙ split)
 
 -- what follows the front
 behind-front : (bytes : List ℕ) (log : Log) (rest : List ℕ) (reads : ReadsTo bytes log rest) → bytes ≡ reads.front ++ (flat_map gated reads.batches ++ rest)

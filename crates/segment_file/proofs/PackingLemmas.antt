@@ -6,11 +6,11 @@ use Rattle.std.proofs.Math.Seq.{take-append_seam}
 use Rattle.std.proofs.lemmas.Nat.{from_be_bytes-to_be_bytes_8}
 use Rattle.std.proofs.lemmas.List.Concat.{flat_map-append}
 use Rattle.lsn_space.specs.Unit.{unit_bytes}
+use Rattle.lsn_space.proofs.UnitLemmas.{length-unit_bytes}
 use Rattle.segment_file.specs.declared.layout.TheConstants.{OPEN, CLOSED, MOST_UNITS}
 use Rattle.segment_file.specs.File.{magic, batch, AreUnits, IsCountedBatch}
 use Rattle.segment_file.specs.Gates.{sealed}
 use Rattle.segment_file.specs.PackedBatch.{BatchState, units_in, IsPacked}
-use Rattle.segment_file.proofs.BatchLemmas.{length-unit_bytes}
 
 units_in-unit_bytes : (units : List ℕ) → AreUnits units → units_in (flat_map unit_bytes units) ≡ units
 unfolding units_in

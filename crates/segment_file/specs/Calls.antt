@@ -1,6 +1,6 @@
 -- What the calls of this crate do that only look at a disk, or write bytes at a place. `g` is what a disk shows;
 -- `old` and `new` are the disk before and after.
-use Rattle.std.specs.Prelude.{◌≡◌, ◌≤◌, ◌↔◌, ℕ, ◌+◌, ◌*◌, List, [], ◌∷◌, length, max, Bool, IsTrue, Result, IfOk, OnOk}
+use Rattle.std.specs.Prelude.{◌≡◌, ◌≤◌, ◌↔◌, ℕ, ◌+◌, ◌*◌, List, [], ◌∷◌, length, Bool, IsTrue, Result, IfOk, OnOk}
 use Rattle.log_disk.specs.Costs.{Costs}
 use Rattle.log_disk.specs.Disk.{put, Elapses, IsOnlyImage, IsTorn, Keeps, Leaves, MayBeTorn}
 use Rattle.log_disk.specs.Faults.{HasCause}

@@ -1,6 +1,6 @@
 -- What the calls that open, make, settle and lengthen a log do. `g` is what a disk shows; `old` and `new` are the disk
 -- before and after; `given` is the batch, and `left` is the batch afterwards.
-use Rattle.std.specs.Prelude.{◌≡◌, ◌≤◌, ◌⊎◌, ◌↔◌, ℕ, ◌+◌, ◌*◌, List, [], ◌∷◌, length, max, Result, IfOk, OnOk, IsErrOf}
+use Rattle.std.specs.Prelude.{◌≡◌, ◌≤◌, ◌⊎◌, ◌↔◌, ℕ, ◌+◌, ◌*◌, List, [], ◌∷◌, length, Result, IfOk, OnOk, IsErrOf}
 use Rattle.log_disk.specs.Costs.{Costs}
 use Rattle.log_disk.specs.Disk.{put, IsOnlyImage, Keeps, Leaves}
 use Rattle.log_disk.specs.Faults.{CountsWhere, HasCause}

@@ -6,8 +6,8 @@ ghost use Rattle.lsn_space.specs.Unit.{unit_bytes};
 ghost use Rattle.segment_file.specs.declared.layout.TheConstants.{HEAD};
 ghost use Rattle.segment_file.specs.File.{magic};
 
-use crate::layout::{HEAD, LAST_OF_MAGIC, MAGIC, UNIT};
-use lsn_space::{NoMemory, bytes_of};
+use crate::layout::{HEAD, LAST_OF_MAGIC, MAGIC};
+use lsn_space::{NoMemory, UNIT_BYTES, bytes_of};
 use segment_head::first_unit;
 use std::alloc::Global;
 use std::marker::Model;
@@ -38,7 +38,7 @@ impl Batch {
     pub fn make(alloc: Global, units: u32) -> Result<Batch, NoMemory>
         ensures { IfOk result (λ batch. (batch.units ≡ []) × (batch.room ≡ units)) }
     {
-        let bytes = head(alloc, HEAD + 2 + UNIT * units as usize)?;
+        let bytes = head(alloc, HEAD + 2 + UNIT_BYTES * units as usize)?;
         Ok(Batch { bytes, room: units })
     }
 
@@ -61,7 +61,7 @@ impl Batch {
     pub fn count(&self) -> u32
         ensures { result ≡ length self.now.units }
     {
-        ((self.bytes.len() - HEAD) / UNIT) as u32
+        ((self.bytes.len() - HEAD) / UNIT_BYTES) as u32
     }
 
     /// The unit at that index, from 0.
@@ -72,7 +72,7 @@ impl Batch {
         let rest = self
             .bytes
             .as_slice()
-            .split_at(HEAD + UNIT * index as usize)
+            .split_at(HEAD + UNIT_BYTES * index as usize)
             .1;
         match first_unit(rest) {
             Some((unit, _)) => unit,

@@ -14,9 +14,6 @@ pub const MAGIC: usize = 7;
 /// The index of the last among them.
 pub const LAST_OF_MAGIC: usize = 6;
 
-/// The bytes of a unit.
-pub const UNIT: usize = 8;
-
 /// The magic bytes and a count, which stand before a file's first units.
 pub const HEAD: usize = 11;
 

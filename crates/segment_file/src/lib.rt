@@ -25,7 +25,7 @@ pub use first_gate::has_open_gate;
 pub use front::{Front, take_front};
 pub use gate::after_gate;
 pub use gated_write::{DiskFault, write_gated, write_synced, write_unsynced};
-pub use layout::{MOST_UNITS, format_numbers};
+pub use layout::{MOST_UNITS, OPEN, format_numbers};
 pub use opened_write::write_opened;
 pub use opening::{OpenFault, open_image};
 pub use scan_result::{Scan, ScanFault, Tail};

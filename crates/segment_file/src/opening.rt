@@ -1,6 +1,6 @@
 //! All bytes of a disk, read after a sync.
 
-ghost use Rattle.std.specs.Prelude.{◌≡◌, ◌≤◌, ◌<◌, ◌+◌, ◌++◌, ◌↔◌, [], List, ℕ, length, take, IfOk, OnOk, IsErrOf};
+ghost use Rattle.std.specs.Prelude.{◌≡◌, ◌≤◌, ◌<◌, ◌+◌, ◌++◌, ◌↔◌, [], length, take, IfOk, OnOk, IsErrOf};
 ghost use Rattle.log_disk.specs.Calls.{Settles, Uses};
 ghost use Rattle.log_disk.specs.Faults.{CountsWhere};
 ghost use Rattle.log_disk.specs.Disk.{Keeps, Leaves};

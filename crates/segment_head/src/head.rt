@@ -1,5 +1,5 @@
 //! The bytes of a head, as they go to the disk.
-ghost use Rattle.std.specs.Prelude.{◌≡◌, ◌++◌, ◌∷◌, [], IfOk, OnOk, length};
+ghost use Rattle.std.specs.Prelude.{◌≡◌, ◌++◌, IfOk, OnOk};
 ghost use Rattle.std.specs.List.{flat_map};
 ghost use Rattle.lsn_space.specs.Opening.{Opening, IsSnapshot};
 ghost use Rattle.segment_head.specs.declared.head.TheConstants.{FIRST_GATE, NEXT_GATE};

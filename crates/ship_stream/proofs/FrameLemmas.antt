@@ -2,37 +2,17 @@
 use Rattle.std.proofs.Common.{◌≡◌, ◌<◌, ◌∙◌, sym, ap, subst, refl, ℕ, ◌+◌, ◌*◌, ◌^◌, List, [], ◌∷◌, ◌++◌, length, take, drop, arith, length-append, append_assoc, All}
 use Rattle.std.specs.List.{flat_map, AllByRecursion}
 use Rattle.std.specs.Int.{w32, to_be_bytes, from_be_bytes}
-use Rattle.std.proofs.lemmas.List.Concat.{flat_map-append}
 use Rattle.std.proofs.lemmas.List.Elements.{All-nil, All-append, All-drop, All-from_recursion}
 use Rattle.std.proofs.lemmas.Nat.{from_be_bytes-to_be_bytes_4, from_be_bytes-to_be_bytes_8}
-use Rattle.std.proofs.Math.Seq.{drop-append_seam}
+use Rattle.std.proofs.lemmas.List.{append_cancel_left}
 use Rattle.lsn_space.specs.Unit.{unit_bytes, unit_value}
+use Rattle.lsn_space.proofs.UnitLemmas.{length-unit_bytes}
 use Rattle.log_record.specs.declared.rec.Rec.{Rec}
-use Rattle.log_record.specs.declared.rec.Rec.TheVariants.{Genesis, Update, Commit, Short, Over, Note}
 use Rattle.log_record.specs.LogList.{units_of, end_of}
 use Rattle.log_record.specs.Spelling.{spelling, IsSpellable}
 use Rattle.log_record.proofs.BoundLemmas.{spelling-all_units}
 use Rattle.log_record.proofs.SpellingLemmas.{units_of-injective}
 use Rattle.ship_stream.specs.Stream.{head_bytes, counted_bytes, frame_bytes, end_bytes, IsFrame}
-
--- what follows the same front is the same
-pub append-cancel_left : (front xs ys : List ℕ) → front ++ xs ≡ front ++ ys → xs ≡ ys
-append-cancel_left front xs ys same = sym (drop-append_seam front xs) ∙ ap (drop (length front)) same ∙ drop-append_seam front ys
-
-pub units_of-append : (xs ys : List Rec) → units_of (xs ++ ys) ≡ units_of xs ++ units_of ys
-units_of-append xs ys = flat_map-append spelling xs ys
-
-pub end_of-append : (xs ys : List Rec) → end_of (xs ++ ys) ≡ end_of xs + end_of ys
-end_of-append xs ys = ap length (units_of-append xs ys) ∙ length-append (units_of xs) (units_of ys)
-
--- a spelling has a unit
-pub length_spelling-positive : (rec : Rec) → 0 < length (spelling rec)
-length_spelling-positive (Genesis account balance) = omega arith
-length_spelling-positive (Update txn account delta prev) = omega arith
-length_spelling-positive (Commit txn legs) = omega arith
-length_spelling-positive (Short txn leg) = omega arith
-length_spelling-positive (Over txn leg) = omega arith
-length_spelling-positive (Note txn text) = omega arith
 
 -- ---- numbers
 
@@ -50,10 +30,6 @@ unfolding head_bytes
 length-head a x = omega arith
 
 -- ---- frames
-
-pub length-unit_bytes : (units : List ℕ) → length (flat_map unit_bytes units) ≡ 8 * length units
-length-unit_bytes [] = refl
-length-unit_bytes (unit ∷ units) = omega (arith, length-unit_bytes units)
 
 pub length-frame : (records : List Rec) (x : List ℕ) → length (frame_bytes records ++ x) ≡ 4 + 8 * end_of records + length x
 unfolding counted_bytes
@@ -90,7 +66,7 @@ same_frame rs ss x y is_rs is_ss same =
     same_units (units_of rs) (units_of ss) x y (units_of-below_64_bits rs is_rs.spellable) (units_of-below_64_bits ss is_ss.spellable) number.0 number.1 in (
       units_of-injective rs ss (All-from_recursion IsSpellable rs is_rs.spellable) (All-from_recursion IsSpellable ss is_ss.spellable)
           units,
-      append-cancel_left (flat_map unit_bytes (units_of ss)) x y
+      append_cancel_left (flat_map unit_bytes (units_of ss)) x y
           (subst (λ us. flat_map unit_bytes us ++ x ≡ flat_map unit_bytes (units_of ss) ++ y) units number.1),
     )
 

@@ -7,11 +7,12 @@ use Rattle.log_record.specs.declared.rec.Rec.{Rec}
 use Rattle.log_record.specs.LogList.{units_of, end_of, size_of}
 use Rattle.log_record.specs.Spelling.{spelling, IsSpellable}
 use Rattle.log_record.proofs.BoundLemmas.{length-spelling}
+use Rattle.log_record.proofs.LogListLemmas.{end_of-append}
+use Rattle.log_record.proofs.SpellingLemmas.{size_of-positive}
 use Rattle.lsn_space.proofs.TilingLemmas.{all-push, all-weaken}
 use Rattle.ship_stream.specs.Frames.{last_group, packed_behind, frames_of, stream_of}
 use Rattle.ship_stream.specs.Stream.{records_of, IsFrame, IsStream}
 use Rattle.ship_stream.specs.declared.layout.TheConstants.{SHIPPED_UNITS}
-use Rattle.ship_stream.proofs.FrameLemmas.{end_of-append, length_spelling-positive}
 
 -- a record more that fits waits too
 pub packed_behind-fits : (limit : ℕ) (waits : List Rec) (rec : Rec) (left : List Rec) → end_of waits + size_of rec ≤ limit
@@ -67,7 +68,7 @@ pub record IsGroup (limit : ℕ) (records : List Rec) : Type 0 where
   pub spellable : AllByRecursion IsSpellable records
 
 some_records : (rec : Rec) (records : List Rec) → 0 < end_of (rec ∷ records)
-some_records rec records = omega (arith, length_spelling-positive rec, length-append (spelling rec) (units_of records))
+some_records rec records = omega (arith, size_of-positive rec, length-append (spelling rec) (units_of records))
 
 last-each : (limit : ℕ) (waits : List Rec) → end_of waits ≤ limit → AllByRecursion IsSpellable waits
     → AllByRecursion (IsGroup limit) (last_group waits)

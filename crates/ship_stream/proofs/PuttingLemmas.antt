@@ -1,5 +1,5 @@
 -- Puts, one behind another.
-use Rattle.std.proofs.Common.{◌≡◌, ◌≤◌, ℕ, List, ◌++◌, Result, Ok, Err, sym, subst, append_assoc, le_refl}
+use Rattle.std.proofs.Common.{◌≡◌, ℕ, List, ◌++◌, Result, Err, sym, subst, append_assoc}
 use Rattle.std.specs.List.{flat_map}
 use Rattle.std.specs.Int.{w32, to_be_bytes}
 use Rattle.std.proofs.lemmas.Result.{on_ok_weaker, on_err_weaker}
@@ -9,16 +9,8 @@ use Rattle.log_disk.specs.Streams.{AppendsPart, AppendsBut}
 use Rattle.log_disk.specs.declared.sink.Sink.{Ghosts}
 use Rattle.log_disk.proofs.Blocks.{AppendsBut-trans, AppendsBut-trans_part_of_piece, AppendsPart-append}
 use Rattle.log_disk.specs.Blocks.{PutsPiece}
+use Rattle.log_disk.proofs.Uses.{HasCause-same_before}
 use Rattle.ship_stream.specs.Stream.{counted_bytes}
-
--- where no fault was counted until then
-pub has_cause-same_start : {T E : Type 0} (first before now : ℕ) (result : Result T E) → before ≡ first → HasCause before now result
-    → HasCause first now result
-has_cause-same_start first before now result same cause = subst (λ count. HasCause count now result) same cause
-
--- where none was counted at all
-pub has_cause-ok : {T E : Type 0} (first now : ℕ) (value : T) → now ≡ first → HasCause {T = T} {E = E} first now (Ok value)
-has_cause-ok first now value same = record { later = subst (λ count. first ≤ count) (sym same) (le_refl first); fine = same; failed = tt }
 
 counted-is : (block : List ℕ) (count : ℕ) (units : List ℕ)
     → (block ++ to_be_bytes w32 count) ++ flat_map unit_bytes units ≡ block ++ counted_bytes count units
@@ -37,7 +29,7 @@ module _ {K : Type 0} (g : Ghosts K) (count : ℕ) (units : List ℕ) (old mid :
             (AppendsBut-trans from (g.held_bytes mid) to (waits ++ to_be_bytes w32 count) between put body after more)) rest.all;
         prefix = on_err_weaker result (λ cut. subst (AppendsPart from to) (counted-is waits count units)
             (AppendsBut-trans_part_of_piece from (g.held_bytes mid) to (waits ++ to_be_bytes w32 count) between put body cut)) rest.prefix;
-        cause = has_cause-same_start (g.faults old) (g.faults mid) (g.faults new) result same rest.cause;
+        cause = HasCause-same_before (g.faults old) (g.faults mid) (g.faults new) result same rest.cause;
       }
 
   pub counted-cut : {T U E : Type 0} (after : List ℕ) (error : E)

@@ -4,26 +4,21 @@ use Rattle.std.specs.List.{flat_map, AllByRecursion}
 use Rattle.std.proofs.lemmas.List.{flat_map_more, take_more, take-append-drop}
 use Rattle.std.proofs.lemmas.List.Concat.{flat_map-append}
 use Rattle.lsn_space.specs.Unit.{unit_bytes}
-use Rattle.std.proofs.lemmas.List.Elements.{All-from_recursion}
 use Rattle.std.proofs.Math.Seq.{take-append_seam, drop-append_seam}
-use Rattle.lsn_space.proofs.TilingLemmas.{all-push}
+use Rattle.lsn_space.proofs.TilingLemmas.{all-push, all-append}
 use Rattle.log_disk.specs.Streams.{AppendsPart, AppendsBut}
 use Rattle.log_disk.proofs.Blocks.{AppendsBut-trans, AppendsBut-trans_part_of_piece, AppendsPart-append}
 use Rattle.log_record.specs.declared.rec.Rec.{Rec}
 use Rattle.log_record.specs.LogList.{units_of, end_of, size_of, AreUnitsOf}
 use Rattle.log_record.specs.Spelling.{spelling, IsSpellable}
 use Rattle.log_record.proofs.BoundLemmas.{length-spelling}
-use Rattle.log_record.proofs.SpellingLemmas.{units_of-injective}
+use Rattle.log_record.proofs.SpellingLemmas.{size_of-positive, AreUnitsOf-injective}
+use Rattle.log_record.proofs.LogListLemmas.{units_of-append, end_of-append}
 use Rattle.ship_stream.specs.Frames.{packed_behind, frames_of, stream_of}
 use Rattle.ship_stream.specs.Shipping.{BeginsFrame}
 use Rattle.ship_stream.specs.Stream.{head_bytes, counted_bytes, frame_bytes, end_bytes}
 use Rattle.ship_stream.specs.declared.layout.TheConstants.{SHIPPED_UNITS}
-use Rattle.ship_stream.proofs.FrameLemmas.{units_of-append, end_of-append, length_spelling-positive}
 use Rattle.ship_stream.proofs.PackingLemmas.{packed_behind-fits, packed_behind-full_from_none}
-
-all-append : (xs ys : List Rec) → AllByRecursion IsSpellable xs → AllByRecursion IsSpellable ys → AllByRecursion IsSpellable (xs ++ ys)
-all-append [] ys first second = second
-all-append (x ∷ xs) ys first second = (first.0, all-append xs ys first.1 second)
 
 spellable-split : (xs ys : List Rec) → AllByRecursion IsSpellable (xs ++ ys) → AllByRecursion IsSpellable xs × AllByRecursion IsSpellable ys
 spellable-split [] ys all = (tt, all)
@@ -84,7 +79,7 @@ module _ (units : List ℕ) (len : ℕ) (rest : List ℕ) (gathering : IsGatheri
 
     pub size-within_26_and_rest : (0 < size) × (size ≤ 26) × (size ≤ length rest)
     size-within_26_and_rest = (
-      omega (arith, size-size_of_first_record, length_spelling-positive gathering_left-first_record.0),
+      omega (arith, size-size_of_first_record, size_of-positive gathering_left-first_record.0),
       omega (arith, size-size_of_first_record, length-spelling gathering_left-first_record.0 spellable.0),
       omega (arith, size-size_of_first_record, ap length rest-split, length-append (spelling gathering_left-first_record.0) (units_of gathering_left-first_record.1)),
     )
@@ -119,7 +114,7 @@ module _ (units : List ℕ) (len : ℕ) (rest : List ℕ) (gathering : IsGatheri
     gathering_full-begins_frame full = record {
       frame = gathering.waits;
       left = gathering.left;
-      list = record { spellable = all-append gathering.waits gathering.left gathering.waiting gathering.each; units_are = gathering.whole };
+      list = record { spellable = all-append IsSpellable gathering.waits gathering.left gathering.waiting gathering.each; units_are = gathering.whole };
       first = gathering.packed ∙ ap (packed_behind SHIPPED_UNITS gathering.waits) gathering_left-first_record.2
           ∙ packed_behind-full_from_none SHIPPED_UNITS gathering.waits gathering_left-first_record.0 gathering_left-first_record.1 (omega (arith, length-spelling gathering_left-first_record.0 spellable.0))
           (omega (arith, full, size-size_of_first_record, gathering.count))
@@ -139,7 +134,7 @@ module _ (units : List ℕ) (len : ℕ) (rest : List ℕ) (gathering : IsGatheri
         empty,
         ap length gathering.rest_is,
         ap end_of is,
-        length_spelling-positive rec,
+        size_of-positive rec,
         length-append (spelling rec) (units_of later),
       ))
 
@@ -155,7 +150,7 @@ module _ (units : List ℕ) (len : ℕ) (rest : List ℕ) (gathering : IsGatheri
         frame = gathering.waits;
         left = gathering.left;
         list = record {
-          spellable = all-append gathering.waits gathering.left gathering.waiting gathering.each;
+          spellable = all-append IsSpellable gathering.waits gathering.left gathering.waiting gathering.each;
           units_are =
               gathering.whole;
         };
@@ -179,11 +174,6 @@ pub record IsShipping (from : ℕ) (units rest waiting : List ℕ) (old new : Op
   pub frames : frames_of records ≡ done ++ frames_of left
   pub written : AppendsBut old new (head_bytes from ++ flat_map frame_bytes done) waiting
 
-pub are_units_of-injective : (units : List ℕ) (xs ys : List Rec) → AreUnitsOf units xs → AreUnitsOf units ys → xs ≡ ys
-are_units_of-injective units xs ys first second =
-    units_of-injective xs ys (All-from_recursion IsSpellable xs first.spellable) (All-from_recursion IsSpellable ys second.spellable)
-    (sym first.units_are ∙ second.units_are)
-
 pub shipping-none : (from : ℕ) (units waiting : List ℕ) (records : List Rec) (old new : Option (List ℕ)) → AreUnitsOf units records
     → AppendsBut old new (head_bytes from) waiting → IsShipping from units units waiting old new
 shipping-none from units waiting records old new are written = record {
@@ -198,14 +188,14 @@ shipping-none from units waiting records old new are written = record {
 
 module _ (from : ℕ) (units rest waiting : List ℕ) (old mid : Option (List ℕ)) (before : IsShipping from units rest waiting old mid) where
   same-frames : (records : List Rec) → AreUnitsOf units records → frames_of records ≡ before.done ++ frames_of before.left
-  same-frames records are = ap frames_of (are_units_of-injective units records before.records are before.list) ∙ before.frames
+  same-frames records are = ap frames_of (AreUnitsOf-injective units records before.records are before.list) ∙ before.frames
 
   abbrev written-to : List ℕ
   written-to = head_bytes from ++ flat_map frame_bytes before.done
 
   module _ (len : ℕ) (first : BeginsFrame rest len) (own : List ℕ) (own_is : own ≡ take len rest) where
     left-is : before.left ≡ first.frame ++ first.left
-    left-is = are_units_of-injective rest before.left (first.frame ++ first.left) before.rest_is first.list
+    left-is = AreUnitsOf-injective rest before.left (first.frame ++ first.left) before.rest_is first.list
 
     rest-frames : rest ≡ units_of first.frame ++ units_of first.left
     rest-frames = first.list.units_are ∙ units_of-append first.frame first.left
@@ -275,7 +265,7 @@ module _ (from : ℕ) (units rest waiting : List ℕ) (old mid : Option (List �
           empty,
           ap length before.rest_is.units_are,
           ap end_of is,
-          length_spelling-positive rec,
+          size_of-positive rec,
           length-append (spelling rec) (units_of later),
         ))
 

@@ -3,14 +3,17 @@ use Rattle.std.proofs.Common.{◌≡◌, ◌<◌, ◌≤◌, ◌∙◌, sym, ap,
 use Rattle.std.specs.List.{flat_map, AllByRecursion}
 use Rattle.std.specs.Int.{w32, to_be_bytes}
 use Rattle.std.proofs.lemmas.List.Concat.{flat_map-append}
+use Rattle.std.proofs.lemmas.List.{append_cancel_left}
 use Rattle.lsn_space.specs.Unit.{unit_bytes}
 use Rattle.lsn_space.specs.declared.lsn.TheConstants.{LAST}
+use Rattle.lsn_space.proofs.UnitLemmas.{length-unit_bytes}
 use Rattle.log_record.specs.declared.rec.Rec.{Rec}
 use Rattle.log_record.specs.LogList.{units_of, end_of}
+use Rattle.log_record.proofs.LogListLemmas.{end_of-append}
 use Rattle.ship_stream.specs.Came.{Came, HasCome, IsBegun, count_begun, units_begun, IsBadBehind, IsBadStream}
 use Rattle.ship_stream.specs.Came.Came.{NoHead, Open, Whole}
 use Rattle.ship_stream.specs.Stream.{head_bytes, counted_bytes, frame_bytes, end_bytes, records_of, frames_end, IsFrame, HasFrames, IsStream, HasNoFrame, HasNoEnd}
-use Rattle.ship_stream.proofs.FrameLemmas.{append-cancel_left, end_of-append, same_number, same_head, length-head, length-unit_bytes, length-frame, end-no_frame, Aligned, same, longer, shorter, aligned_frames}
+use Rattle.ship_stream.proofs.FrameLemmas.{same_number, same_head, length-head, length-frame, end-no_frame, Aligned, same, longer, shorter, aligned_frames}
 
 -- ---- what may follow the frames
 
@@ -60,7 +63,7 @@ each-first : (fs : List (List Rec)) (c : List Rec) (later : List (List Rec)) →
 each-first [] c later each = each.0
 each-first (a ∷ fs) c later each = each-first fs c later each.1
 
-records_of-append : (fs gs : List (List Rec)) → records_of (fs ++ gs) ≡ records_of fs ++ records_of gs
+pub records_of-append : (fs gs : List (List Rec)) → records_of (fs ++ gs) ≡ records_of fs ++ records_of gs
 records_of-append fs gs = flat_map-append (λ records. records) fs gs
 
 -- the frame that the longer reading has next
@@ -72,7 +75,7 @@ rest-next fs gs later c x y is whole =
     ap (λ bytes. bytes ++ y) (flat_map-append frame_bytes fs (c ∷ later))
     ∙ append_assoc (flat_map frame_bytes fs) (frame_bytes c ++ flat_map frame_bytes later) y
     ∙ ap (λ bytes. flat_map frame_bytes fs ++ bytes) (append_assoc (frame_bytes c) (flat_map frame_bytes later) y) in
-    append-cancel_left (flat_map frame_bytes fs) _ _ (whole ∙ ap (λ list. flat_map frame_bytes list ++ y) is ∙ split)
+    append_cancel_left (flat_map frame_bytes fs) _ _ (whole ∙ ap (λ list. flat_map frame_bytes list ++ y) is ∙ split)
 
 behind-head : (bytes : List ℕ) (first : ℕ) (frames : List (List Rec)) (rest : List ℕ) → HasFrames bytes first frames rest
     → bytes ≡ head_bytes first ++ (flat_map frame_bytes frames ++ rest)

@@ -1,35 +1,14 @@
 -- An event is enabled or not.
-use Rattle.std.proofs.Common.{◌≡◌, ◌⊎◌, inl, inr, ⊎_elim, ℕ, ◌+◌, ◌/◌, ◌<◌, ◌≤◌, Bool, true, false, true≢false, List, [], ◌∷◌, length, IsSomeAnd, Option, Some, None, refl, sym, ap, arith}
+use Rattle.std.proofs.Common.{◌≡◌, inl, inr, ℕ, ◌+◌, ◌/◌, ◌<◌, Bool, true, false, true≢false, length, IsSomeAnd, Option, Some, None, refl, sym, ap, arith}
 use Rattle.std.specs.Option.{is_some}
-use Rattle.lsn_space.specs.declared.lsn.TheConstants.{LAST}
-use Rattle.ring_core.specs.RingLog.{Reservation, RingLog, size_of, HasRoom, HasUnfilled, IsFull, MayFlush}
+use Rattle.ring_core.specs.RingLog.{HasUnfilled, IsFull}
 use Rattle.ring_core.specs.State.{looks_at, raises_from, worked_on}
 use Rattle.ring_core.specs.declared.event.RingEvent.{RingEvent}
 use Rattle.ring_core.specs.declared.event.RingEvent.TheVariants.{Reserve, Fill, Mark, LookExposed, LookMark, Raise, Flushed}
-use Rattle.slot_core.specs.State.{Stage, Idle, Works, Marked, Holds, Raises, GroupPhase, Vacant, Gathering, Closed, Placed, Ready, Told, Emptied, MemberStage, Closes, Waits, Places, Stores, Tells, Fills, Leaves, Membership, Task, Joined, InRing, SlotState, nothing, task_of, membership, ring_stage, reopening, group_at}
+use Rattle.ring_core.proofs.Deciding.{IsDecided, decided-both, decided-same, eq-decided, le-decided, idle-decided, marked-decided, room-decided, flush-decided}
+use Rattle.slot_core.specs.State.{Idle, Works, Marked, Holds, Raises, GroupPhase, Vacant, Gathering, Closed, Placed, Ready, Told, Emptied, MemberStage, Closes, Waits, Places, Stores, Tells, Fills, Leaves, Membership, Task, Joined, InRing, SlotState, nothing, task_of, membership, ring_stage, reopening, group_at}
 use Rattle.slot_core.specs.Machine.{GroupEvent, Join, Close, Place, PutBase, Tell, Hear, Release, Reopen, Ring, HasPlace, MayJoin, fits, closed_total, MayPlace, told_outcome, MayHear, HasUnfilledPiece, MayFill, HasDone, IsRingEnabled, IsEnabled}
-use Rattle.std.proofs.lemmas.Bool.Decides.{eqb_tells, leb_tells}
-use Rattle.lsn_space.specs.Tiling.{IsTilingBoundary}
 use Rattle.slot_parts.specs.declared.task.TheConstants.{LONGEST_PIECE}
-
-abbrev pub IsDecided : Type 0 → Type 0
-IsDecided A = A ⊎ (¬ A)
-
-module _ {A B : Type 0} where
-  decided-both : IsDecided A → IsDecided B → IsDecided (A × B)
-  decided-both a b = ⊎_elim (λ yes. ⊎_elim (λ also. inl (yes, also)) (λ no_b. inr (λ both. no_b both.1)) b) (λ no_a. inr (λ both. no_a both.0)) a
-
-  decided-either : IsDecided A → IsDecided B → IsDecided (A ⊎ B)
-  decided-either a b = ⊎_elim (λ yes. inl (inl yes)) (λ no_a. ⊎_elim (λ also. inl (inr also)) (λ no_b. inr (λ either. ⊎_elim no_a no_b either)) b) a
-
-  decided-same : (A → B) → (B → A) → IsDecided A → IsDecided B
-  decided-same to back a = ⊎_elim (λ yes. inl (to yes)) (λ no_a. inr (λ b. no_a (back b))) a
-
-eq-decided : (m n : ℕ) → IsDecided (m ≡ n)
-eq-decided m n = ⊎_elim (λ yes. inl yes.1) (λ no_eq. inr no_eq.1) (eqb_tells m n)
-
-le-decided : (m n : ℕ) → IsDecided (m ≤ n)
-le-decided m n = ⊎_elim (λ yes. inl yes.1) (λ above. inr (λ le. omega (arith, above.1, le))) (leb_tells m n)
 
 lt-decided : (m n : ℕ) → IsDecided (m < n)
 lt-decided m n = decided-same (λ le. omega (arith, le)) (λ lt. omega (arith, lt)) (le-decided (m + 1) n)
@@ -54,20 +33,6 @@ nothing-decided (InRing None (Works b)) = inr (λ is. let e : Works b ≡ Idle =
 nothing-decided (InRing None Marked) = inr (λ is. let e : Marked ≡ Idle = ap ring_stage is in cc)
 nothing-decided (InRing None (Holds b)) = inr (λ is. let e : Holds b ≡ Idle = ap ring_stage is in cc)
 nothing-decided (InRing None (Raises b)) = inr (λ is. let e : Raises b ≡ Idle = ap ring_stage is in cc)
-
-idle-decided : (z : Stage) → IsDecided (z ≡ Idle)
-idle-decided Idle = inl refl
-idle-decided (Works b) = inr (λ is. cc)
-idle-decided Marked = inr (λ is. cc)
-idle-decided (Holds b) = inr (λ is. cc)
-idle-decided (Raises b) = inr (λ is. cc)
-
-marked-decided : (z : Stage) → IsDecided (z ≡ Marked)
-marked-decided Idle = inr (λ is. cc)
-marked-decided (Works b) = inr (λ is. cc)
-marked-decided Marked = inl refl
-marked-decided (Holds b) = inr (λ is. cc)
-marked-decided (Raises b) = inr (λ is. cc)
 
 closes-decided : (st : MemberStage) → IsDecided (st ≡ Closes)
 closes-decided Closes = inl refl
@@ -113,10 +78,6 @@ tells-decided Stores = inr (λ is. cc)
 tells-decided Tells = inl refl
 tells-decided (Fills units) = inr (λ is. cc)
 tells-decided Leaves = inr (λ is. cc)
-
-boundary-decided : (from : ℕ) (rs : List Reservation) (to : ℕ) → IsDecided (IsTilingBoundary size_of from rs to)
-boundary-decided from [] to = eq-decided to from
-boundary-decided from (r ∷ rs) to = decided-either (eq-decided to from) (boundary-decided (from + r.size) rs to)
 
 place-decided : (most n : ℕ) (p : GroupPhase) → IsDecided (HasPlace most n p)
 place-decided most n Vacant = le-decided n most
@@ -166,18 +127,6 @@ done-decided size Leaves = inl tt
 fill-decided : (s : SlotState) (z : Task) → IsDecided (MayFill s z)
 fill-decided s (Joined m) = piece-decided m.size m.stage
 fill-decided s (InRing q z) = some-decided HasUnfilled (worked_on z s.log.reservations) (λ r. lt-decided r.filled r.size)
-
-room-decided : (l : RingLog) (n : ℕ) → IsDecided (HasRoom l n)
-room-decided l n = decided-same
-    (λ all. record { positive = all.0; quarter = all.1.0; within_log = all.1.1.0; within_ring = all.1.1.1 })
-    (λ may. (may.positive, (may.quarter, (may.within_log, may.within_ring))))
-    (decided-both (le-decided 1 n) (decided-both (le-decided n (l.ring / 4)) (decided-both (le-decided (l.tail + n) LAST) (le-decided (l.tail + n) (l.durable + l.ring)))))
-
-flush-decided : (l : RingLog) (to : ℕ) → IsDecided (MayFlush l to)
-flush-decided l to = decided-same
-    (λ all. record { forward = all.0; exposed = all.1.0; boundary = all.1.1 })
-    (λ may. (may.forward, (may.exposed, may.boundary)))
-    (decided-both (le-decided l.durable to) (decided-both (le-decided to l.exposed) (boundary-decided l.start l.reservations to)))
 
 ring-decided : (s : SlotState) (event : RingEvent) → IsDecided (IsRingEnabled s event)
 ring-decided s (Reserve j n) = decided-both (nothing-decided (task_of j s.hands)) (room-decided s.log n)

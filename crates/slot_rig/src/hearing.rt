@@ -1,6 +1,5 @@
 //! A member hears what became of its group, and fills its piece.
-ghost use Rattle.std.specs.Prelude.{◌≡◌, ◌+◌, ◌≤◌, [], length, IfSome};
-ghost use Rattle.lsn_space.specs.declared.lsn.TheConstants.{LAST};
+ghost use Rattle.std.specs.Prelude.{◌≡◌, ◌+◌, [], length, IfSome};
 ghost use Rattle.log_rule.specs.declared.group_view.MemberStep.TheVariants.{Fills, Leaves};
 ghost use Rattle.slot_rig.specs.Shares.{Awaits, HasFilled, IsMember};
 

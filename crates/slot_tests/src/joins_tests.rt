@@ -1,5 +1,5 @@
 //! Joins: what a worker finds at its slot.
-ghost use Rattle.std.specs.Prelude.{◌≡◌, ◌+◌, ◌≤◌, ◌<◌, ◌%◌, IfOk};
+ghost use Rattle.std.specs.Prelude.{◌≡◌, ◌+◌, ◌≤◌, ◌<◌, ◌%◌};
 ghost use Rattle.log_table.specs.HiredWorkers.{HasHired};
 ghost use Rattle.test_rig.specs.NotedJobs.{IsNotedJob};
 

@@ -9,13 +9,13 @@ use Rattle.log_record.specs.declared.units.TheConstants.{LONGEST_RECORD}
 use Rattle.log_record.specs.LogList.{units_of}
 use Rattle.log_record.specs.Spelling.{spelling, IsSpellable, BeginsWith}
 use Rattle.log_record.proofs.BoundLemmas.{length-spelling}
+use Rattle.log_record.proofs.LogListLemmas.{units_of-append}
 use Rattle.lsn_space.specs.declared.lsn.TheConstants.{LAST}
+use Rattle.lsn_space.proofs.TilingLemmas.{all-append}
 use Rattle.lock_core.specs.declared.reason.Why.{Why}
 use Rattle.lock_core.specs.Sums as sums
-use Rattle.lock_core.proofs.ListLemmas.{all-append}
 use Rattle.log_recovery.specs.JudgedUnits.{HasTakenFront, FailsBefore}
 use Rattle.log_recovery.specs.ListedRecords.{IsFront}
-use Rattle.log_recovery.proofs.ListingLemmas.{units_of-append}
 use Rattle.source_recovery.specs.declared.records.State.{State}
 use Rattle.source_recovery.specs.declared.records.State.TheVariants as state
 use Rattle.source_recovery.specs.declared.records.UnitsTaker.{UnitsTaker}

@@ -1,8 +1,9 @@
 -- From a log that was read to its end, and units of which all records are taken, to what all bytes say; and what faults are counted.
-use Rattle.std.proofs.Common.{◌≡◌, ◌∙◌, ℕ, List, Option, Result, Err, IsErrAnd, IsErrOf, ap, subst}
+use Rattle.std.proofs.Common.{◌≡◌, ◌∙◌, ◌++◌, ℕ, List, Option, Some, None, Result, Err, IsErrAnd, IsErrOf, ap, append-nil, subst, sym}
 use Rattle.std.proofs.lemmas.Result.{err_from_is_err_and}
 use Rattle.lsn_space.specs.Opening.{Opening}
 use Rattle.log_disk.specs.Faults.{CountsWhere}
+use Rattle.log_disk.specs.Streams.{ReadsAll}
 use Rattle.lock_core.specs.declared.judge.Judge.{Judge}
 use Rattle.lock_core.specs.Taking.{HasJudged}
 use Rattle.segment_file.specs.Log.{Log, HoldsLog}
@@ -13,22 +14,25 @@ use Rattle.log_recovery.specs.Opened.{OpenedList, log_of}
 use Rattle.log_recovery.specs.Recovery.{IsFaultOf, JudgesBytes}
 use Rattle.log_recovery.specs.declared.recovery.RecoverFault.{RecoverFault}
 use Rattle.log_recovery.specs.declared.recovery.RecoverFault.TheVariants as fault
-use Rattle.source_recovery.specs.Recovery.{HasLogFault, TellsReading}
+use Rattle.source_recovery.specs.Recovery.{IsSourceFaultOf, TellsReading}
 use Rattle.source_recovery.specs.Window.{GaveAll}
 use Rattle.source_recovery.specs.declared.batches.ReadingFault.{ReadingFault}
 use Rattle.source_recovery.specs.declared.batches.ReadingFault.TheVariants as reading
 use Rattle.source_recovery.specs.declared.recovery.SourceFault.{SourceFault}
 use Rattle.source_recovery.specs.declared.recovery.SourceFault.TheVariants as source
 
+-- a source that gave all its bytes was read to its end
+pub GaveAll-ReadsAll : (first now : Option (List ℕ)) (bytes : List ℕ) → GaveAll first now bytes → ReadsAll first now bytes
+GaveAll-ReadsAll None now bytes gave = tt
+GaveAll-ReadsAll (Some all) None bytes gave = absurd gave.given
+GaveAll-ReadsAll (Some all) (Some rest) bytes gave =
+    (sym (gave.given ∙ ap (λ back. bytes ++ back) gave.end ∙ append-nil bytes), ap Some gave.end)
+
 -- a fault of all bytes
-pub gave_all-HasLogFault : (first now : Option (List ℕ)) (bytes : List ℕ) (f : RecoverFault) → GaveAll first now bytes → IsFaultOf bytes f
-    → HasLogFault first now f
-gave_all-HasLogFault first now bytes fault.NoMemory gave is = tt
-gave_all-HasLogFault first now bytes fault.NotALog gave is = (bytes, gave, is)
-gave_all-HasLogFault first now bytes fault.BadSnapshot gave is = (bytes, gave, is)
-gave_all-HasLogFault first now bytes (fault.BadBatch offset) gave is = (bytes, gave, is)
-gave_all-HasLogFault first now bytes (fault.BadRec lsn) gave is = (bytes, gave, is)
-gave_all-HasLogFault first now bytes (fault.Unlawful lsn why) gave is = (bytes, gave, is)
+pub gave_all-IsSourceFaultOf : (first now : Option (List ℕ)) (bytes : List ℕ) (f : RecoverFault) → GaveAll first now bytes → IsFaultOf bytes f
+    → IsSourceFaultOf first now (source.Log f)
+gave_all-IsSourceFaultOf first now bytes fault.NoMemory gave is = tt
+gave_all-IsSourceFaultOf first now bytes f gave is = (bytes, GaveAll-ReadsAll first now bytes gave, is)
 
 -- the log stands in the bytes, and all its records are taken
 pub taken_units-JudgesBytes : (tail : Tail) (opening : Opening) (units bytes : List ℕ) (judge : Judge)

@@ -1,13 +1,13 @@
 -- Why no more of a log is read from a source. `first` is what the source told when the reading began, `now` what it tells now.
 use Rattle.std.specs.Prelude.{◌≢◌, ℕ, List, Option}
+use Rattle.log_disk.specs.declared.source.ReadFault.{ReadFault}
+use Rattle.log_disk.specs.declared.source.ReadFault.TheVariants as read
 use Rattle.segment_file.specs.Scan.{IsScanFaultOf}
 use Rattle.segment_file.specs.declared.scan_result.ScanFault.{ScanFault}
 use Rattle.segment_file.specs.declared.scan_result.ScanFault.TheVariants as scan
 use Rattle.source_recovery.specs.Window.{GaveAll}
 use Rattle.source_recovery.specs.declared.batches.ReadingFault.{ReadingFault}
 use Rattle.source_recovery.specs.declared.batches.ReadingFault.TheVariants.{Failed, NoMemory, Bytes}
-use Rattle.source_recovery.specs.declared.window.ReadFault.{ReadFault}
-use Rattle.source_recovery.specs.declared.window.ReadFault.TheVariants as read
 
 -- the source gave all its bytes, and they have this fault, which is no want of memory
 pub record HasScanFault (first now : Option (List ℕ)) (fault : ScanFault) : Type 0 where

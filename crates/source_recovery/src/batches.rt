@@ -14,8 +14,8 @@ ghost use Rattle.source_recovery.specs.ReadingFaults.{IsReadingFaultOf, told_fau
 ghost use Rattle.source_recovery.specs.Window.{HasPassed};
 ghost use Rattle.source_recovery.specs.declared.batches.ReadingFault.TheVariants as reading;
 
-use crate::window::{ReadFault, Window};
-use log_disk::Source;
+use crate::window::Window;
+use log_disk::{ReadFault, Source};
 use lsn_space::{Lsn, NoMemory, Opening};
 use segment_file::{BatchFault, ScanFault, Tail, after_gate, take_batch, take_front};
 use std::alloc::Global;

@@ -6,7 +6,7 @@ ghost use Rattle.log_disk.specs.Faults.{CountsWhere};
 ghost use Rattle.source_recovery.specs.Window.{DropsRest, HasPassed};
 ghost use Rattle.source_recovery.specs.declared.window.TheConstants.{FULL};
 
-use log_disk::Source;
+use log_disk::{ReadFault, Source};
 use lsn_space::NoMemory;
 use segment_file::MOST_UNITS;
 use std::alloc::Global;
@@ -18,13 +18,6 @@ const PIECE: usize = 65536;
 /// As many bytes hold the longest front of a file, and the longest batch with its gate: a gate, the magic bytes, the number of units,
 /// and `MOST_UNITS` units of eight bytes. A head has fewer.
 pub const FULL: usize = 12 + 8 * MOST_UNITS as usize;
-
-/// Why a source was not read on.
-#[derive(Clone, Copy, Debug, PartialEq, Eq)]
-pub enum ReadFault {
-    Failed,
-    NoMemory,
-}
 
 /// The bytes of a source that were read and aren't passed yet. Contracts see them, and whether the source has ended.
 #[derive(Drop)]

@@ -1,26 +1,26 @@
 -- What a frame more does to a disk to which others came.
-use Rattle.std.proofs.Common.{◌≡◌, ◌≤◌, ◌<◌, ◌∙◌, ◌⊎◌, ◌↔◌, sym, ap, refl, subst, ℕ, ◌+◌, ◌*◌, ◌^◌, List, [], ◌∷◌, ◌++◌, length, length-append, append-nil, max, arith}
+use Rattle.std.proofs.Common.{◌≡◌, ◌≤◌, ◌<◌, ◌∙◌, ◌↔◌, ap, subst, ℕ, ◌+◌, ◌*◌, List, [], ◌∷◌, ◌++◌, length, length-append, arith}
 use Rattle.std.specs.List.{AllByRecursion}
 use Rattle.log_disk.specs.Costs.{Costs}
 use Rattle.log_disk.specs.Disk.{Leaves}
 use Rattle.log_disk.specs.Lengths.{GrowsAtMostTo}
 use Rattle.log_disk.specs.declared.disk.LogDisk.{Ghosts}
-use Rattle.log_disk.proofs.Moments.{Leaves-trans, Leaves-weaken, Leaves-images_now}
+use Rattle.log_disk.proofs.Moments.{Leaves-trans, Leaves-weaken}
 use Rattle.log_disk.proofs.Counting.{Costs-trans, Costs-weaken}
 use Rattle.log_record.specs.declared.rec.Rec.{Rec}
-use Rattle.log_record.specs.LogList.{units_of, end_of}
+use Rattle.log_record.specs.LogList.{units_of}
 use Rattle.lock_core.specs.Lawful.{IsLawful}
 use Rattle.log_record.specs.Spelling.{IsSpellable}
 use Rattle.lock_core.specs.declared.judge.Judge.{Judge}
-use Rattle.lock_core.proofs.ListLemmas.{all-append}
-use Rattle.log_recovery.specs.Opened.{OpenedList, log_of, list_end, opening_before, placed, with_records}
-use Rattle.log_recovery.proofs.OpenedLemmas.{list_end-more}
+use Rattle.log_recovery.specs.Opened.{OpenedList, log_of, opening_before, placed, with_records}
+use Rattle.log_recovery.proofs.OpenedLemmas.{list_end-more, log_of-with_records}
 use Rattle.segment_file.specs.Log.{Log, with_units}
 use Rattle.segment_file.specs.StandingLog.{HoldsLogOrMore, IsShut, LogStands}
 use Rattle.segment_file.specs.declared.scan_result.Tail.{Tail}
-use Rattle.standby.specs.AppliedFrames.{Base, with_frames, place_behind, HoldsFront, Wrote, HasApplied}
+use Rattle.lsn_space.proofs.TilingLemmas.{all-append}
+use Rattle.standby.specs.AppliedFrames.{Base, with_frames, HoldsFront, Wrote, HasApplied}
 use Rattle.standby.specs.TakenList.{HasTakenList, KeepsList}
-use Rattle.standby.proofs.FrameLists.{with_frames-push, place_behind-push, log_of-with_records, holds-front-more, holds-front-log_or_more, holds-front-behind}
+use Rattle.standby.proofs.FrameLists.{with_frames-push, place_behind-push, holds-front-more, holds-front-log_or_more, holds-front-behind}
 
 -- what `append` says of one frame and the disk before and after
 pub record WroteFrame {D : Type 0} (g : Ghosts D) (tail : Tail) (units : List ℕ) (old new : D) : Type 0 where

@@ -1,19 +1,19 @@
 -- How a standby goes on, part by part of the stream.
-use Rattle.std.proofs.Common.{◌≡◌, ◌≢◌, ◌≤◌, ◌∙◌, sym, ap, refl, subst, inl, inr, ℕ, ◌+◌, List, [], ◌∷◌, ◌++◌, length, take, drop, append_assoc, append-nil, arith}
+use Rattle.std.proofs.Common.{◌≡◌, ◌≢◌, ◌∙◌, sym, ap, refl, subst, inl, inr, ℕ, List, [], ◌∷◌, ◌++◌, take, drop, append_assoc, append-nil}
 use Rattle.std.proofs.lemmas.List.{take-append-drop}
 use Rattle.log_disk.specs.Disk.{Leaves}
 use Rattle.log_disk.specs.declared.disk.LogDisk.{Ghosts}
 use Rattle.log_disk.proofs.Moments.{Leaves-weaken}
 use Rattle.log_record.specs.declared.rec.Rec.{Rec}
 use Rattle.log_recovery.specs.Opened.{OpenedList, list_end}
-use Rattle.ship_stream.specs.Stream.{end_bytes, records_of, HasFrames, IsStream}
+use Rattle.ship_stream.specs.Stream.{end_bytes, HasFrames}
 use Rattle.ship_stream.specs.Came.{Came, HasCome, IsBadBehind, IsWhole}
 use Rattle.ship_stream.specs.Came.Came.{NoHead, Open, Whole}
 use Rattle.ship_stream.proofs.StreamLemmas.{one_stream-come}
 use Rattle.stream_reader.specs.Advance.{AddsFrame, AddsEnd}
 use Rattle.stream_reader.specs.Reader.{HasRead}
 use Rattle.stream_reader.specs.declared.reader.StreamReader.{StreamReader}
-use Rattle.standby.specs.declared.standby.Fed.{Fed}
+use Rattle.stream_reader.proofs.ReaderLemmas.{has_frames-more}
 use Rattle.standby.specs.declared.standby.Fed.TheVariants.{More, Ended}
 use Rattle.standby.specs.declared.standby.Standby.{Standby}
 use Rattle.standby.specs.declared.fault.StandbyFault.{StandbyFault}
@@ -22,7 +22,7 @@ use Rattle.standby.specs.AppliedFrames.{Base, with_frames, HoldsFront, Wrote, Ha
 use Rattle.standby.specs.Following.{BeginsWithFrames, Follows, GoesOn, HasEnded, HasFollowed, HasFrame, HoldsFollowed, IsReason, Stops, TellsEnd, whole_frames}
 use Rattle.standby.proofs.FrameLists.{holds-front-none, holds-lawful}
 use Rattle.standby.proofs.JudgedFrames.{with_records-none}
-use Rattle.standby.proofs.StoppedStreams.{begins_with_frames-append_none, has_frames-front, has_frames-more, read-come}
+use Rattle.standby.proofs.StoppedStreams.{begins_with_frames-append_none, has_frames-front, read-come}
 
 -- ---- the frames that have come
 

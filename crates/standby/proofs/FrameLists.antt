@@ -1,26 +1,24 @@
 -- Lists with the records of frames behind their own.
-use Rattle.std.proofs.Common.{◌≡◌, ◌∙◌, sym, ap, refl, subst, inl, inr, ℕ, ◌+◌, ◌*◌, ◌≤◌, List, [], ◌∷◌, ◌++◌, length, length-append, append_assoc, append-nil, arith}
+use Rattle.std.proofs.Common.{◌≡◌, ◌∙◌, sym, ap, subst, inl, inr, ℕ, ◌+◌, ◌*◌, List, [], ◌∷◌, ◌++◌, length, length-append, append_assoc, append-nil, arith}
 use Rattle.std.specs.List.{AllByRecursion}
 use Rattle.log_record.specs.declared.rec.Rec.{Rec}
-use Rattle.log_record.specs.LogList.{AreUnitsOf, units_of, end_of}
+use Rattle.log_record.specs.LogList.{units_of, end_of}
 use Rattle.log_record.specs.Spelling.{IsSpellable}
+use Rattle.log_record.proofs.LogListLemmas.{units_of-append}
 use Rattle.lock_core.specs.Lawful.{IsLawful}
-use Rattle.lock_core.proofs.ListLemmas.{all-append, all-split}
+use Rattle.lock_core.proofs.ListLemmas.{all-split}
 use Rattle.log_recovery.specs.Opened.{OpenedList, log_of, list_end, opening_before, placed, with_records}
 use Rattle.log_recovery.specs.Recovery.{HoldsLawful}
-use Rattle.log_recovery.proofs.ListingLemmas.{units_of-append}
-use Rattle.log_recovery.proofs.OpenedLemmas.{list_end-more}
+use Rattle.log_recovery.proofs.OpenedLemmas.{list_end-more, log_of-with_records}
 use Rattle.segment_file.specs.Log.{with_units, HoldsLog}
 use Rattle.segment_file.specs.StandingLog.{HoldsLogOrMore}
 use Rattle.ship_stream.specs.Stream.{records_of, IsFrame}
+use Rattle.ship_stream.proofs.StreamLemmas.{records_of-append}
+use Rattle.lsn_space.proofs.TilingLemmas.{all-append}
 use Rattle.standby.specs.AppliedFrames.{with_frames, place_behind, HoldsFront}
 use Rattle.standby.proofs.JudgedFrames.{with_records-append, with_records-none}
 
 -- ---- the records of frames
-
-pub records_of-append : (xs ys : List (List Rec)) → records_of (xs ++ ys) ≡ records_of xs ++ records_of ys
-records_of-append [] ys = refl
-records_of-append (x ∷ xs) ys = ap (λ rs. x ++ rs) (records_of-append xs ys) ∙ sym (append_assoc x (records_of xs) (records_of ys))
 
 pub records_of-push : (frames : List (List Rec)) (records : List Rec) → records_of (frames ++ records ∷ []) ≡ records_of frames ++ records
 records_of-push frames records = records_of-append frames (records ∷ []) ∙ ap (λ rs. records_of frames ++ rs) (append-nil records)
@@ -52,10 +50,6 @@ list_end-frames list frames = list_end-more list (records_of frames)
 pub place_behind-push : (at : ℕ) (frames : List (List Rec)) (records : List Rec)
     → place_behind at (frames ++ records ∷ []) ≡ place_behind at frames + (5 + 8 * end_of records)
 place_behind-push at frames records = omega (arith, end_of_records_of-push frames records, length-append frames (records ∷ []))
-
-pub log_of-with_records : (list : OpenedList) (records : List Rec)
-    → with_units (log_of list) (units_of records) ≡ log_of (with_records list records)
-log_of-with_records list records = λ i. record { opening = list.opening; units = sym (units_of-append list.records records) i }
 
 -- ---- what an image holds
 

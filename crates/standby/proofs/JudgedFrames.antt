@@ -4,12 +4,11 @@ use Rattle.std.specs.List.{AllByRecursion}
 use Rattle.std.proofs.Math.Seq.{drop-append_seam}
 use Rattle.std.proofs.lemmas.List.{drop-drop}
 use Rattle.log_record.specs.declared.rec.Rec.{Rec}
-use Rattle.log_record.specs.declared.rec.Placed.{Placed}
 use Rattle.log_record.specs.LogList.{AreUnitsOf, units_of, end_of, size_of}
 use Rattle.log_record.specs.Spelling.{spelling, IsSpellable, BeginsWith}
-use Rattle.log_record.proofs.Fronts.{spelling-parts_of}
-use Rattle.log_record.proofs.SpellingLemmas.{spelling-append-injective}
-use Rattle.lock_core.specs.History.{end_from, entry_at, history_from}
+use Rattle.log_record.proofs.SpellingLemmas.{spelling-append-injective, size_of-positive, begins_with-size_of_le}
+use Rattle.log_record.proofs.LogListLemmas.{end_of-append}
+use Rattle.lock_core.specs.History.{entry_at}
 use Rattle.lock_core.specs.Faults.{IsFirstFailing, IsUnlawfulAt}
 use Rattle.lock_core.specs.Lawful.{Passes}
 use Rattle.lock_core.specs.Taking.{HasJudged}
@@ -17,30 +16,14 @@ use Rattle.lock_core.specs.declared.judge.Judge.{Judge}
 use Rattle.lock_core.specs.declared.reason.Why.{Why}
 use Rattle.lock_core.proofs.Fronts.{history_from-append, history_from-extends}
 use Rattle.log_recovery.specs.Opened.{OpenedList, list_end, opening_before, placed, with_records}
-use Rattle.log_recovery.proofs.ListingLemmas.{units_of-append}
 use Rattle.log_recovery.proofs.OpenedLemmas.{list_end-more, placed-end}
 use Rattle.standby.specs.TakenList.{HasTakenList}
 
 -- ---- records and their units
 
--- a spelling has at least one unit
-pub size_of-positive : (rec : Rec) → 0 < size_of rec
-size_of-positive rec = omega (arith, ap length (spelling-parts_of rec))
-
-size_of-begins : (units : List ℕ) (rec : Rec) → BeginsWith units rec → size_of rec ≤ length units
-size_of-begins units rec begins = omega (arith, ap length begins.2, length-append (spelling rec) begins.1)
-
--- the record ends within the units
-pub ends-within : (units : List ℕ) (at : ℕ) (rec : Rec) → at ≤ length units → BeginsWith (drop at units) rec
-    → at + size_of rec ≤ length units
-ends-within units at rec within begins = omega (arith, within, size_of-begins _ rec begins, length-drop at units)
-
 all-behind : (xs ys : List Rec) → AllByRecursion IsSpellable (xs ++ ys) → AllByRecursion IsSpellable ys
 all-behind [] ys all = all
 all-behind (x ∷ xs) ys all = all-behind xs ys all.1
-
-pub end_of-append : (xs ys : List Rec) → end_of (xs ++ ys) ≡ end_of xs + end_of ys
-end_of-append xs ys = ap length (units_of-append xs ys) ∙ length-append (units_of xs) (units_of ys)
 
 end_of-one : (rec : Rec) → end_of (rec ∷ []) ≡ size_of rec
 end_of-one rec = ap length (append-nil (spelling rec))
@@ -123,7 +106,7 @@ module _ (list : OpenedList) (records : List Rec) (at : ℕ) (units : List ℕ) 
     goes = by-unseen to.unseen unseen-spellable to.left refl
       where
         by-unseen : (unseen : List Rec) → AllByRecursion IsSpellable unseen → drop at units ≡ units_of unseen → to.unseen ≡ unseen → Goes
-        by-unseen [] all left is = absurd (omega (arith, size_of-positive rec, size_of-begins _ rec begins, ap length left))
+        by-unseen [] all left is = absurd (omega (arith, size_of-positive rec, begins_with-size_of_le _ rec begins, ap length left))
         by-unseen (next ∷ unseen) all left is =
             let same = spelling-append-injective next rec _ _ all.0 begins.0 (sym left ∙ begins.2) in
             record { unseen = unseen; whole = is ∙ ap (λ r. r ∷ unseen) same.0 }

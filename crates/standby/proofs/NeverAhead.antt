@@ -1,7 +1,6 @@
 -- What was shipped and followed is a front of the list.
-use Rattle.std.proofs.Common.{◌≡◌, ◌≤◌, ◌∙◌, sym, ap, refl, subst, inl, inr, ℕ, ◌+◌, List, [], ◌∷◌, ◌++◌, length, append_assoc, append-nil, arith}
+use Rattle.std.proofs.Common.{◌≡◌, ◌∙◌, sym, ap, subst, inl, inr, ℕ, ◌+◌, List, [], ◌++◌, append_assoc, arith}
 use Rattle.std.specs.List.{AllByRecursion}
-use Rattle.lsn_space.specs.declared.lsn.TheConstants.{LAST}
 use Rattle.log_record.specs.declared.rec.Rec.{Rec}
 use Rattle.log_record.specs.LogList.{end_of}
 use Rattle.log_record.specs.Spelling.{IsSpellable}
@@ -10,13 +9,12 @@ use Rattle.log_recovery.specs.Opened.{OpenedList, list_end, with_front}
 use Rattle.log_recovery.specs.Recovery.{HoldsLawful}
 use Rattle.log_recovery.proofs.OpenedLemmas.{list_end-more}
 use Rattle.ship_stream.specs.Frames.{frames_of, stream_of}
-use Rattle.ship_stream.specs.Stream.{records_of, HasFrames, IsStream}
+use Rattle.ship_stream.specs.Stream.{records_of, IsStream}
 use Rattle.ship_stream.specs.declared.layout.TheConstants.{SHIPPED_UNITS}
 use Rattle.ship_stream.proofs.PackingLemmas.{records_of-packed, shipped-stream}
-use Rattle.ship_stream.proofs.StreamLemmas.{one_stream-front}
+use Rattle.ship_stream.proofs.StreamLemmas.{one_stream-front, records_of-append}
+use Rattle.stream_reader.proofs.ReaderLemmas.{has_frames-more}
 use Rattle.standby.specs.Following.{BeginsWithFrames, HoldsFollowed}
-use Rattle.standby.proofs.FrameLists.{records_of-append}
-use Rattle.standby.proofs.StoppedStreams.{has_frames-more}
 
 module _ (list : OpenedList) (before later : List Rec) (log fed more : List ℕ) (held : HoldsLawful log list)
     (whole : list.records ≡ before ++ later)

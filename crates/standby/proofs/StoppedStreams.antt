@@ -1,33 +1,31 @@
 -- How a standby stops at a frame.
-use Rattle.std.proofs.Common.{◌≡◌, ◌≢◌, ◌≤◌, ◌∙◌, sym, ap, refl, subst, inl, inr, ℕ, ◌+◌, List, [], ◌∷◌, ◌++◌, length, length-append, append_assoc, append-nil, arith}
+use Rattle.std.proofs.Common.{◌≡◌, ◌≤◌, ◌∙◌, sym, ap, refl, subst, inr, ℕ, ◌+◌, List, [], ◌∷◌, ◌++◌, length, append_assoc, append-nil, arith}
 use Rattle.std.specs.List.{flat_map}
-use Rattle.log_disk.specs.Disk.{Leaves}
-use Rattle.log_disk.specs.Faults.{Rose, CountsWhere}
+use Rattle.log_disk.specs.Faults.{Rose}
 use Rattle.log_disk.specs.declared.disk.LogDisk.{Ghosts}
 use Rattle.log_disk.proofs.Moments.{Leaves-images_now}
 use Rattle.lsn_space.specs.declared.lsn.TheConstants.{LAST}
 use Rattle.log_record.specs.declared.rec.Rec.{Rec}
-use Rattle.log_record.specs.LogList.{AreUnitsOf, units_of, end_of}
+use Rattle.log_record.specs.LogList.{AreUnitsOf, end_of}
+use Rattle.log_record.proofs.LogListLemmas.{end_of-append}
 use Rattle.lock_core.specs.Faults.{IsUnlawfulAt}
 use Rattle.lock_core.specs.declared.judge.Judge.{Judge}
-use Rattle.lock_core.specs.declared.reason.Why.{Why}
 use Rattle.lock_core.proofs.ListLemmas.{all-split}
 use Rattle.log_recovery.specs.Opened.{OpenedList, list_end, opening_before, placed, with_records}
-use Rattle.segment_file.specs.declared.scan_result.Tail.{Tail}
-use Rattle.ship_stream.specs.Stream.{head_bytes, frame_bytes, records_of, frames_end, HasFrames, IsFrame}
+use Rattle.ship_stream.specs.Stream.{head_bytes, frame_bytes, records_of, HasFrames, IsFrame}
 use Rattle.ship_stream.specs.Came.{Came, HasCome}
+use Rattle.ship_stream.proofs.StreamLemmas.{records_of-append}
 use Rattle.stream_reader.specs.Reader.{HasRead}
 use Rattle.stream_reader.specs.declared.reader.StreamReader.{StreamReader}
 use Rattle.stream_reader.proofs.ReaderLemmas.{has-come}
 use Rattle.standby.specs.declared.standby.Standby.{Standby}
 use Rattle.standby.specs.declared.fault.StandbyFault.{StandbyFault}
 use Rattle.standby.specs.declared.fault.StandbyFault.TheVariants.{BadStream, Gap, StreamUnlawful, DiskFault, NoMemory}
-use Rattle.standby.specs.AppliedFrames.{Base, with_frames, HoldsFront, Wrote, HasApplied}
-use Rattle.standby.specs.Following.{BeginsWithFrames, HasFrame, IsReason, Stops}
+use Rattle.standby.specs.AppliedFrames.{Base, with_frames, HoldsFront, Wrote}
+use Rattle.standby.specs.Following.{BeginsWithFrames, HasFrame, Stops}
 use Rattle.standby.specs.TakenList.{HasTakenList, IsFrameFault}
 use Rattle.standby.proofs.AppliedFrames.{WroteFrame, wrote-push, frame-leaves_holds_front}
-use Rattle.standby.proofs.FrameLists.{records_of-append, end_of_records_of-push, all_frames-last_is_frame, list_end-frames, with_frames-push, holds-front-none, holds-front-more, holds-lawful}
-use Rattle.standby.proofs.JudgedFrames.{end_of-append}
+use Rattle.standby.proofs.FrameLists.{end_of_records_of-push, all_frames-last_is_frame, list_end-frames, with_frames-push, holds-front-none, holds-front-more, holds-lawful}
 
 -- ---- frames and bytes
 
@@ -51,15 +49,6 @@ has_frames-front bytes first frames more rest has =
           ∙ ap (λ b. b ++ rest) (sym (append_assoc head these those))
           ∙ append_assoc (head ++ these) those rest;
     }
-
--- and stay so, whatever follows
-pub has_frames-more : (bytes : List ℕ) (first : ℕ) (frames : List (List Rec)) (rest more : List ℕ) → HasFrames bytes first frames rest
-    → HasFrames (bytes ++ more) first frames (rest ++ more)
-has_frames-more bytes first frames rest more has = record {
-  each = has.each;
-  total = has.total;
-  whole = ap (λ b. b ++ more) has.whole ∙ append_assoc (head_bytes first ++ flat_map frame_bytes frames) rest more;
-}
 
 pub begins_with_frames-append_none : (fed : List ℕ) (list : OpenedList) (frames : List (List Rec)) → BeginsWithFrames fed list frames
     → BeginsWithFrames fed list (frames ++ [])

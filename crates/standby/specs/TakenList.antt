@@ -1,5 +1,5 @@
 -- A list that a judge has taken, that each image of a disk holds, and at whose end the log goes on. `g` is what a disk shows.
-use Rattle.std.specs.Prelude.{◌≡◌, ℕ, ◌+◌, ◌*◌, ◌^◌, ◌≤◌, List}
+use Rattle.std.specs.Prelude.{◌≡◌, ◌+◌, ◌*◌, ◌^◌, ◌≤◌, List}
 use Rattle.std.specs.List.{AllByRecursion}
 use Rattle.log_disk.specs.declared.disk.LogDisk.{Ghosts}
 use Rattle.log_record.specs.Spelling.{IsSpellable}
@@ -12,7 +12,7 @@ use Rattle.log_recovery.specs.Opened.{OpenedList, log_of, list_end, opening_befo
 use Rattle.segment_file.specs.StandingLog.{LogStands, IsShut}
 use Rattle.segment_file.specs.declared.scan_result.Tail.{Tail}
 use Rattle.standby.specs.declared.fault.StandbyFault.{StandbyFault}
-use Rattle.standby.specs.declared.fault.StandbyFault.TheVariants.{BadStream, Gap, StreamUnlawful, DiskFault, NoMemory}
+use Rattle.standby.specs.declared.fault.StandbyFault.TheVariants.{StreamUnlawful, NoMemory}
 
 -- the judge has taken the records of the list, so it is lawful
 abbrev pub HasTakenList : OpenedList → Judge → Type 0

@@ -1,6 +1,6 @@
 //! Logs and streams, and a standby that is opened and fed in pieces.
 
-ghost use Rattle.std.specs.Prelude.{◌≡◌, List, ℕ, IfOk, IfSome, OnOk};
+ghost use Rattle.std.specs.Prelude.{List, ℕ, IfSome, OnOk};
 ghost use Rattle.log_recovery.specs.Opened.{OpenedList};
 ghost use Rattle.standby.specs.AppliedFrames.{Base};
 ghost use Rattle.standby.specs.Following.{Follows};

@@ -1,5 +1,5 @@
 -- How what is read of a stream goes on, stage by stage.
-use Rattle.std.proofs.Common.{◌≡◌, ◌<◌, ◌≤◌, ◌∙◌, sym, ap, subst, refl, ℕ, ◌+◌, ◌*◌, ◌^◌, List, [], ◌∷◌, ◌++◌, length, take, drop, arith, length-append, append_assoc, append-nil}
+use Rattle.std.proofs.Common.{◌≡◌, ◌<◌, ◌≤◌, ◌∙◌, sym, ap, subst, refl, ℕ, ◌+◌, ◌*◌, ◌^◌, List, [], ◌∷◌, ◌++◌, length, take, arith, length-append, append_assoc, append-nil}
 use Rattle.std.specs.List.{flat_map, AllByRecursion}
 use Rattle.std.specs.Int.{w32, to_be_bytes}
 use Rattle.std.proofs.Math.Seq.{take-append_seam}
@@ -8,17 +8,18 @@ use Rattle.std.proofs.lemmas.List.Elements.{All-from_recursion}
 use Rattle.lsn_space.specs.Unit.{unit_bytes}
 use Rattle.lsn_space.specs.declared.lsn.TheConstants.{LAST}
 use Rattle.lsn_space.proofs.TilingLemmas.{all-push}
+use Rattle.lsn_space.proofs.UnitLemmas.{length-unit_bytes}
 use Rattle.log_record.specs.declared.rec.Rec.{Rec}
 use Rattle.log_record.specs.LogList.{units_of, end_of, AreUnitsOf}
-use Rattle.log_record.specs.Spelling.{spelling}
+use Rattle.log_record.proofs.LogListLemmas.{end_of-append}
 use Rattle.ship_stream.specs.Came.{Came, HasCome, IsBegun, count_begun, units_begun, IsBadBehind, IsWhole}
 use Rattle.ship_stream.specs.Came.Came.{NoHead, Open, Whole}
-use Rattle.ship_stream.specs.Stream.{stream_magic, head_bytes, counted_bytes, frame_bytes, end_bytes, records_of, frames_end, IsFrame, HasFrames, HasNoHead, HasNoFrame, HasNoEnd}
+use Rattle.ship_stream.specs.Stream.{stream_magic, head_bytes, counted_bytes, frame_bytes, end_bytes, records_of, frames_end, IsFrame, HasFrames, HasNoFrame}
 use Rattle.ship_stream.specs.declared.layout.TheConstants.{MOST_FRAME_UNITS}
-use Rattle.ship_stream.proofs.FrameLemmas.{end_of-append, same_number, same_units, units_of-below_64_bits, length-head, length-unit_bytes, length-frame}
+use Rattle.ship_stream.proofs.FrameLemmas.{same_number, same_units, units_of-below_64_bits, length-head, length-frame}
 use Rattle.ship_stream.proofs.StreamLemmas.{begun-no_frame, begun-no_end}
 use Rattle.segment_file.specs.File.{AreUnits}
-use Rattle.stream_reader.specs.Reader.{units_bytes, part_bytes, IsFrameBegun, IsAtStage, ReadsTo, ReadsAt}
+use Rattle.stream_reader.specs.Reader.{units_bytes, part_bytes, IsAtStage, ReadsAt}
 use Rattle.stream_reader.specs.declared.reader.Stage.{Stage}
 use Rattle.stream_reader.specs.declared.reader.Stage.TheVariants.{Head, Count, Units, End}
 
@@ -27,9 +28,9 @@ IsUnit unit = unit < 2 ^ 64
 
 -- ---- frames in front of more
 
-pub frames-append : (bytes : List ℕ) (first : ℕ) (frames : List (List Rec)) (rest more : List ℕ) → HasFrames bytes first frames rest
+pub has_frames-more : (bytes : List ℕ) (first : ℕ) (frames : List (List Rec)) (rest more : List ℕ) → HasFrames bytes first frames rest
     → HasFrames (bytes ++ more) first frames (rest ++ more)
-frames-append bytes first frames rest more reads = record {
+has_frames-more bytes first frames rest more reads = record {
   each = reads.each;
   total = reads.total;
   whole = ap (λ list. list ++ more) reads.whole ∙ append_assoc (head_bytes first ++ flat_map frame_bytes frames) rest more;
@@ -161,7 +162,7 @@ stage_end-more_bad at next room units begun past piece after (Open first frames)
 stage_end-more_bad at next room units begun past piece after (Whole first frames) r some = (
   piece ++ after,
   subst (λ list. HasFrames list first frames (end_bytes ++ (piece ++ after))) (sym (append_assoc past piece after))
-      (frames-append past first frames end_bytes (piece ++ after) r.reads),
+      (has_frames-more past first frames end_bytes (piece ++ after) r.reads),
   omega (arith, some, length-append piece after),
   omega (arith, r.place, length-append past (piece ++ after), ap length (append_assoc past piece after)),
 )
@@ -183,7 +184,7 @@ module _ (past : List ℕ) (first at : ℕ) (frames : List (List Rec)) (part pie
   counted-read : HasFrames (past ++ piece ++ after) first frames (to_be_bytes w32 count ++ tail)
   counted-read = subst (λ list. HasFrames list first frames (to_be_bytes w32 count ++ tail)) (sym (append_assoc past piece after))
       (frames-same (past ++ (piece ++ after)) first frames (part ++ (piece ++ after)) _ behind
-      (frames-append past first frames part (piece ++ after) reads))
+      (has_frames-more past first frames part (piece ++ after) reads))
 
   counted-place : at + length (to_be_bytes w32 count ++ tail) ≡ length (past ++ piece ++ after)
   counted-place = omega (
@@ -270,7 +271,7 @@ module _ (at next room : ℕ) (units begun past more : List ℕ) where
   count-more NoHead r short = absurd r.stage_is
   count-more (Open first frames) r short = record {
     stage_is = (r.stage_is.0, short);
-    reads = frames-append past first frames begun more r.reads;
+    reads = has_frames-more past first frames begun more r.reads;
     place = omega (arith, r.place, length-append begun more, length-append past more);
     room_is = r.room_is;
   }
@@ -287,7 +288,7 @@ module _ (at next room : ℕ) (units begun past more : List ℕ) where
     refl,
     record {
       stage_is = tt;
-      reads = frames-same (past ++ more) first frames (begun ++ more) end_bytes is (frames-append past first frames begun more r.reads);
+      reads = frames-same (past ++ more) first frames (begun ++ more) end_bytes is (has_frames-more past first frames begun more r.reads);
       place = omega (arith, r.place, ap length is, length-append begun more, length-append past more);
       room_is = r.room_is;
     },
@@ -302,7 +303,7 @@ module _ (at next room : ℕ) (units begun past more : List ℕ) where
   count-reads_at_units (Open first frames) count r is some most fits = record {
     stage_is = (r.stage_is.0, record { under = some; most = most; fits = fits; short = omega arith; each = tt });
     reads = frames-same (past ++ more) first frames (begun ++ more) (to_be_bytes w32 count ++ units_bytes [] [])
-        (is ∙ sym (append-nil (to_be_bytes w32 count))) (frames-append past first frames begun more r.reads);
+        (is ∙ sym (append-nil (to_be_bytes w32 count))) (has_frames-more past first frames begun more r.reads);
     place = omega (arith, r.place, ap length is, length-append begun more, length-append past more);
     room_is = r.room_is;
   }
@@ -334,7 +335,7 @@ module _ (at next room : ℕ) (units begun past more : List ℕ) where
   units-read first frames count new left is reads =
       frames-same (past ++ more) first frames _ (to_be_bytes w32 count ++ units_bytes new left)
       (ap (λ list. to_be_bytes w32 count ++ list) (sym is))
-      (frames-append past first frames (to_be_bytes w32 count ++ units_bytes units begun) more reads)
+      (has_frames-more past first frames (to_be_bytes w32 count ++ units_bytes units begun) more reads)
 
   -- units have come, and not yet all
   pub units-more : (came : Came) (count : ℕ) (new left : List ℕ) → ReadsAt (Units count) at next room units begun past came
@@ -387,7 +388,7 @@ module _ (at next room : ℕ) (units begun past more : List ℕ) where
         } in
         let bytes : counted_bytes count new ≡ frame_bytes records = (λ i. counted_bytes (count_is i) (are.units_are i)) in
         let reads = frames-same (past ++ more) first frames _ (frame_bytes records) (spelled ∙ bytes)
-        (frames-append past first frames (to_be_bytes w32 count ++ units_bytes units begun) more r.reads) in (
+        (has_frames-more past first frames (to_be_bytes w32 count ++ units_bytes units begun) more r.reads) in (
           first,
           frames,
           refl,

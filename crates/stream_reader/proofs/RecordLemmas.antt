@@ -1,16 +1,16 @@
 -- How the records of a frame are read from its units.
-use Rattle.std.proofs.Common.{◌≡◌, ◌<◌, ◌≤◌, ◌∙◌, sym, ap, subst, refl, ℕ, zero, suc, ◌+◌, ◌^◌, List, [], ◌∷◌, ◌++◌, length, take, drop, get_or, arith, length-append, append_assoc, append-nil}
+use Rattle.std.proofs.Common.{◌≡◌, ◌<◌, ◌≤◌, ◌∙◌, sym, ap, refl, ℕ, zero, suc, ◌+◌, ◌^◌, List, [], ◌∷◌, ◌++◌, length, take, drop, get_or, arith, length-append, append_assoc, append-nil}
 use Rattle.std.specs.List.{AllByRecursion}
 use Rattle.std.proofs.Math.Seq.{take-append_seam, drop-append_seam, drop-cons}
 use Rattle.std.proofs.lemmas.List.{take-append-drop, take_more, get_or-drop, length-drop, drop_all}
 use Rattle.lsn_space.proofs.TilingLemmas.{all-push}
 use Rattle.log_record.specs.declared.rec.Rec.{Rec}
-use Rattle.log_record.specs.LogList.{units_of, end_of, size_of, AreUnitsOf}
+use Rattle.log_record.specs.LogList.{units_of, size_of, AreUnitsOf}
 use Rattle.log_record.specs.Spelling.{header, spelling, IsSpellable, BeginsWith}
 use Rattle.log_record.proofs.BoundLemmas.{length-spelling}
 use Rattle.log_record.proofs.Fronts.{front_header-kind_and_length}
-use Rattle.log_record.proofs.SpellingLemmas.{spelling-append-injective}
-use Rattle.ship_stream.proofs.FrameLemmas.{units_of-append, length_spelling-positive}
+use Rattle.log_record.proofs.SpellingLemmas.{spelling-append-injective, size_of-positive}
+use Rattle.log_record.proofs.LogListLemmas.{units_of-append}
 
 -- what begins a front begins the whole
 pub front_begins-whole_begins : (units : List ℕ) (n : ℕ) (rec : Rec) → BeginsWith (take n units) rec → BeginsWith units rec
@@ -39,7 +39,7 @@ whole_begins-front_begins units n rec begins count = (
 pub size_of-within_26_and_units : (units : List ℕ) (rec : Rec) → BeginsWith units rec
     → (0 < size_of rec) × (size_of rec ≤ 26) × (size_of rec ≤ length units)
 size_of-within_26_and_units units rec begins = (
-  length_spelling-positive rec,
+  size_of-positive rec,
   length-spelling rec begins.0,
   omega (arith, ap length begins.2, length-append (spelling rec) begins.1),
 )
@@ -97,7 +97,7 @@ next-begins (first ∷ front) [] rest fits each is some =
     absurd (omega (
       arith,
       ap length is,
-      length_spelling-positive first,
+      size_of-positive first,
       length-append (units_of (first ∷ front)) rest,
       length-append (spelling first) (units_of front),
     ))

@@ -1,9 +1,8 @@
 -- What a reader has read of a stream.
-use Rattle.std.specs.Prelude.{◌≡◌, ◌<◌, ◌≤◌, ℕ, ◌+◌, ◌*◌, List, [], ◌++◌, length}
+use Rattle.std.specs.Prelude.{◌≡◌, ◌<◌, ◌≤◌, ℕ, ◌+◌, List, ◌++◌, length}
 use Rattle.std.specs.Int.{w32, to_be_bytes}
 use Rattle.std.specs.List.{flat_map}
 use Rattle.lsn_space.specs.Unit.{unit_bytes}
-use Rattle.log_record.specs.declared.rec.Rec.{Rec}
 use Rattle.lsn_space.specs.declared.lsn.TheConstants.{LAST}
 use Rattle.segment_file.specs.File.{AreUnits}
 use Rattle.ship_stream.specs.Came.{Came}

@@ -1,6 +1,6 @@
 //! The bytes of a number, or of a head, that isn't whole yet.
 
-ghost use Rattle.std.specs.Prelude.{◌≡◌, ◌<◌, ◌≤◌, ◌+◌, ◌++◌, ◌⊎◌, [], length, take};
+ghost use Rattle.std.specs.Prelude.{◌≡◌, ◌<◌, ◌≤◌, ◌+◌, ◌++◌, [], length, take};
 ghost use Rattle.ship_stream.specs.declared.layout.TheConstants.{HEAD_BYTES};
 
 use ship_stream::HEAD_BYTES;

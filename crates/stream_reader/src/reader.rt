@@ -1,6 +1,6 @@
 //! The reader, and what it answers.
 
-ghost use Rattle.std.specs.Prelude.{◌≡◌, ◌↔◌, ◌≤◌, ◌++◌, [], ℕ, List, length, take, IsTrue, IfOk, IfErr, OnOk};
+ghost use Rattle.std.specs.Prelude.{◌↔◌, ◌≤◌, ◌++◌, [], ℕ, List, length, take, IsTrue, IfOk, IfErr, OnOk};
 ghost use Rattle.ship_stream.specs.Came.{Came, HasCome, IsBadBehind, IsWhole};
 ghost use Rattle.ship_stream.specs.Came.Came.{NoHead};
 ghost use Rattle.stream_reader.specs.Advance.{Advances, TakesBytes};

@@ -1,15 +1,12 @@
 //! The units of a frame, from the bytes that come.
 
-ghost use Rattle.std.specs.Prelude.{◌≡◌, ◌⊎◌, ◌<◌, ◌≤◌, ◌+◌, [], length, IfSome, IfNone};
-ghost use Rattle.std.specs.Int.{w64, to_be_bytes};
+ghost use Rattle.std.specs.Prelude.{◌≡◌, ◌⊎◌, ◌<◌, ◌≤◌, ◌+◌, [], length};
 ghost use Rattle.stream_reader.specs.Pushing.{PushesBytes};
 
 use crate::begun::Begun;
+use lsn_space::UNIT_BYTES;
 use segment_file::Batch;
 use segment_head::first_unit;
-
-/// The bytes of a unit.
-const UNIT: usize = 8;
 
 /// Takes bytes of the piece until the batch has so many units, and answers how many were taken. Bytes of a unit that isn't
 /// whole wait.
@@ -30,7 +27,7 @@ pub(crate) fn push_bytes(batch: &mut Batch, begun: &mut Begun, count: u32, piece
     if batch.count() == count {
         return used;
     }
-    used + begun.fill(piece.split_at(used).1, UNIT)
+    used + begun.fill(piece.split_at(used).1, UNIT_BYTES)
 }
 
 /// Takes bytes of the piece to the end of the unit under way, where there is one.
@@ -45,7 +42,7 @@ fn end_unit(batch: &mut Batch, begun: &mut Begun, piece: &[u8]) -> usize
     if begun.count() == 0 {
         return 0;
     }
-    let used = begun.fill(piece, UNIT);
+    let used = begun.fill(piece, UNIT_BYTES);
     if let Some((unit, _)) = first_unit(begun.as_slice()) {
         batch.push(unit);
         begun.clear();

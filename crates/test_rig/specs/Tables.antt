@@ -1,6 +1,6 @@
 -- The tables of tests, and what their seats do.
-use Rattle.std.specs.Prelude.{◌≡◌, ◌≤◌, ℕ, List, [], ◌∷◌}
-use Rattle.log_record.specs.declared.limits.TheConstants.{MOST_BALANCE}
+use Rattle.std.specs.Prelude.{◌≡◌, ◌≤◌, ℕ, [], ◌∷◌}
+use Rattle.lsn_space.specs.declared.opening.TheConstants.{MOST_BALANCE}
 use Rattle.log_rule.specs.Views.{sent_to}
 use Rattle.log_table.specs.HiredWorkers.{HasHired}
 use Rattle.log_table.specs.Seats.{IsOf, key_of, view_of}

@@ -1,9 +1,9 @@
 //! A table of two accounts, its workers, and a job between the two.
 ghost use Rattle.std.specs.Prelude.{◌≡◌, ◌≤◌, ◌+◌, [], ◌∷◌, None, IfOk};
-ghost use Rattle.log_record.specs.declared.limits.TheConstants.{MOST_BALANCE};
+ghost use Rattle.lsn_space.specs.declared.opening.TheConstants.{MOST_BALANCE};
 ghost use Rattle.log_record.specs.Spelling.{IsTxn};
 ghost use Rattle.lock_core.specs.Transfers.{IsAllowedJob};
-ghost use Rattle.log_rule.specs.declared.layout.TheConstants.{MOST_SLOTS};
+ghost use Rattle.lsn_space.specs.declared.lsn.TheConstants.{MOST_SLOTS};
 ghost use Rattle.log_table.specs.HiredWorkers.{HasHired};
 ghost use Rattle.test_rig.specs.NotedJobs.{IsNew, MayInsert};
 ghost use Rattle.test_rig.specs.Tables.{AreBalances, IsTableOf};

@@ -1,8 +1,7 @@
 -- Lists of numbers that rise.
 use Rattle.std.proofs.Common.{ℕ, ◌+◌, ◌<◌, ◌≤◌, List, [], ◌∷◌, ◌++◌, length, arith}
 use Rattle.std.specs.List.{AllByRecursion}
-use Rattle.lsn_space.proofs.TilingLemmas.{all-weaken}
-use Rattle.lock_core.proofs.ListLemmas.{all-append}
+use Rattle.lsn_space.proofs.TilingLemmas.{all-weaken, all-append}
 use Rattle.txn_jobs.specs.Places.{Rises}
 
 -- a number above all others comes behind them

@@ -25,11 +25,11 @@ pub LieInOrder-weaken_from : (sooner from to : ℕ) (entries : List Entry) → s
 LieInOrder-weaken_from sooner from to [] less lie = omega arith
 LieInOrder-weaken_from sooner from to (entry ∷ entries) less lie = (omega (arith, lie.0), lie.1)
 
-lie-append : (from mid to : ℕ) (entries more : List Entry) → LieInOrder from mid entries → LieInOrder mid to more
+pub LieInOrder-append : (from mid to : ℕ) (entries more : List Entry) → LieInOrder from mid entries → LieInOrder mid to more
     → LieInOrder from to (entries ++ more)
-lie-append from mid to [] more before after = LieInOrder-weaken_from from mid to more before after
-lie-append from mid to (entry ∷ entries) more before after =
-    (before.0, lie-append (entry.start + entry.size) mid to entries more before.1 after)
+LieInOrder-append from mid to [] more before after = LieInOrder-weaken_from from mid to more before after
+LieInOrder-append from mid to (entry ∷ entries) more before after =
+    (before.0, LieInOrder-append (entry.start + entry.size) mid to entries more before.1 after)
 
 placed_behind-append : (entries more : List Entry) (placed : List Placed)
     → placed_behind (entries ++ more) placed ≡ placed_behind more (placed_behind entries placed)
@@ -48,7 +48,7 @@ pub adds-trans : (entries more : List Entry) (first second third : Seat) → Add
 adds-trans entries more first second third before after = record {
   entries = subst (λ (p : List Entry × Books). HasEntries first third p.0 p.1) (λ i. (list i, books i))
       (HasEntries-trans _ _ _ _ _ _ _ before.entries after.entries);
-  within = lie-append _ _ _ entries more before.within after.within;
+  within = LieInOrder-append _ _ _ entries more before.within after.within;
 }
   where
     list : (view_of second).entries ++ more ≡ (view_of first).entries ++ (entries ++ more)

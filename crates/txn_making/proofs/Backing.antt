@@ -1,33 +1,14 @@
 -- The values with which accounts go back.
-use Rattle.std.proofs.Common.{◌≡◌, ◌&&◌, ◌||◌, ◌+◌, cond, false, List, [], ◌∷◌, get_or, All, refl, sym, ◌∙◌}
-use Rattle.std.specs.List.{AllByRecursion}
-use Rattle.log_record.specs.declared.rec.Rec.{Rec}
-use Rattle.log_record.specs.declared.rec.Rec.TheVariants.{Genesis, Update, Commit, Short, Over, Note}
-use Rattle.log_record.specs.declared.rec.Placed.{Placed}
+use Rattle.std.proofs.Common.{◌≡◌, ◌&&◌, ◌+◌, cond, false, List, get_or, All, sym, ◌∙◌}
 use Rattle.lock_core.specs.declared.update.Change.{Change}
 use Rattle.lock_core.specs.History.{end_from}
-use Rattle.lock_core.specs.Records.{commits, gain, loss}
+use Rattle.lock_core.specs.Records.{gain, loss}
 use Rattle.lock_core.specs.Sums.{moved}
 use Rattle.lock_core.specs.Transactions.{recs_of, changes_in, has_commit, touches}
 use Rattle.log_rule.specs.declared.view.Books.{Books}
-use Rattle.log_rule.specs.Books.{IsNote}
 use Rattle.txn_parts.specs.declared.release.Release.TheVariants.{Unchanged}
 use Rattle.txn_parts.specs.declared.taken_account.TakenAccount.{TakenAccount}
 use Rattle.txn_making.specs.Holdings.{GoesBack}
-
-note-uncommitted : (rec : Rec) → IsNote rec → commits rec ≡ false
-note-uncommitted (Note txn text) note = refl
-note-uncommitted (Genesis account balance) note = refl
-note-uncommitted (Update txn account delta prev) note = refl
-note-uncommitted (Short txn leg) note = refl
-note-uncommitted (Over txn leg) note = refl
-note-uncommitted (Commit txn legs) note = absurd note
-
--- a Note is no Commit
-pub notes-uncommitted : (placed : List Placed) → AllByRecursion (λ (entry : Placed). IsNote entry.rec) placed
-    → has_commit (recs_of placed) ≡ false
-notes-uncommitted [] notes = refl
-notes-uncommitted (entry ∷ placed) notes = λ i. note-uncommitted entry.rec notes.0 i || notes-uncommitted placed notes.1 i
 
 -- where there is no Commit, accounts go back as they were taken
 back-unchanged : (books : Books) → has_commit (recs_of books.placed) ≡ false → (holding : TakenAccount) → GoesBack Unchanged books holding

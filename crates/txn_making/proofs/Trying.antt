@@ -1,7 +1,7 @@
 -- One account is tried: it is taken, or it was held.
 use Rattle.std.proofs.Common.{◌≡◌, ℕ, ◌≤◌, ◌∙◌, List, Bool, true, false, sym, ap, arith}
 use Rattle.std.specs.Prelude.{MatchBool}
-use Rattle.log_record.specs.declared.limits.TheConstants.{MOST_BALANCE}
+use Rattle.lsn_space.specs.declared.opening.TheConstants.{MOST_BALANCE}
 use Rattle.log_rule.specs.Books.{taking}
 use Rattle.log_table.specs.Seats.{Becomes, view_of}
 use Rattle.log_table.specs.declared.table.Seat.{Seat}

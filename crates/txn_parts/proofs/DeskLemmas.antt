@@ -1,38 +1,14 @@
 -- A worker works on, call after call.
-use Rattle.std.proofs.Common.{◌≡◌, ℕ, ◌∙◌, refl, sym, ap, subst, arith}
+use Rattle.std.proofs.Common.{◌≡◌, ℕ, ◌∙◌, refl, sym, ap, subst}
 use Rattle.log_rule.specs.declared.view.Call.TheVariants.{Idle}
-use Rattle.log_rule.specs.declared.view.Constants.{Constants}
-use Rattle.log_table.specs.declared.table.LogTable.{LogTable}
 use Rattle.log_table.specs.declared.table.Seat.{Seat}
-use Rattle.log_table.specs.Seats.{IsOf, view_of}
+use Rattle.log_table.specs.Seats.{view_of}
 use Rattle.ring_buffer.specs.Calls.{IsReady, IsSameWorker}
 use Rattle.ring_buffer.proofs.TwoCalls.{IsSameWorker-trans}
+use Rattle.ring_buffer.proofs.SameWorkers.{IsSameWorker-refl}
 use Rattle.txn_parts.specs.Desk.{IsAtWork, WorksOn, accounts_at}
 use Rattle.txn_parts.specs.declared.desk.Desk.{Desk}
 use Rattle.txn_parts.specs.declared.relief.Relief.{Ghosts}
-
-pub IsSameWorker-refl : (seat : Seat) → IsSameWorker seat seat
-IsSameWorker-refl seat = record {
-  table_is = refl;
-  number = refl;
-  slots = refl;
-  worker = refl;
-  constants = refl;
-  standing = refl;
-  grows = omega arith;
-  exposed = omega arith;
-  durable = omega arith;
-  steps = omega arith;
-}
-
--- the same worker's seat is the table's still, and ready where nothing is under way and it is as contended as before
-pub IsOf-same : (table : LogTable) (first second : Seat) → IsOf table first → IsSameWorker first second → IsOf table second
-IsOf-same table first second of same = record {
-  table_is = same.table_is ∙ of.table_is;
-  no_slots = same.slots ∙ of.no_slots;
-  ring = ap (λ (constants : Constants). constants.ring) same.constants ∙ of.ring;
-  slots = ap (λ (constants : Constants). constants.slots) same.constants ∙ of.slots;
-}
 
 pub IsReady-same : (first second : Seat) → IsReady (view_of first) → IsSameWorker first second → (view_of second).call ≡ Idle
     → (view_of second).contended ≡ (view_of first).contended → IsReady (view_of second)

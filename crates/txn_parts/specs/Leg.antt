@@ -1,6 +1,6 @@
 -- One leg of a transfer, on the balances of the accounts that are held.
 use Rattle.std.specs.Prelude.{◌≡◌, ℕ, ◌+◌, ◌-◌, ◌<◌, ◌≤◌, List, Contains}
-use Rattle.log_record.specs.declared.limits.TheConstants.{MOST_BALANCE}
+use Rattle.lsn_space.specs.declared.opening.TheConstants.{MOST_BALANCE}
 use Rattle.lock_core.specs.Alone.{after_leg}
 use Rattle.txn_jobs.specs.declared.rows.Answer.{Answer}
 use Rattle.txn_jobs.specs.declared.rows.Answer.TheVariants.{Done, Short, Over}

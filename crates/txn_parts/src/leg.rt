@@ -1,7 +1,7 @@
 //! One leg of a transfer, on the balances of the accounts that are held.
 ghost use Rattle.std.specs.Prelude.{◌≡◌, ◌≤◌, pos, neg_ℤ, map, All, Contains, IfSome, IfNone};
 ghost use Rattle.std.specs.List.{AllZip};
-ghost use Rattle.log_record.specs.declared.limits.TheConstants.{MOST_BALANCE};
+ghost use Rattle.lsn_space.specs.declared.opening.TheConstants.{MOST_BALANCE};
 ghost use Rattle.log_record.specs.Spelling.{spelling, IsAccount};
 ghost use Rattle.log_record.specs.declared.rec.Rec.TheVariants as Rec;
 ghost use Rattle.txn_jobs.specs.Accounts.{HasAccountsOf};
@@ -10,8 +10,8 @@ ghost use Rattle.txn_parts.specs.Leg.{IsRefused, CanMake, CanBear, IsAfter};
 
 use crate::taken_account::TakenAccount;
 use lock_core::Leg;
-use log_record::{MOST_BALANCE, Units, spell_update};
-use lsn_space::Lsn;
+use log_record::{Units, spell_update};
+use lsn_space::{Lsn, MOST_BALANCE};
 use txn_jobs::Answer;
 
 /// The answer that refuses the leg at this place, from 1, on the balances as they are now. None: it can be made.

@@ -1,6 +1,6 @@
 //! With which values accounts go back.
 ghost use Rattle.std.specs.Prelude.{◌≡◌, ◌≤◌};
-ghost use Rattle.log_record.specs.declared.limits.TheConstants.{MOST_BALANCE};
+ghost use Rattle.lsn_space.specs.declared.opening.TheConstants.{MOST_BALANCE};
 ghost use Rattle.txn_parts.specs.Holdings.{back_of};
 
 use crate::taken_account::TakenAccount;

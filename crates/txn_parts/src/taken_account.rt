@@ -1,6 +1,6 @@
 //! An account that a transfer holds.
 ghost use Rattle.std.specs.Prelude.{◌≤◌};
-ghost use Rattle.log_record.specs.declared.limits.TheConstants.{MOST_BALANCE};
+ghost use Rattle.lsn_space.specs.declared.opening.TheConstants.{MOST_BALANCE};
 
 use early_locks::Taken;
 

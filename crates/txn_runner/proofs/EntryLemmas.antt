@@ -7,6 +7,7 @@ use Rattle.log_record.specs.declared.rec.Rec.{Rec}
 use Rattle.lock_core.specs.Records.{txn_of}
 use Rattle.log_rule.specs.declared.view.Entry.{Entry}
 use Rattle.log_rule.specs.ClosedLog.{records_of}
+use Rattle.txn_making.proofs.Adding.{LieInOrder-weaken_from}
 use Rattle.txn_runner.specs.Running.{LieInOrder}
 use Rattle.txn_runner.specs.Working.{own_records}
 
@@ -39,14 +40,6 @@ own_records-all number (x ∷ xs) own =
 pub LieInOrder-le : (from to : ℕ) (xs : List Entry) → LieInOrder from to xs → from ≤ to
 LieInOrder-le from to [] order = order
 LieInOrder-le from to (x ∷ xs) order = omega (arith, order.0, LieInOrder-le (x.start + x.size) to xs order.1)
-
-pub LieInOrder-weaken_from : (from since to : ℕ) (xs : List Entry) → from ≤ since → LieInOrder since to xs → LieInOrder from to xs
-LieInOrder-weaken_from from since to [] before order = omega (arith, before, order)
-LieInOrder-weaken_from from since to (x ∷ xs) before order = (omega (arith, before, order.0), order.1)
-
-pub LieInOrder-append : (from mid to : ℕ) (xs ys : List Entry) → LieInOrder from mid xs → LieInOrder mid to ys → LieInOrder from to (xs ++ ys)
-LieInOrder-append from mid to [] ys first second = LieInOrder-weaken_from from mid to ys first second
-LieInOrder-append from mid to (x ∷ xs) ys first second = (first.0, LieInOrder-append (x.start + x.size) mid to xs ys first.1 second)
 
 -- each starts at the first LSN or above it, and ends at the last or below it
 pub LieInOrder-starts : (from to : ℕ) (xs : List Entry) → LieInOrder from to xs → AllByRecursion (λ (entry : Entry). from ≤ entry.start) xs

@@ -2,7 +2,6 @@
 use Rattle.std.proofs.Common.{◌≡◌, ℕ, ◌+◌, ◌-◌, ◌<◌, ◌≤◌, List, [], ◌∷◌, ◌++◌, length, All, None, refl, sym, ap, ◌∙◌, arith, append-nil, append_assoc, length-append}
 use Rattle.std.proofs.lemmas.List.Elements.{All-get_or}
 use Rattle.std.specs.List.{AllByRecursion}
-use Rattle.lock_core.proofs.ListLemmas.{all-append}
 use Rattle.lock_core.specs.declared.job.Job.{Job}
 use Rattle.lock_core.specs.Transfers.{IsAllowedJob}
 use Rattle.log_rule.specs.declared.view.TakenJob.{TakenJob}
@@ -11,6 +10,7 @@ use Rattle.txn_jobs.proofs.Rising.{Rises-length_le}
 use Rattle.job_queue.specs.declared.queue.Queue.{Queue}
 use Rattle.job_queue.specs.declared.rows.Rows.{Rows}
 use Rattle.job_queue.specs.Passes.{KeepsRows, TakesPlace}
+use Rattle.lsn_space.proofs.TilingLemmas.{all-append}
 use Rattle.txn_runner.specs.Places.{NumberedJobs, number_at, taken_at, jobs_taken, Rises}
 use Rattle.txn_runner.specs.Working.{jobs_of, rows_in, room_of, places_in, HasRoomForRows}
 

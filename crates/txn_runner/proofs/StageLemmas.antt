@@ -17,6 +17,7 @@ use Rattle.log_rule.specs.May.{HasBegunNothing, MayTakeJob}
 use Rattle.log_table.specs.Seats.{Becomes, view_of}
 use Rattle.ring_buffer.specs.Calls.{IsReady, IsSameWorker, HasEntries}
 use Rattle.ring_buffer.proofs.TwoCalls.{IsSameWorker-trans}
+use Rattle.ring_buffer.proofs.SameWorkers.{IsSameWorker-refl}
 use Rattle.txn_jobs.specs.declared.cause.Cause.{Cause}
 use Rattle.txn_parts.specs.declared.taken_account.TakenAccount.{TakenAccount}
 use Rattle.txn_jobs.specs.declared.rows.Row.{Row}
@@ -29,7 +30,6 @@ use Rattle.txn_runner.specs.Running.{GaveBack, HasRun, HasCut}
 use Rattle.txn_runner.specs.Stages.{HasTakenJob, HasNextJob, MayMakeTransfer, TakesAccounts, MayEndTransfer, GivesAll, LetsGo, IsRowOf, HasRunTaken, HasCutTaken, MakesTaken, IsCutEarly}
 use Rattle.txn_runner.proofs.Composing.{Keeps, IsGivenFrom, TakesAll-may_make_transfer, IsKnown-paid, HoldsAll-paid, GaveBack-given_behind, has-inserted, IsGivenFrom-uncommitted, HasCut-rest_left, HasCut-waiting, HasCut-none_inserted, EndsTransfer-has_run, StopsFor-with_held}
 use Rattle.txn_parts.specs.Stops.{HasSeen}
-use Rattle.txn_parts.proofs.DeskLemmas.{IsSameWorker-refl}
 use Rattle.txn_making.proofs.Trying.{Becomes-has_entries}
 use Rattle.txn_making.proofs.GivenLemmas.{KeepsGiven-same, KeepsGiven-trans}
 use Rattle.txn_making.proofs.Held.{given_behind-append}

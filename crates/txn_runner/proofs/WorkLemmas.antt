@@ -3,10 +3,10 @@
 use Rattle.std.proofs.Common.{◌≡◌, ◌≢◌, ◌⊎◌, inl, inr, ⊎_elim, ◌∙◌, ℕ, ◌+◌, ◌<◌, ◌≤◌, List, [], ◌∷◌, ◌++◌, length, All, Contains, sym, ap, subst, arith, refl, Bool, true, false, true≢false}
 use Rattle.std.proofs.lemmas.List.Elements.{All-contains, All-from_recursion, recursion_from_All, Contains-append_cases, Contains-append_left, Contains-append_right, Contains-push, Contains-push_cases}
 use Rattle.std.specs.List.{AllByRecursion}
-use Rattle.lsn_space.proofs.TilingLemmas.{all-weaken}
+use Rattle.lsn_space.proofs.TilingLemmas.{all-weaken, all-append}
 use Rattle.log_record.specs.declared.rec.Rec.{Rec}
 use Rattle.lock_core.specs.Records.{txn_of, ends}
-use Rattle.lock_core.proofs.ListLemmas.{all-append, all-split}
+use Rattle.lock_core.proofs.ListLemmas.{all-split}
 use Rattle.lock_core.specs.declared.job.Job.{Job}
 use Rattle.lock_core.specs.Transfers.{IsAllowedJob}
 use Rattle.log_rule.specs.declared.view.Entry.{Entry}
@@ -25,10 +25,11 @@ use Rattle.txn_jobs.specs.declared.rows.Row.{Row}
 use Rattle.job_queue.specs.declared.queue.Queue.{Queue}
 use Rattle.job_queue.specs.declared.rows.Rows.{Rows}
 use Rattle.job_queue.specs.Passes.{jobs_of, places_in, TakesPlace}
+use Rattle.txn_making.proofs.Adding.{LieInOrder-append}
 use Rattle.txn_runner.specs.Running.{outcome_of, LieInOrder, IsUncommittedAt, HasInserted, HasRun, HasCut}
 use Rattle.txn_runner.specs.Places.{NumberedJobs, number_at, job_at, taken_at, jobs_taken, IsOneOf}
 use Rattle.txn_runner.specs.Working.{LieInTurn, HasWorked, HasEnd, HaveEnded, own_records, IsCutBy, Works}
-use Rattle.txn_runner.proofs.EntryLemmas.{records_of-all, own_records-append, own_records-none, own_records-all, LieInOrder-append, LieInOrder-starts, LieInOrder-ends}
+use Rattle.txn_runner.proofs.EntryLemmas.{records_of-all, own_records-append, own_records-none, own_records-all, LieInOrder-starts, LieInOrder-ends}
 use Rattle.txn_runner.proofs.PlanLemmas.{IsRecordOf, planned_records-all_of_txn, planned_records-front_no_end, end_record-txn, end_record-ends}
 use Rattle.txn_jobs.proofs.Rising.{Rises-push}
 use Rattle.txn_runner.proofs.PlaceLemmas.{jobs_taken-push, jobs_taken-below, taken_at-allowed}

@@ -9,9 +9,10 @@ use Rattle.txn_jobs.specs.Places.{Rises}
 use Rattle.job_queue.specs.declared.queue.Queue.{Queue}
 use Rattle.job_queue.specs.declared.rows.Rows.{Rows}
 use Rattle.job_queue.specs.declared.takings.Takings.{Takings}
-use Rattle.job_queue.specs.Takings.{same, times, once_below, ArePlaces, AreMarks}
+use Rattle.job_queue.specs.Takings.{same, times, ArePlaces, AreMarks}
 use Rattle.job_queue.specs.Rule.{counted}
 use Rattle.job_queue.specs.Passes.{AreAllTaken, HasPassOf, IsWorkersPass, marks_by, marks_in, places_by, places_in}
+use Rattle.job_queue.proofs.Counting.{once_below-inside}
 
 same-less : (x y : ℕ) → x < y → same x y ≡ 0
 same-less zero zero less = absurd (omega (arith, less))
@@ -28,11 +29,6 @@ same-more (suc x) (suc y) more = same-more x y (omega (arith, more))
 times-below : (x : ℕ) (ys : List ℕ) → AllByRecursion (λ y. x < y) ys → times x ys ≡ 0
 times-below x [] above = refl
 times-below x (y ∷ ys) above = omega (arith, same-less x y above.0, times-below x ys above.1)
-
-once-all : (x n : ℕ) → x < n → once_below x n ≡ 1
-once-all x zero less = absurd (omega (arith, less))
-once-all zero (suc n) less = refl
-once-all (suc x) (suc n) less = once-all x n (omega (arith, less))
 
 -- the first of rising numbers, of which the least is one, is the least
 least-first : (low x : ℕ) (xs : List ℕ) → low ≤ x → AllByRecursion (λ y. x < y) xs → times low (x ∷ xs) ≡ 1 → x ≡ low
@@ -65,7 +61,7 @@ once-placed : (count : ℕ) (places marks : List ℕ) → AreMarks count marks �
 once-placed count places marks behind taken some' x below = omega (
   arith,
   taken.once x,
-  once-all x taken.next (omega (arith, below, taken.all some')),
+  once_below-inside x taken.next (omega (arith, below, taken.all some')),
   times-below x marks (all-weaken (λ mark. count ≤ mark) (λ mark. x < mark) marks (λ mark over. omega (arith, over, below)) behind),
 )
 

@@ -1,5 +1,5 @@
 //! A table closed behind a transfer.
-ghost use Rattle.std.specs.Prelude.{◌≡◌, [], ◌∷◌, None, IfOk, IfSome};
+ghost use Rattle.std.specs.Prelude.{◌≡◌, [], ◌∷◌, None, IfOk};
 ghost use Rattle.lock_core.specs.Transfers.{IsAllowedJob};
 ghost use Rattle.job_queue.specs.Passes.{workers_of};
 ghost use Rattle.run_rig.specs.Enlisted.{HasEnlisted};

@@ -1,7 +1,6 @@
 //! A worker alone, and two one after the other, over a table that nobody flushes.
 use crate::alone::{Given, Line, has_ended, has_left, has_rows, run_alone, run_two, work_alone};
-use log_record::MOST_BALANCE;
-use lsn_space::{LAST, Lsn};
+use lsn_space::{LAST, Lsn, MOST_BALANCE};
 use run_rig::{enlisted, jobs_of};
 use std::alloc::Global;
 use std::process::Abort;

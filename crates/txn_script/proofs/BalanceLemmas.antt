@@ -5,7 +5,7 @@ use Rattle.std.proofs.lemmas.List.{length-map, map_push}
 use Rattle.std.proofs.lemmas.Fmt.{decimal_injective}
 use Rattle.lsn_space.specs.Number.{number_text}
 use Rattle.log_record.specs.Spelling.{IsBalance}
-use Rattle.log_record.specs.declared.limits.TheConstants.{MOST_ACCOUNTS}
+use Rattle.lsn_space.specs.declared.opening.TheConstants.{MOST_ACCOUNTS}
 use Rattle.txn_script.specs.Lines.{lines}
 use Rattle.txn_script.specs.Balances.{IsBalancesText, IsBalanceLine, BeginsOutside, IsFirstBadBalance}
 

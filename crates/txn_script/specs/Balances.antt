@@ -3,7 +3,7 @@ use Rattle.std.specs.Prelude.{◌≡◌, ◌<◌, ◌≤◌, ℕ, ◌+◌, List,
 use Rattle.lsn_space.specs.Accounts.{Accounts}
 use Rattle.lsn_space.specs.Number.{number_text}
 use Rattle.log_record.specs.Spelling.{IsBalance}
-use Rattle.log_record.specs.declared.limits.TheConstants.{MOST_ACCOUNTS}
+use Rattle.lsn_space.specs.declared.opening.TheConstants.{MOST_ACCOUNTS}
 use Rattle.txn_script.specs.Lines.{lines}
 use Rattle.txn_script.specs.declared.fault.ParseFault.{ParseFault}
 use Rattle.txn_script.specs.declared.fault.ParseFault.TheVariants.{Line, NoMemory}

@@ -1,6 +1,6 @@
 //! The text of a new log's balances.
-ghost use Rattle.std.specs.Prelude.{◌≡◌, ◌≤◌, ◌<◌, ◌+◌, ℕ, List, length, IfSome, IfNone, IfOk, IfErr};
-ghost use Rattle.log_record.specs.declared.limits.TheConstants.{MOST_ACCOUNTS};
+ghost use Rattle.std.specs.Prelude.{◌≡◌, ◌<◌, ◌+◌, ℕ, List, length, IfSome, IfNone, IfOk, IfErr};
+ghost use Rattle.lsn_space.specs.declared.opening.TheConstants.{MOST_ACCOUNTS};
 ghost use Rattle.log_record.specs.Spelling.{IsBalance};
 ghost use Rattle.lsn_space.specs.Number.{number_text};
 ghost use Rattle.txn_script.specs.Balances.{IsBalancesText, IsBalanceLine, IsFirstBadBalance, ReadsBalances, IsBalancesFault};
@@ -8,8 +8,7 @@ ghost use Rattle.txn_script.specs.declared.fault.ParseFault.TheVariants.{Line};
 
 use crate::fault::ParseFault;
 use crate::lines::take_line;
-use log_record::{MOST_ACCOUNTS, MOST_BALANCE};
-use lsn_space::{Balances, number};
+use lsn_space::{Balances, MOST_ACCOUNTS, MOST_BALANCE, number};
 use std::alloc::Global;
 
 /// The balances of a new log's accounts, from account 0 on: a line with a number for each. No account has a commit yet.

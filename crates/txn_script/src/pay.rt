@@ -1,14 +1,14 @@
 //! The line of a transfer.
 
-ghost use Rattle.std.specs.Prelude.{◌≡◌, ◌<◌, ◌≤◌, ◌^◌, ◌↔◌, ◌++◌, ◌∷◌, [], ℕ, List, Option, codes, length, take, drop, slice_index, All, IsTrue, IfSome, IfNone};
+ghost use Rattle.std.specs.Prelude.{◌≡◌, ◌<◌, ◌≤◌, ◌^◌, ◌↔◌, ◌++◌, [], ℕ, List, Option, codes, length, take, slice_index, All, IsTrue, IfSome, IfNone};
 ghost use Rattle.log_record.specs.Spelling.{IsNoteText};
 ghost use Rattle.txn_script.specs.Reading.{IsDigit, EndsNumber, BeginsLeg, EndsLegs};
 ghost use Rattle.txn_script.specs.Script.{spaced, leg_text, legs_text, note_text, job_text, IsAllowedLeg, AreAllowedLegs, IsAllowedJob};
 ghost use Rattle.lock_core.specs.declared.job.Job.{Job};
 
 use lock_core::{Job, Leg, Legs, Remark};
-use log_record::{MOST_BALANCE, MOST_LEGS};
-use lsn_space::number;
+use log_record::MOST_LEGS;
+use lsn_space::{MOST_BALANCE, number};
 
 /// What stands between the parts of a line.
 pub const SPACE: u8 = b' ';

@@ -1,5 +1,5 @@
 //! A list of transfers.
-ghost use Rattle.std.specs.Prelude.{◌≡◌, ◌<◌, ◌≤◌, ◌^◌, ◌++◌, ◌∷◌, [], ℕ, List, Some, None, length, slice_get, IfOk, IfErr, OnErr};
+ghost use Rattle.std.specs.Prelude.{◌≡◌, ◌<◌, ◌^◌, ◌++◌, ◌∷◌, [], ℕ, List, Some, None, length, slice_get, IfOk, IfErr, OnErr};
 ghost use Rattle.txn_script.specs.Script.{IsScriptText, IsFirstBadLine, IsScriptFault};
 ghost use Rattle.lock_core.specs.declared.job.Job.{Job};
 

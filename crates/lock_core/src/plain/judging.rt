@@ -11,8 +11,8 @@ ghost use Rattle.lock_core.specs.Judging.{IsJudged, IsPlainFaultOf};
 use super::kinds::{admit_commit, admit_genesis, admit_note, admit_refusal, admit_update};
 use crate::reason::Why;
 use crate::update::Change;
-use log_record::{MOST_ACCOUNTS, Placed, Rec};
-use lsn_space::{Balances, Lsn};
+use log_record::{Placed, Rec};
+use lsn_space::{Balances, Lsn, MOST_ACCOUNTS};
 use std::alloc::Global;
 
 /// Why there are no accounts.

@@ -1,15 +1,13 @@
 //! The tests of the plain program, for a record of each kind.
 
-ghost use Rattle.std.specs.Prelude.{◌≡◌, ◌<◌, ◌↔◌, ◌∷◌, ℕ, length, reverse, IsTrue, IfOk, IfErr, OnOk};
-ghost use Rattle.std.specs.List.{AllByRecursion};
+ghost use Rattle.std.specs.Prelude.{◌≡◌, ◌<◌, ◌∷◌, ℕ, reverse, IfOk, IfErr, OnOk};
 ghost use Rattle.log_record.specs.Spelling.{IsAccount, IsBalance, IsLeg};
-ghost use Rattle.log_record.specs.declared.limits.TheConstants.{MOST_ACCOUNTS};
+ghost use Rattle.lsn_space.specs.declared.opening.TheConstants.{MOST_ACCOUNTS};
 ghost use Rattle.lock_core.specs.declared.update.Change.{Change};
 ghost use Rattle.lock_core.specs.Sums.{no_opening};
-ghost use Rattle.lock_core.specs.Tests.{IsPaired};
 ghost use Rattle.lock_core.specs.Lawful.{Passes, IsLawful, base_with};
 ghost use Rattle.lock_core.specs.Faults.{IsFirstFailing};
-ghost use Rattle.lock_core.specs.AccountRows.{row, KeepsRows};
+ghost use Rattle.lock_core.specs.AccountRows.{KeepsRows};
 ghost use Rattle.lock_core.specs.Judging.{IsJudged, Judges, IsCommitting};
 
 use super::own::own_records;
@@ -18,8 +16,8 @@ use crate::checks::{are_current, is_current, is_paired};
 use crate::reason::Why;
 use crate::update::{Change, MOST_UPDATES};
 use arrayvec::ArrayVec;
-use log_record::{MOST_ACCOUNTS, Placed, Rec, Text};
-use lsn_space::{Balances, Lsn};
+use log_record::{Placed, Rec, Text};
+use lsn_space::{Balances, Lsn, MOST_ACCOUNTS};
 
 /// Tests a Genesis, and keeps its account.
 pub fn admit_genesis(

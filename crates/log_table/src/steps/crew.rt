@@ -1,5 +1,5 @@
 //! The crew: how many workers are active.
-ghost use Rattle.std.specs.Prelude.{◌≡◌, ◌+◌, ◌-◌, ◌%◌, ◌^◌, ℕ};
+ghost use Rattle.std.specs.Prelude.{◌≡◌, ◌+◌, ◌-◌};
 ghost use Rattle.log_rule.specs.declared.view.Role.TheVariants.{Fresh};
 ghost use Rattle.log_rule.specs.Events.{none};
 ghost use Rattle.log_rule.specs.Layout.{Crew};

@@ -1,5 +1,5 @@
 //! Exposed: everything below is filled and released.
-ghost use Rattle.std.specs.Prelude.{◌≡◌, ◌≤◌, ◌<◌, OnOk, IfErr};
+ghost use Rattle.std.specs.Prelude.{◌≤◌, ◌<◌, OnOk, IfErr};
 ghost use Rattle.log_rule.specs.Events.{IsStep, look_event, raises};
 ghost use Rattle.log_rule.specs.Layout.{Exposed};
 ghost use Rattle.log_rule.specs.MarkViews.{after_raise};

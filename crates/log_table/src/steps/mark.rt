@@ -1,5 +1,5 @@
 //! The release marks: where a released range ends, at the place of its base.
-ghost use Rattle.std.specs.Prelude.{◌≡◌, ◌%◌, ℕ};
+ghost use Rattle.std.specs.Prelude.{◌%◌};
 ghost use Rattle.log_rule.specs.Events.{marks, looks_mark};
 ghost use Rattle.log_rule.specs.Layout.{Mark};
 ghost use Rattle.log_rule.specs.MarkViews.{marked, saw_mark};

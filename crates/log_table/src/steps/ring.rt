@@ -1,5 +1,5 @@
 //! The ring: the units that are reserved and not yet on the disk.
-ghost use Rattle.std.specs.Prelude.{◌≡◌, ◌%◌, ℕ};
+ghost use Rattle.std.specs.Prelude.{◌%◌};
 ghost use Rattle.log_rule.specs.Events.{IsStep, fills, none};
 ghost use Rattle.log_rule.specs.Layout.{Ring};
 ghost use Rattle.log_rule.specs.May.{MayFill, MayRead};

@@ -1,5 +1,5 @@
 //! The tail: the end of the last reservation.
-ghost use Rattle.std.specs.Prelude.{◌≡◌, ◌-◌, ◌≤◌, ◌<◌, OnOk, IfErr};
+ghost use Rattle.std.specs.Prelude.{◌-◌, ◌≤◌, ◌<◌, OnOk, IfErr};
 ghost use Rattle.log_rule.specs.Events.{IsStep, places, reserves, none};
 ghost use Rattle.log_rule.specs.Layout.{Tail};
 ghost use Rattle.log_rule.specs.May.{MayReserve, MayPlaceGroup, MayExchangeTail};

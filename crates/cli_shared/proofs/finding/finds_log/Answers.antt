@@ -1,6 +1,6 @@
 use Rattle.std.proofs.Common.{◌∙◌, rules}
+use Rattle.log_disk.proofs.Uses.{HasCause-same_before}
 use Rattle.cli_shared.proofs.AttachedLemmas.{attached-whatever_result}
-use Rattle.cli_shared.proofs.FindingLemmas.{HasCause-after}
 use Rattle.cli_shared.proofs.finding.finds_log.Goals as goal
 
 pub returns-in_err-attach-clause-looks : goal.returns-in_err-attach-clause-looks
@@ -27,4 +27,4 @@ returns-clause-attached g c = λ honest. attached-whatever_result _ _ _ _ c.has_
     (c.has_open_gate.ensures.attached ∙ c.sync.ensures.attached)
 
 pub returns-clause-cause : goal.returns-clause-cause
-returns-clause-cause g c = HasCause-after _ _ _ _ (search rules steps 300000) c.has_open_gate.ensures.cause
+returns-clause-cause g c = HasCause-same_before _ _ _ _ (search rules steps 300000) c.has_open_gate.ensures.cause

@@ -1,6 +1,4 @@
-use Rattle.std.proofs.Common.{ℕ, ◌<◌, All, ap, arith, subst, sym}
-use Rattle.job_queue.specs.declared.queue.Queue.{Queue}
-use Rattle.lock_core.specs.Transfers.{IsAllowedJob}
+use Rattle.std.proofs.Common.{arith}
 use Rattle.commit_pipeline_tests.proofs.daemon_tests.transfer.Goals as goal
 
 pub enlisted-requires-clause-mark : goal.enlisted-requires-clause-mark

@@ -1,6 +1,7 @@
 use Rattle.std.proofs.Common.{rules, arith, ℕ, ◌+◌, length, ap}
 use Rattle.log_table.specs.Seats.{view_of}
-use Rattle.consol_array.proofs.Inserts.{HasComeTo-JoinsNext, IsOf-since, IsSameWorker-heard, IsSameWorker-filled, HasEntries-freed, HasEntries-left, WasRefused-left, IsSameWorker-refused}
+use Rattle.ring_buffer.proofs.SameWorkers.{IsOf-same}
+use Rattle.consol_array.proofs.Inserts.{HasComeTo-JoinsNext, IsSameWorker-heard, IsSameWorker-filled, HasEntries-freed, HasEntries-left, WasRefused-left, IsSameWorker-refused}
 use Rattle.consol_array.proofs.inserting.insert.Goals as goal
 
 pub fill_member-filled-requires-clause-seat : goal.fill_member-filled-requires-clause-seat
@@ -12,7 +13,7 @@ fill_member-filled-requires-clause-seat g c =
     let way = c.in_ok-range.ensures.way in
     let has = HasComeTo-JoinsNext _ first joins n _ joined c.in-InGroup.is way in
     let heard = c.in-Base.ensures.heard has.piece (c.lead_first.ensures.waits has.piece has.call) in
-    IsOf-since c.args.table.now first c.hear.new.seat c.requires.seat
+    IsOf-same c.args.table.now first c.hear.new.seat c.requires.seat
     (IsSameWorker-heard c.args.table.now first joins c.lead_first.new.seat n c.args.units.now joined has c.lead_first.ensures.stays c.requires.units
     (ap length c.as_slice.ensures.units) c.hear.new.seat c.in-Base.member heard)
 
@@ -25,7 +26,7 @@ release-requires-clause-seat g c =
     let way = c.in_ok-range.ensures.way in
     let has = HasComeTo-JoinsNext _ first joins n _ joined c.in-InGroup.is way in
     let heard = c.in-Base.ensures.heard has.piece (c.lead_first.ensures.waits has.piece has.call) in
-    IsOf-since c.args.table.now first c.fill_member-filled.new.seat c.requires.seat
+    IsOf-same c.args.table.now first c.fill_member-filled.new.seat c.requires.seat
     (IsSameWorker-filled c.args.table.now first joins c.lead_first.new.seat n c.args.units.now joined has c.lead_first.ensures.stays c.requires.units
     (ap length c.as_slice.ensures.units) c.hear.new.seat c.in-Base.member heard c.fill_member-filled.new.seat c.fill_member-filled.result
     ((view_of c.hear.new.seat).seen.steps + c.in-Base.member.n) c.fill_member-filled.ensures.piece c.fill_member-filled.ensures.becomes (omega arith))
@@ -39,7 +40,7 @@ leave_group-requires-clause-seat g c =
     let way = c.in_ok-range.ensures.way in
     let has = HasComeTo-JoinsNext _ first joins n _ joined c.in-InGroup.is way in
     let heard = c.in-Refused.ensures.heard has.piece (c.lead_first.ensures.waits has.piece has.call) in
-    IsOf-since c.args.table.now first c.hear.new.seat c.requires.seat
+    IsOf-same c.args.table.now first c.hear.new.seat c.requires.seat
     (IsSameWorker-refused c.args.table.now first joins c.lead_first.new.seat n c.args.units.now joined has c.lead_first.ensures.stays c.requires.units
     (ap length c.as_slice.ensures.units) c.requires.seat c.hear.new.seat c.in-Refused.refused c.in-Refused.leaver heard)
 

@@ -1,10 +1,10 @@
 use Rattle.std.proofs.Common.{rules, arith, inl, inr, ◌≡◌, ◌∙◌, ℕ, ◌%◌, ◌<◌, mod-lt, sym, refl, subst}
 use Rattle.slot_word.specs.SlotWord.{word_of}
 use Rattle.log_table.specs.Seats.{Becomes, view_of}
+use Rattle.log_table.proofs.Stepping.{Becomes-trans}
 use Rattle.log_rule.specs.SlotViews.{own_slot_of, saw_slot, lost_join}
 use Rattle.consol_array.specs.Joining.{HasSlotRoom, IsStateJoined, LacksSlotRoom}
 use Rattle.consol_array.proofs.Joins.{MayJoinSlot-looked, Becomes-looked_and_joined, LacksSlotRoom-uncontended}
-use Rattle.consol_array.proofs.Keeping.{Becomes-trans}
 use Rattle.consol_array.proofs.joining.try_join.Goals as goal
 
 pub returns-in_default : goal.returns-in_default

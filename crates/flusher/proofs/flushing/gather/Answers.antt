@@ -1,6 +1,6 @@
 use Rattle.std.proofs.Common.{rules, arith, refl, sym, ap, subst}
 use Rattle.log_rule.specs.Sends.{ReadsWholeEntries}
-use Rattle.flusher.proofs.Flushes.{Becomes-trans}
+use Rattle.log_table.proofs.Stepping.{Becomes-trans}
 use Rattle.flusher.proofs.flushing.gather.Goals as goal
 
 pub loop-at-init : goal.loop-at-init

@@ -1,12 +1,6 @@
 use Rattle.std.proofs.Common.{refl}
 use Rattle.log_record.proofs.laws.format_limits.Goals as goal
 
-pub returns-clause-accounts : goal.returns-clause-accounts
-returns-clause-accounts c = refl
-
-pub returns-clause-balance : goal.returns-clause-balance
-returns-clause-balance c = refl
-
 pub returns-clause-txn : goal.returns-clause-txn
 returns-clause-txn c = refl
 

@@ -5,8 +5,8 @@ use Rattle.std.proofs.lemmas.Bool.{eqb-true, eqb-false}
 use Rattle.std.proofs.lemmas.List.{nil_from_length}
 use Rattle.std.proofs.lemmas.Result.{err_from_is_err_and, on_ok_weaker, on_err_weaker}
 use Rattle.log_disk.proofs.Blocks.{AppendsBut-trans_Appends, AppendsBut-trans_AppendsPart, AppendsPart-append}
+use Rattle.log_disk.proofs.Uses.{HasCause-same_before}
 use Rattle.log_recovery.proofs.DumpLemmas.{dumps-none, dumps-rest_le_end, dumps-rest_begins_with, drop_spelling-shorter, dumps-more, record_line_cut-dump_part, lsn_line_put-dump_whole, lsn_line_cut-dump_part}
-use Rattle.log_recovery.proofs.PuttingLemmas.{HasCause-same_before}
 use Rattle.log_recovery.proofs.dump.put_dump.Goals as goal
 
 pub records-init : goal.records-init

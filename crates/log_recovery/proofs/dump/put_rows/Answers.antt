@@ -1,6 +1,6 @@
 use Rattle.std.proofs.Common.{◌∙◌, refl, arith}
 use Rattle.std.proofs.lemmas.Result.{err_from_is_err_and}
-use Rattle.log_recovery.proofs.PuttingLemmas.{HasCause-ok, HasCause-same_before}
+use Rattle.log_disk.proofs.Uses.{HasCause-ok, HasCause-same_before}
 use Rattle.log_recovery.proofs.SnapshotLemmas.{rows-none, rows-more, row_line_cut-rows_part, rows_front-all_lines_put}
 use Rattle.log_recovery.proofs.dump.put_rows.Goals as goal
 

@@ -3,8 +3,8 @@ use Rattle.std.proofs.lemmas.List.{append-nil}
 use Rattle.std.proofs.lemmas.Result.{err_from_is_err_and, on_ok_weaker, on_err_weaker}
 use Rattle.log_disk.specs.Streams.{AppendsPart, AppendsBut}
 use Rattle.log_disk.proofs.Blocks.{AppendsBut-trans_Appends, AppendsBut-trans_AppendsPart, AppendsPart-append}
+use Rattle.log_disk.proofs.Uses.{HasCause-same_before}
 use Rattle.log_recovery.specs.Text.{lsn_line, account_lines}
-use Rattle.log_recovery.proofs.PuttingLemmas.{HasCause-same_before}
 use Rattle.log_recovery.proofs.TextLemmas.{balance_in, AppendsBut-line, AppendsPart-line}
 use Rattle.log_recovery.proofs.texts.put_accounts.Goals as goal
 

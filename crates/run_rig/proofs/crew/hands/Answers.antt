@@ -1,7 +1,7 @@
 use Rattle.std.proofs.Common.{◌≡◌, ◌∙◌, [], ◌∷◌, ◌++◌, rules, arith, subst, sym}
 use Rattle.std.specs.List.{AllByRecursion}
-use Rattle.lock_core.proofs.ListLemmas.{all-append}
 use Rattle.job_queue.specs.declared.queue.Queue.{Queue}
+use Rattle.lsn_space.proofs.TilingLemmas.{all-append}
 use Rattle.run_rig.specs.Enlisted.{IsHand}
 use Rattle.run_rig.proofs.crew.hands.Goals as goal
 

@@ -1,4 +1,4 @@
-use Rattle.std.proofs.Common.{ap, subst, sym, rules}
+use Rattle.std.proofs.Common.{ap, subst, sym}
 use Rattle.log_table.specs.Seats.{view_of}
 use Rattle.log_rule.specs.declared.view.Books.{Books}
 use Rattle.txn_runner.specs.Working.{HasWorked, Works, jobs_of, places_in}

@@ -1,4 +1,4 @@
-use Rattle.std.proofs.Common.{◌∙◌, refl, ap, length, arith}
+use Rattle.std.proofs.Common.{◌∙◌, refl, ap, length}
 use Rattle.std.proofs.lemmas.Result.{err_from_is_err_and}
 use Rattle.segment_file.proofs.GateBytes.{shut-within}
 use Rattle.segment_cut.proofs.Beginning.{begins-close_failed, begins-write_failed, begins-succeeded}

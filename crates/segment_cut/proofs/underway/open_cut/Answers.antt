@@ -1,4 +1,4 @@
-use Rattle.std.proofs.Common.{◌≡◌, [], ◌∷◌, ap, length, ◌∙◌, arith}
+use Rattle.std.proofs.Common.{[], ◌∷◌, ap, length, ◌∙◌, arith}
 use Rattle.std.proofs.lemmas.Result.{err_from_is_err_and}
 use Rattle.log_disk.specs.Disk.{put, IsOnlyImage}
 use Rattle.log_disk.proofs.Counting.{Costs-weaken, Costs-trans}

@@ -1,4 +1,4 @@
-use Rattle.std.proofs.Common.{◌∙◌, vec_capacity, ap, length, arith}
+use Rattle.std.proofs.Common.{◌∙◌, ap, length, arith}
 use Rattle.std.proofs.lemmas.Grind.{common_steps}
 use Rattle.log_disk.proofs.Moments.{Leaves-weaken}
 use Rattle.segment_file.specs.File.{batch}

@@ -1,4 +1,4 @@
-use Rattle.std.proofs.Common.{◌≡◌, ◌≤◌, ◌∷◌, [], length, true≢false, sym, subst, ◌∙◌, ap, ⊎_elim, OnOk, arith}
+use Rattle.std.proofs.Common.{◌≡◌, ◌∷◌, [], length, true≢false, sym, subst, ◌∙◌, ap, ⊎_elim, OnOk, arith}
 use Rattle.log_disk.specs.Disk.{put}
 use Rattle.log_disk.proofs.Moments.{Leaves-call, Leaves-trans, Leaves-weaken}
 use Rattle.log_disk.proofs.Uses.{HasCause-same_before}

@@ -1,5 +1,6 @@
 use Rattle.std.proofs.Common.{◌≡◌, length, arith, ap, length-append}
-use Rattle.segment_file.proofs.BatchLemmas.{length-unit_bytes, batch-of_parts}
+use Rattle.lsn_space.proofs.UnitLemmas.{length-unit_bytes}
+use Rattle.segment_file.proofs.BatchLemmas.{batch-of_parts}
 use Rattle.segment_file.proofs.taking.take_batch.Goals as goal
 
 pub returns-in-Ok-clause-taken : goal.returns-in-Ok-clause-taken

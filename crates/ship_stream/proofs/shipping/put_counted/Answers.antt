@@ -1,4 +1,3 @@
-use Rattle.std.proofs.Common.{◌++◌}
 use Rattle.std.proofs.lemmas.Result.{err_from_is_err_and}
 use Rattle.ship_stream.proofs.PuttingLemmas.{counted-cut, counted-put}
 use Rattle.ship_stream.proofs.shipping.put_counted.Goals as goal

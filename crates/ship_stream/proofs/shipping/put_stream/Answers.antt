@@ -3,8 +3,8 @@ use Rattle.std.proofs.lemmas.Bool.{eqb-true}
 use Rattle.std.proofs.lemmas.Result.{err_from_is_err_and, on_ok_weaker, on_err_weaker}
 use Rattle.log_disk.specs.Streams.{AppendsPart, AppendsBut}
 use Rattle.log_disk.proofs.Blocks.{AppendsBut-trans_Appends, AppendsBut-trans_AppendsPart, AppendsPart-append}
+use Rattle.log_disk.proofs.Uses.{HasCause-same_before}
 use Rattle.ship_stream.specs.Stream.{head_bytes, end_bytes}
-use Rattle.ship_stream.proofs.PuttingLemmas.{has_cause-same_start}
 use Rattle.ship_stream.proofs.ShippingLemmas.{shipping-none, shipping-more, shipping-cut, shipping-end, shipping-end_cut}
 use Rattle.ship_stream.proofs.shipping.put_stream.Goals as goal
 
@@ -50,7 +50,7 @@ returns-in_err-put_counted-clause-prefix g c = λ records are.
 pub returns-in_err-put_counted-clause-cause : goal.returns-in_err-put_counted-clause-cause
 returns-in_err-put_counted-clause-cause g c =
     let failed = err_from_is_err_and c.from_residual-in_err-put_counted.result c.from_residual-in_err-put_counted.ensures.1 in
-    rw failed.1 (has_cause-same_start _ _ _ _ c.frames.invariant.same c.in_err-put_counted.ensures.cause)
+    rw failed.1 (HasCause-same_before _ _ _ _ c.frames.invariant.same c.in_err-put_counted.ensures.cause)
 
 pub returns-in_err-put_number-clause-prefix : goal.returns-in_err-put_number-clause-prefix
 returns-in_err-put_number-clause-prefix g c = λ records are.
@@ -61,7 +61,7 @@ returns-in_err-put_number-clause-prefix g c = λ records are.
 pub returns-in_err-put_number-clause-cause : goal.returns-in_err-put_number-clause-cause
 returns-in_err-put_number-clause-cause g c =
     let failed = err_from_is_err_and c.from_residual-in_err-put_number.result c.from_residual-in_err-put_number.ensures.1 in
-    rw failed.1 (has_cause-same_start _ _ _ _ c.frames.invariant.same c.in_err-put_number.ensures.cause)
+    rw failed.1 (HasCause-same_before _ _ _ _ c.frames.invariant.same c.in_err-put_number.ensures.cause)
 
 pub returns-clause-all : goal.returns-clause-all
 returns-clause-all g c = λ records are.
@@ -77,4 +77,4 @@ returns-clause-prefix g c = λ records are.
 
 pub returns-clause-cause : goal.returns-clause-cause
 returns-clause-cause g c =
-    has_cause-same_start _ _ _ _ (c.in_ok-put_number.ensures.cause.fine ∙ c.frames.invariant.same) c.write_out.ensures.cause
+    HasCause-same_before _ _ _ _ (c.in_ok-put_number.ensures.cause.fine ∙ c.frames.invariant.same) c.write_out.ensures.cause

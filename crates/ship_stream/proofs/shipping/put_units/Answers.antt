@@ -3,8 +3,8 @@ use Rattle.std.specs.List.{flat_map}
 use Rattle.std.proofs.lemmas.List.{take_all}
 use Rattle.std.proofs.lemmas.Result.{err_from_is_err_and}
 use Rattle.log_disk.specs.Streams.{AppendsPart, AppendsBut}
+use Rattle.log_disk.proofs.Uses.{HasCause-ok, HasCause-same_before}
 use Rattle.lsn_space.specs.Unit.{unit_bytes}
-use Rattle.ship_stream.proofs.PuttingLemmas.{has_cause-ok, has_cause-same_start}
 use Rattle.ship_stream.proofs.ShippingLemmas.{appends_unit_bytes-push, appends_unit_bytes-cut}
 use Rattle.ship_stream.proofs.shipping.put_units.Goals as goal
 
@@ -26,7 +26,7 @@ returns-in_err-put g c =
           (search rules) refl c.units.invariant.written _
           (subst (λ piece. AppendsPart (g.K.Sink.held_bytes c.units.sink) (g.K.Sink.held_bytes c.put.new.sink) (c.units.block ++ piece))
           c.bytes_of.ensures c.in_err-put.ensures.prefix);
-      cause = has_cause-same_start _ _ _ _ c.units.invariant.same c.in_err-put.ensures.cause;
+      cause = HasCause-same_before _ _ _ _ c.units.invariant.same c.in_err-put.ensures.cause;
     }
 
 pub returns : goal.returns
@@ -35,5 +35,5 @@ returns g c = record {
       (c.args.block.now ++ flat_map unit_bytes list) c.units.block)
       (take_all c.units.unit-index c.args.units.now (omega arith)) c.units.invariant.written;
   prefix = tt;
-  cause = has_cause-ok _ _ _ c.units.invariant.same;
+  cause = HasCause-ok _ _ _ c.units.invariant.same;
 }

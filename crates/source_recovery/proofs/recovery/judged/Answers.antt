@@ -1,15 +1,14 @@
-use Rattle.std.proofs.Common.{◌≡◌, ◌∙◌, ℕ, ◌+◌, List, Option, IfErr, length, refl, sym, ap, subst, arith, ◌++◌}
+use Rattle.std.proofs.Common.{◌∙◌, ℕ, List, sym, subst, arith, ◌++◌}
 use Rattle.std.proofs.lemmas.Result.{err_from_is_err_and}
 use Rattle.lsn_space.specs.Opening.{Opening}
-use Rattle.log_disk.specs.Faults.{CountsWhere}
 use Rattle.lock_core.specs.Taking.{HasJudged}
 use Rattle.segment_file.specs.Log.{Log}
 use Rattle.segment_file.specs.StandingLog.{LogStandsAt, tail_at}
 use Rattle.segment_file.specs.declared.scan_result.Tail.{Tail}
-use Rattle.source_recovery.specs.Reading.{HasReadLog, EndsLog}
+use Rattle.source_recovery.specs.Reading.{HasReadLog}
 use Rattle.source_recovery.specs.Taker.{HasTakenTo}
 use Rattle.source_recovery.proofs.GrowthLemmas.{taken_to-more}
-use Rattle.source_recovery.proofs.JudgedLemmas.{gave_all-HasLogFault, taken_units-JudgesBytes, told-CountsWhere, no_memory-CountsWhere}
+use Rattle.source_recovery.proofs.JudgedLemmas.{GaveAll-ReadsAll, gave_all-IsSourceFaultOf, taken_units-JudgesBytes, told-CountsWhere, no_memory-CountsWhere}
 use Rattle.source_recovery.proofs.recovery.judged.Goals as goal
 
 pub returns-in_err-reader-clause-failed : goal.returns-in_err-reader-clause-failed
@@ -86,7 +85,7 @@ returns-in-Ok-clause-found g c =
     (c.in_ok-take.ensures.taken opening all c.batches.invariant.taken) in
     let place = c.tail.ensures ∙ (λ i. tail_at (end.at i) (end.next i)) in (
       ends.bytes,
-      ends.gave,
+      GaveAll-ReadsAll _ _ ends.bytes ends.gave,
       taken_units-JudgesBytes c.tail.result opening all ends.bytes c.in-Ok.judge
           (subst (λ (tail : Tail). LogStandsAt tail log ends.bytes) (sym place) ends.stands) (c.in-Ok.ensures.taken opening all left),
     )
@@ -106,7 +105,7 @@ returns-clause-fault g c =
     let ends = end.ends _ log c.batches.invariant.read in
     let left = subst (λ units. HasTakenTo HasJudged opening all units c.take.new.self) (sym (c.as_slice.ensures.value ∙ end.units_are))
     (c.in_ok-take.ensures.taken opening all c.batches.invariant.taken) in
-    gave_all-HasLogFault _ _ ends.bytes _ ends.gave (c.units_fault.ensures ends.bytes log ends.stands.held (c.in-Err.ensures.fault opening all left))
+    gave_all-IsSourceFaultOf _ _ ends.bytes _ ends.gave (c.units_fault.ensures ends.bytes log ends.stands.held (c.in-Err.ensures.fault opening all left))
 
 pub returns-clause-failed : goal.returns-clause-failed
 returns-clause-failed g c = record {

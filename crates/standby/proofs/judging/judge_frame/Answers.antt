@@ -1,9 +1,10 @@
-use Rattle.std.proofs.Common.{arith, ◌≡◌, ◌+◌, ◌∙◌, ap, sym, subst, length}
+use Rattle.std.proofs.Common.{arith, ◌+◌, ◌∙◌, ap, sym, subst}
 use Rattle.lock_core.specs.History.{entry_at}
 use Rattle.lock_core.specs.Taking.{IsTakeFault}
-use Rattle.log_recovery.specs.Opened.{list_end, opening_before, placed, with_records}
+use Rattle.log_recovery.specs.Opened.{opening_before, placed, with_records}
 use Rattle.log_recovery.proofs.OpenedLemmas.{placed-end}
-use Rattle.standby.proofs.JudgedFrames.{size_of-positive, ends-within, taken-none, taken-record_begins, taken_lsn-list_end, has_taken_to-push, taken-all, first_failing-unlawful_at}
+use Rattle.log_record.proofs.SpellingLemmas.{record_end-within_units}
+use Rattle.standby.proofs.JudgedFrames.{taken-record_begins, taken_lsn-list_end, has_taken_to-push, taken-all, first_failing-unlawful_at}
 use Rattle.standby.proofs.judging.judge_frame.Goals as goal
 
 pub unreachable-requires : goal.unreachable-requires
@@ -25,18 +26,18 @@ take-requires-clause-taken c =
 
 pub take-requires-clause-fits : goal.take-requires-clause-fits
 take-requires-clause-fits c =
-    let ends = ends-within c.args.batch.now.units c.records.at c.in-Ok.rec c.records.invariant.within c.in-Ok.ensures.found.0 in
+    let ends = record_end-within_units c.args.batch.now.units c.records.at c.in-Ok.rec c.records.invariant.within c.in-Ok.ensures.found.0 in
     omega (arith, ends, c.new-lsn.ensures, c.units.ensures, c.requires.fits)
 
 pub overflow_add-at : goal.overflow_add-at
 overflow_add-at c =
-    let ends = ends-within c.args.batch.now.units c.records.at c.in-Ok.rec c.records.invariant.within c.in-Ok.ensures.found.0 in
+    let ends = record_end-within_units c.args.batch.now.units c.records.at c.in-Ok.rec c.records.invariant.within c.in-Ok.ensures.found.0 in
     omega (arith, ends, c.in-Ok.ensures.found.1, c.requires.fits)
 
 pub records-preserved : goal.records-preserved
 records-preserved c = record {
   within =
-      let ends = ends-within c.args.batch.now.units c.records.at c.in-Ok.rec c.records.invariant.within c.in-Ok.ensures.found.0 in
+      let ends = record_end-within_units c.args.batch.now.units c.records.at c.in-Ok.rec c.records.invariant.within c.in-Ok.ensures.found.0 in
       omega (arith, ends, c.in-Ok.ensures.found.1);
   taken = λ list records taken start spells.
       let to = c.records.invariant.taken list records taken start spells in

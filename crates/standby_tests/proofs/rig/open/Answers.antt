@@ -1,4 +1,4 @@
-use Rattle.std.proofs.Common.{◌≡◌, ◌≤◌, ◌^◌, ◌∙◌, sym, ap, subst, length, arith}
+use Rattle.std.proofs.Common.{◌∙◌, sym, ap, subst, length, arith}
 use Rattle.log_disk.specs.Disk.{IsOnlyImage}
 use Rattle.log_recovery.specs.Opened.{log_of}
 use Rattle.segment_file.proofs.Scanned.{only_image-LogStands, stands-stable, stands-within}

@@ -1,4 +1,4 @@
-use Rattle.std.proofs.Common.{◌≡◌, ◌≤◌, take, drop}
+use Rattle.std.proofs.Common.{◌≡◌, take, drop}
 use Rattle.stream_reader.proofs.records.units_at.Given as goal
 
 abbrev pub invariant-units : goal.invariant-units

@@ -1,12 +1,12 @@
 use Rattle.std.proofs.Common.{◌<◌, ◌∷◌, ◌++◌, [], get_or, take, All, ap, sym, refl, ◌∙◌}
 use Rattle.lock_core.specs.Transactions.{recs_of, has_commit}
 use Rattle.log_rule.specs.declared.view.Books.{Books}
+use Rattle.log_rule.proofs.AccountSteps.{only_note-uncommitted}
 use Rattle.std.proofs.lemmas.List.{take_more}
 use Rattle.std.proofs.lemmas.List.Elements.{All-take}
 use Rattle.txn_parts.specs.Desk.{accounts_at}
 use Rattle.txn_parts.proofs.DeskLemmas.{WorksOn-accounts, WorksOn-trans}
 use Rattle.txn_making.specs.Holdings.{IsKnown}
-use Rattle.txn_making.proofs.Backing.{notes-uncommitted}
 use Rattle.txn_making.proofs.Gaining.{IsKnown-all, next-ascends, TakesAll-holds_all, TakesAll-push}
 use Rattle.txn_making.proofs.Held.{KeepsGiven-with_held}
 use Rattle.txn_jobs.proofs.Listing.{rising-take}
@@ -35,7 +35,7 @@ give_unchanged-requires-clause-holds g c = record {
 pub give_unchanged-requires-clause-uncommitted : goal.give_unchanged-requires-clause-uncommitted
 give_unchanged-requires-clause-uncommitted g c =
     ap (λ (books : Books). has_commit (recs_of books.placed)) (c.in-Err.ensures.kept.books_are ∙ c.accounts.invariant.1.entries.books_are)
-    ∙ notes-uncommitted _ c.requires.may.begins.only_note
+    ∙ only_note-uncommitted _ c.requires.may.begins.only_note
 
 pub returns-in-Err-clause-given : goal.returns-in-Err-clause-given
 returns-in-Err-clause-given g c = KeepsGiven-trans _ _ _

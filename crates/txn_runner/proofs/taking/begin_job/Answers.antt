@@ -2,7 +2,8 @@ use Rattle.std.proofs.Common.{ap, refl}
 use Rattle.job_queue.specs.Passes.{places_in}
 use Rattle.log_rule.specs.May.{MayTakeJob}
 use Rattle.txn_parts.specs.Desk.{view_at, accounts_at}
-use Rattle.txn_parts.proofs.DeskLemmas.{IsOf-same, IsReady-same}
+use Rattle.txn_parts.proofs.DeskLemmas.{IsReady-same}
+use Rattle.ring_buffer.proofs.SameWorkers.{IsOf-same}
 use Rattle.txn_runner.proofs.StageLemmas.{IsTaken, took_job-is_taken, IsTaken-has_next_job}
 use Rattle.txn_runner.proofs.WorkLemmas.{IsNextJob-taken, MayTakeJob-next}
 use Rattle.txn_runner.proofs.taking.begin_job.Goals as goal

@@ -3,8 +3,8 @@ use Rattle.log_rule.specs.declared.view.View.{View}
 use Rattle.log_table.specs.declared.table.Seat.{Seat}
 use Rattle.log_table.specs.Seats.{view_of}
 use Rattle.ring_buffer.specs.Calls.{IsReady, IsSameWorker}
+use Rattle.ring_buffer.proofs.SameWorkers.{IsOf-same}
 use Rattle.txn_parts.specs.Desk.{view_at}
-use Rattle.txn_parts.proofs.DeskLemmas.{IsOf-same}
 use Rattle.txn_runner.specs.Working.{HasDone}
 use Rattle.txn_runner.proofs.worker.work.Goals as goal
 use Rattle.txn_runner.proofs.worker.work.Goals.{After-work_at}

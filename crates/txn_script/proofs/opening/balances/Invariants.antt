@@ -1,7 +1,7 @@
 use Rattle.std.proofs.Common.{◌≡◌, ◌≤◌, List, ℕ, ◌++◌, length, map, All}
 use Rattle.lsn_space.specs.Number.{number_text}
 use Rattle.log_record.specs.Spelling.{IsBalance}
-use Rattle.log_record.specs.declared.limits.TheConstants.{MOST_ACCOUNTS}
+use Rattle.lsn_space.specs.declared.opening.TheConstants.{MOST_ACCOUNTS}
 use Rattle.txn_script.specs.Lines.{lines}
 use Rattle.txn_script.proofs.opening.balances.Given as goal
 

@@ -1,7 +1,6 @@
-use Rattle.std.proofs.Common.{◌≤◌, ◌+◌, subst, sym, ap, length, length-take, arith}
+use Rattle.std.proofs.Common.{subst, sym, ap, length, length-take, arith}
 use Rattle.std.proofs.lemmas.Result.{on_ok_weaker}
 use Rattle.log_disk.specs.Streams.{AppendsBut}
-use Rattle.log_disk.specs.declared.output_block.TheConstants.{BLOCK_BYTES}
 use Rattle.log_disk.proofs.Blocks.{AppendsBut-nothing_waits}
 use Rattle.log_disk.proofs.output_block.OutputBlock.make_room.Goals as goal
 

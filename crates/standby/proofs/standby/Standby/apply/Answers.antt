@@ -3,7 +3,7 @@ use Rattle.ship_stream.specs.Came.Came.{Open}
 use Rattle.log_recovery.specs.Opened.{list_end}
 use Rattle.stream_reader.specs.Reader.{HasRead}
 use Rattle.standby.proofs.AppliedFrames.{has_applied-push}
-use Rattle.standby.proofs.StoppedStreams.{has_frame-is_frame, has_frame-batch_are_units_of, has_frame-within_log, has_frame-has_taken_list, before, stops-judging, stops-writing}
+use Rattle.standby.proofs.StoppedStreams.{has_frame-is_frame, has_frame-batch_are_units_of, before, stops-judging, stops-writing}
 use Rattle.standby.proofs.standby.Standby.apply.Goals as goal
 
 pub returns-in-Err-clause-fault : goal.returns-in-Err-clause-fault

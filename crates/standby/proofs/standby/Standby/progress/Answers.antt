@@ -1,4 +1,4 @@
-use Rattle.std.proofs.Common.{IsTrue, subst}
+use Rattle.std.proofs.Common.{IsTrue}
 use Rattle.standby.proofs.FollowedParts.{tells-more}
 use Rattle.standby.proofs.standby.Standby.progress.Goals as goal
 

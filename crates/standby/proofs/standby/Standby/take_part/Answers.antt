@@ -1,9 +1,9 @@
-use Rattle.std.proofs.Common.{◌≡◌, ◌∙◌, sym, ap, subst, append_assoc, List, ℕ, ◌++◌, take, drop}
+use Rattle.std.proofs.Common.{◌∙◌, sym, ap, subst, append_assoc, List, ℕ, ◌++◌, take, drop}
 use Rattle.std.proofs.lemmas.List.{take-append-drop}
 use Rattle.stream_reader.specs.Advance.{Advances}
 use Rattle.standby.specs.declared.fault.StandbyFault.TheVariants.{Gap}
 use Rattle.standby.specs.Following.{Stops}
-use Rattle.standby.proofs.FollowedParts.{follows-more, follows-head, follows-end, follows-has_frame, stops-bad, stops-gap, stops-longer}
+use Rattle.standby.proofs.FollowedParts.{follows-has_frame, stops-bad, stops-gap, stops-longer}
 use Rattle.standby.proofs.standby.Standby.take_part.Goals as goal
 
 pub returns-in-Err-clause-stops : goal.returns-in-Err-clause-stops

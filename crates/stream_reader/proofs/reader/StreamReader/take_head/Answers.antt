@@ -1,4 +1,4 @@
-use Rattle.std.proofs.Common.{◌≡◌, ◌<◌, ◌∙◌, ◌++◌, sym, ap, refl, [], length, take, drop, arith, length-append}
+use Rattle.std.proofs.Common.{◌∙◌, sym, ap, refl, [], length, take, drop, arith, length-append}
 use Rattle.std.proofs.lemmas.List.{take-append-drop, length-take-le}
 use Rattle.stream_reader.specs.declared.reader.Part.TheVariants as part
 use Rattle.stream_reader.specs.declared.reader.Stage.TheVariants.{Head, Count}

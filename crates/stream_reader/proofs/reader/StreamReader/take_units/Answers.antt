@@ -1,4 +1,4 @@
-use Rattle.std.proofs.Common.{◌≡◌, ◌<◌, ◌∙◌, ◌++◌, ◌+◌, ◌*◌, sym, ap, refl, subst, [], length, take, drop, arith, true≢false}
+use Rattle.std.proofs.Common.{◌≡◌, ◌++◌, ◌+◌, ◌*◌, sym, refl, subst, [], take, drop, arith, true≢false}
 use Rattle.std.proofs.lemmas.List.{take-append-drop, length-take-le}
 use Rattle.stream_reader.specs.Reader.{units_bytes}
 use Rattle.stream_reader.specs.declared.reader.Part.TheVariants as part
