@@ -7,7 +7,7 @@ use std::cell::Cell;
 use std::thread::{sleep, yield_now};
 use std::time::{Clock, Duration};
 
-/// So many rests a wait begins with are spun: an account is mostly free again within a microsecond.
+/// How many rests at the start of a wait are spun: an account is mostly free again within a microsecond.
 const SPINS: u32 = 7;
 
 /// By this rest of a wait its nap is over.
@@ -19,8 +19,14 @@ const IN_TIME: u32 = NAPPED + 16;
 /// Up to this rest a thread stays awake behind its nap, and lets others run.
 const AWAKE: u32 = NAPPED + 64;
 
-/// How long it then sleeps at a time, in microseconds.
+/// Up to this rest it sleeps for a moment at a time, and then longer each time.
+const LATE: u32 = AWAKE + 8;
+
+/// How long that moment is, in microseconds.
 const LATE_SLEEP: u64 = 20;
+
+/// By so much each sleep behind is longer than the one before it, so that a long wait takes little of a processor, and ends little late.
+const LATE_MORE: u64 = 10;
 
 /// How long a doze is, in microseconds: short beside a flush, and so long that other threads get on where processors are scarce.
 const DOZE: u64 = 10;
@@ -31,8 +37,8 @@ const LONG_DOZE: u64 = 60;
 /// So many units are much. Workers that wait for the disk have less for a batch, and are not to wait longer.
 const MANY: u32 = 256;
 
-/// The rests of a thread that waits again and again. In each wait it takes one nap, which is to end shortly before the wait does: the
-/// next one is shorter where the wait was over by its end, and longer where the thread had to stay awake for long behind it.
+/// The rests of a thread that waits again and again. In each wait longer than the spins it takes one nap, which is to end shortly
+/// before the wait does: the next is shorter where the wait was over by its end, and longer where the thread was long awake behind it.
 #[derive(Drop)]
 pub struct IdleBackoff {
     backoff: Backoff,
@@ -63,7 +69,7 @@ impl IdleBackoff {
         } else if rests < AWAKE {
             yield_now();
         } else {
-            sleep_for(clock, LATE_SLEEP);
+            sleep_for(clock, late_sleep(rests));
         }
     }
 
@@ -87,6 +93,11 @@ fn sleep_for(clock: &impl Clock, micros: u64) {
     if micros > 0 {
         sleep(clock, Duration::from_micros(micros));
     }
+}
+
+/// How long the sleep is behind so many rests, once a wait is late.
+fn late_sleep(rests: u32) -> u64 {
+    LATE_SLEEP + LATE_MORE * u64::from(rests.saturating_sub(LATE))
 }
 
 /// How long a nap is to be behind a wait that took so many rests, one nap as long as this among them where there were more than spins.
