@@ -314,7 +314,7 @@ class Trial:
         self.right = self.wrong = 0
 
     def call(self, words, given):
-        ran = subprocess.run([self.program, *words], input=given, capture_output=True, timeout=60, env=self.env)
+        ran = subprocess.run([self.program, *words], input=given, capture_output=True, timeout=600, env=self.env)
         return ran.returncode, ran.stdout, ran.stderr
 
     def compare(self, name, want, found):
