@@ -1,4 +1,4 @@
--- The `done` line of one transfer is told, and the file StandsAt-HoldsUnits what was told.
+-- The `done` line of one transfer is told, and the file holds what was told.
 use Rattle.std.proofs.Common.{◌≢◌, ◌∙◌, inl, refl, sym, ap, [], ◌++◌, append-nil, arith}
 use Rattle.std.specs.List.{AllByRecursion}
 use Rattle.log_record.specs.LogList.{units_of}

@@ -86,11 +86,11 @@ module _ (left left_new : Option (List ℕ)) (view : View) (listed : Listed) (re
   commit-start_or_ends_at begin lsn known is (inl begins) = inl (begins ∙ is)
   commit-start_or_ends_at begin lsn known is (inr ends) = inr (ends.1 _ _ read-has_viewed)
 
-  -- what is list_read-of_list of the list that was read is list_read-of_list of that of the input
+  -- what is said of the list that was read is said of the input's
   pub list_read-of_list : (Said : OpenedList → Type 0) → Said list_read → IfSome left (λ all. OfList all left_new Said)
   list_read-of_list Said is = ReadsAll-of_list left left_new read.0 list_read Said read.1 read.2.held is
 
-  -- nothing is list_read-of_list at an LSN that is no boundary
+  -- nothing is said at an LSN that is no boundary
   pub asof-refused : (lsn : ℕ) (old new : Option (List ℕ)) → (IsListBoundary list_read lsn → ⊥)
       → IfSome left (λ all. AnswersReport (SaysAccounts lsn) (RefusesLsn lsn) all left_new old new (NoSuchLsn lsn))
   asof-refused lsn old new none = list_read-of_list (λ list. RefusesLsn lsn list (NoSuchLsn lsn)) (refl, none)
@@ -111,7 +111,7 @@ module _ (left left_new : Option (List ℕ)) (view : View) (listed : Listed) (re
         list_read-of_list (λ list. (text : List ℕ) × SaysAccounts lsn list text × AppendsPart old new text) (rows_text lsn rows, says-accounts, written)
 
   module _ (account : ℕ) where
-    -- nothing is list_read-of_list of an account that isn't there
+    -- nothing is said of an account that isn't there
     pub statement-refused : (old new : Option (List ℕ))
         → ((opening : Opening) (h : List Placed) → HasViewed opening view h → (base_with opening h).accounts ≤ account)
         → IfSome left (λ all. AnswersReport (SaysStatement account) (RefusesAccount account) all left_new old new (NoAccount account))

@@ -1,4 +1,4 @@
--- A pass IsShared-pops_next what is next: that keeps the rule of the queue. `me` is the pass's number and `v` what it knows before.
+-- A pass takes what is next: that keeps the rule of the queue. `me` is the pass's number and `v` what it knows before.
 use Rattle.std.proofs.Common.{◌≡◌, ◌≢◌, ◌⊎◌, ◌<◌, ◌≤◌, ◌+◌, ℕ, suc, cond, true, true≢false, List, [], ◌∷◌, length, set, sym, refl, ap, ◌∙◌, subst, ⊎_elim, inl, inr, arith, length-append}
 use Rattle.std.specs.List.{AllByRecursion}
 use mathlib.Core.Logic.{dite}
@@ -16,7 +16,7 @@ use Rattle.job_queue.specs.Rule.{HasCount, lives, marks_left_of, IsInOrder, IsEm
 use Rattle.job_queue.proofs.Counting.{counted-first, once_below-suc, times-push, get_elem-within, everywhere-set}
 use Rattle.job_queue.proofs.FirstPass.{first_pass-same}
 
--- what changes of a pass that IsShared-pops_next the number `next`
+-- what changes of a pass that takes the number `next`
 record Took (next : ℕ) (v w : Takings) : Type 0 where
   pub live : w.live ≡ v.live
   pub count : w.count ≡ v.count
@@ -97,7 +97,7 @@ module _ (items : List ℕ) (views : List Takings) (me : ℕ) (v w : Takings) (n
   first_pass-stays : KeepsFirstPass (set views me w) s.first_pass
   first_pass-stays = dite (ℕ_discrete me 0) first_pass-here first_pass-away
 
--- the rule is kept where a pass IsShared-pops_next the least number that is left
+-- the rule is kept where a pass takes the least number that is left
 keeps : (me : ℕ) (v w : Takings) (x : ℕ) (items : List ℕ) (views : List Takings) → v.live ≡ true → (s : IsShared (x ∷ items) views)
     → get_elem? views me ≡ some v → x ≡ s.next → Took s.next v w → IsShared items (set views me w)
 keeps me v w x items views on s at number took =

@@ -1,4 +1,4 @@
--- What one more record does to the balance of an account, and to what is balance-if_known of it.
+-- What one more record does to the balance of an account, and to what is known of it.
 use Rattle.std.proofs.Common.{◌≡◌, ◌≤◌, ◌<◌, ℕ, ◌+◌, ◌-◌, ℤ, pos, ◌+ℤ◌, Bool, true, false, cond, nat_le, Some, None, List, [], ◌∷◌, length, refl, ap, ◌∙◌, sym, subst, arith, le_refl, le_trans, le-leb, lt-ltb, le-ltb, ne_eqb}
 use Rattle.std.proofs.lemmas.Bool.{lt-leb}
 use Rattle.std.proofs.lemmas.Int.{ints}
@@ -32,7 +32,7 @@ module _ (opening : Opening) where
   accounts-grow h (Over txn leg) = omega arith
   accounts-grow h (Note txn text) = omega arith
 
-  -- what is balance-if_known up to an LSN is balance-if_known
+  -- what is known up to an LSN is known
   pub accounts-front : (h : List Placed) (lsn : ℕ) → (base_with opening (front_to h lsn)).accounts ≤ (base_with opening h).accounts
   accounts-front [] lsn = le_refl (base_with opening []).accounts
   accounts-front (entry ∷ h) lsn = by_case (nat_le entry.end lsn) (accounts-front h lsn)
@@ -138,7 +138,7 @@ module _ (opening : Opening) where
       → (base_with opening h).balance account ≡ balance_after opening h account
   balance_after-all_genesis h account all = let gains = total-genesis gain account h all in let losses = total-genesis loss account h all in omega arith
 
-  -- an entry leaves the first balance of an account that is balance-if_known
+  -- an entry leaves the first balance of an account that is known
   pub base_balance-one_entry_more : (entry : Placed) (h : List Placed) (account : ℕ) → AllByRecursion (Passes opening h entry) tests
       → account < (base_with opening h).accounts → (base_with opening h).balance account ≡ (base_with opening (entry ∷ h)).balance account
   base_balance-one_entry_more entry h account passes inside = by_kind entry.rec entry.end passes

@@ -188,7 +188,7 @@ agrees-front_of_joined start to (p ∷ ps) units laid full agrees fits = elim (d
         at-here : (i : ℕ) → p.entry.start + i - start ≡ i
         at-here i = omega (arith, laid.0)
 
--- a agrees-front_of_joined as long as the whole is the whole
+-- a front as long as the whole is the whole
 pub front-equal_if_as_long : (units whole : List ℕ) → IsFront units whole → length units ≡ length whole → whole ≡ units
 front-equal_if_as_long units whole f same = f.is ∙ (ap (λ l. units ++ l) (nil_from_length f.ahead
     (let e : length whole ≡ length (units ++ f.ahead) = ap length f.is in omega (arith, e, length-append units f.ahead, same))) ∙ append-nil units)

@@ -92,7 +92,7 @@ balance_taken-none account (x ∷ xs) none = dite (ℕ_discrete x.account accoun
     (λ same. let one = cond-one_if_equal x.account account same in absurd (omega arith))
     (λ differ. ap (λ b. cond b x.balance (balance_taken xs account)) (ne_eqb x.account account differ) ∙ balance_taken-none account xs (omega arith))
 
--- a last_commit as taken, of whatever account, is one of them or 0
+-- a last commit as taken, of whatever account, is one of them or 0
 pub last_commit_taken-all : (P : ℕ → Type 0) (account : ℕ) (list : List Taken) → P 0 → AllByRecursion (λ (held : Taken). P held.last_commit) list → P (last_commit_taken list account)
 last_commit_taken-all P account [] none all = none
 last_commit_taken-all P account (x ∷ xs) none all = by_test (x.account == account) (last_commit_taken-all P account xs none all.1)

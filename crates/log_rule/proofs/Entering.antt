@@ -1,4 +1,4 @@
--- The next record of a seat's last job may_enter-keeps_accounts the log: each kind keeps the account part of the rule.
+-- The next record of a seat's last job enters the log: each kind keeps the account part of the rule.
 use Rattle.std.proofs.Common.{◌≡◌, ◌≢◌, ◌⊎◌, inl, inr, ◌&&◌, ◌||◌, ℕ, ◌+◌, ◌≤◌, ◌<◌, cond, ℤ, true, false, true≢false, List, [], ◌∷◌, length, set, sym, refl, ap, ◌∙◌, subst, arith}
 use Rattle.std.specs.List.{AllByRecursion}
 use mathlib.Core.Logic.{dite}
@@ -357,7 +357,7 @@ module _ (base : BaseState) (words : ℕ → ℕ) (all : List Books) (me : ℕ) 
     last = everywhere-set (LastIsOne base.accounts) all me (placing end rec mine) holder.last (holder.last me mine at);
   }
 
--- the next record of a seat's last job may_enter-keeps_accounts the log
+-- the next record of a seat's last job enters the log
 pub may_enter-keeps_accounts : (base : BaseState) (words : ℕ → ℕ) (h : List Placed) (all : List Books) (me : ℕ) (mine : Books) → get_elem? all me ≡ some mine → (end : ℕ) (rec : Rec)
     → MayEnter rec mine → KeepsAccounts base words h all
     → KeepsAccounts base words (record { end = end; rec = rec } ∷ h) (set all me (placing end rec mine))

@@ -13,7 +13,7 @@ use Rattle.log_rule.specs.Accounts.{KeepsAccounts}
 use Rattle.log_rule.specs.Books.{MayEnter, placing}
 use Rattle.log_rule.proofs.Entering.{may_enter-keeps_accounts}
 
--- a seat whose record may_enter-keeps_accounts, with its books, and where the record ends
+-- a seat whose record enters, with its books, and where the record ends
 pub record Entrant : Type 0 where
   pub seat : ℕ
   pub books : Books
@@ -44,7 +44,7 @@ abbrev pub AreApart : List Entrant → Type 0
 AreApart [] = Unit {0}
 AreApart (e ∷ es) = EntersNot e.seat es × AreApart es
 
--- it is one of theirs, and may_enter-keeps_accounts so
+-- it is one of theirs, and enters so
 abbrev pub EntersAs : ℕ → Entrant → List Entrant → Type 0
 EntersAs seat e [] = ⊥
 EntersAs seat e (k ∷ ks) = ((k ≡ e) × (e.seat ≡ seat)) ⊎ EntersAs seat e ks

@@ -228,7 +228,7 @@ module _ (most word base me : ℕ) (piece : Piece) (outcome : Outcome) (g : Grou
   pub members_left-lie_within : AllByRecursion (LiesWithin m.total) (m.before ++ m.behind)
   members_left-lie_within = members_left-all (LiesWithin m.total) m.is.remains.each
 
-  -- once the member has subtracted-packed its piece the group is at this phase, and the seat task_in-left to this call
+  -- once the member has released its piece the group is at this phase, and the seat turns to this call
   pub record Left (slot : ℕ) (phase : GroupPhase) (call : Call) : Type 0 where
     pub is : IsAtPhase most (told_word outcome m.total (m.remaining - piece.size)) base (m.before ++ m.behind) phase
     pub leads : led_phase me phase ≡ phase_at me slot call

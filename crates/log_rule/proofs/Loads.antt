@@ -47,7 +47,7 @@ module _ (start ring tail exposed durable : ℕ) (log : Log) (c : HasContiguousR
   ranges_of-part_boundary at b = range_boundary-part_boundary _ start start tail at log.parts (ranges_of log) all-tile c.aligned
       (boundary-from part_size start log.parts) b
 
--- the seat sees a word, or its part in the sending change_seen-leads, or whether it is contended
+-- the seat sees a word, or its part in the sending changes, or whether it is contended
 module _ (key : Start) (words : Words) (stop : ℕ) (views : List View) (me : ℕ) (v : View) (log : Log) (seen : Seen) (contended : Bool) (sending : Sending)
     (s : IsSound key words views log) (at : get_elem? views me ≡ some v) where
   abbrev new : View

@@ -34,7 +34,7 @@ use Rattle.log_rule.proofs.SlotLooks.{quarter_ring-fits_31_bits}
 use Rattle.log_rule.proofs.SlotWords.{at_phase-slot_word}
 use Rattle.log_rule.proofs.SlotChanges.{cond-same_slot, cond-other_slot}
 
--- a group that may_close-gathers, phase_led-known_phase by this seat
+-- a group that gathers, led by this seat
 pub record Gathers (seat : ℕ) (p : GroupPhase) : Type 0 where
   pub total : ℕ
   pub is : p ≡ Gathering seat total
@@ -79,7 +79,7 @@ module _ (key : Start) (words : Words) (views : List View) (me : ℕ) (v : View)
   pub total_in-gathering_total : total_in (words.slot slot) ≡ total
   total_in-gathering_total = ap total_in gathering.word_is ∙ total_back kind.Gathering total 0 fits (omega arith)
 
-  -- what the swap may_close-gathering_word
+  -- what the swap finds
   pub may_close-gathering_word : IsGatheringWord (v.constants.ring / 4) (words.slot slot)
   may_close-gathering_word = let role : v.standing.role ≡ Active = joined-active key words views me v slot may.piece Closes log s at may.closes in
       let ring : v.constants.ring ≡ key.ring = ap (λ (c : Constants). c.ring) (s.constants me v at (ap is_spent role)) in

@@ -27,7 +27,7 @@ use Rattle.log_rule.proofs.SlotShowing.{task_of-joined, slots_of-after_lead}
 use Rattle.log_rule.proofs.SlotChanges.{cond-same_slot, member_step-mine, books_in-member_step_same, slot-sound}
 use Rattle.log_rule.proofs.ViewChanges.{each_seat-at}
 
--- who has something under way is joined-active
+-- who has something under way is active
 pub is_active-role_active : (role : Role) → (is_active role ≡ false → ⊥) → role ≡ Active
 is_active-role_active Flusher on = absurd (on refl)
 is_active-role_active Fresh on = absurd (on refl)

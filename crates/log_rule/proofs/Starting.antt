@@ -1,4 +1,4 @@
--- A table start-sound at rest: nothing is reserved, and the log ends where it started.
+-- A table starts at rest: nothing is reserved, and the log ends where it started.
 use Rattle.std.proofs.Common.{◌≡◌, ◌≢◌, inl, ℕ, zero, suc, ◌+◌, ◌*◌, ◌%◌, ◌<◌, ◌≤◌, nat_lt, true, true≢false, List, [], ◌∷◌, length, get_or, replicate, set, sym, refl, ap, ◌∙◌, subst, le_refl, arith, cond, Bool, false, lt-ltb, ltb-true, length-set, get_or-set_same, get_or-set_other}
 use Rattle.std.proofs.lemmas.List.{length-replicate, get_or-replicate}
 use mathlib.Core.Option.{some-injective, some-ne-none}

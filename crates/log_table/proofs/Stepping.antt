@@ -16,7 +16,7 @@ abbrev pub MovesBase : Seat → Base (Unit {0}) View → View → Type 0 → Typ
 MovesBase old base view Told = (base.table_id ≡ old.base.table_id) × (base.id ≡ old.base.id)
     × ((base.me ≡ (view, old.base.me.1)) × Told)
 
--- the seat MovesBase-becomes then this one
+-- the seat becomes then this one
 pub MovesBase-becomes : {old : Seat} {base : Base (Unit {0}) View} {named : old.worker ≡ base.me.0.standing.worker} {view : View}
     {Told : Type 0} → MovesBase old base view Told → Becomes old (record { base = base; worker = old.worker; named = named }) view
 MovesBase-becomes step = record { table_is = step.0; number = step.1; me = step.2.0; worker = refl }

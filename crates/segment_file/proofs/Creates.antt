@@ -43,14 +43,14 @@ opens-first units counted tail at next rest =
     (closed-byte CLOSED rest (omega arith))
 
 module _ (units file : List ℕ) (images : List ℕ → Type 0) (image : images file) (shut : IsShut 0 images) (counted : IsCountedBatch units) where
-  -- at each moment an image is no log, or StandsAt-HoldsUnits the whole batch
+  -- at each moment an image is no log, or holds the whole batch
   pub midway-holds_none_or : (c : List ℕ) → Midway 0 (magic ++ sealed units) file images c → HoldsNoneOr units c
   midway-holds_none_or c left =
       let tail = tail_at (12 + 8 * length units) (length units) in
       ⊎_elim (λ none. inl none) (λ stands. inr (StandsAt-HoldsUnits tail units c stands))
       (midway-no_log_or_P (magic ++ sealed units) file images image shut (StandsAt tail units) (opens-first units counted tail (omega arith) (omega arith)) c left)
 
-  -- after both writes each image StandsAt-HoldsUnits it
+  -- after both writes each image holds it
   pub put_open-first_batch_stands : (tail : Tail) → tail.at ≡ 12 + 8 * length units → tail.next ≡ length units → (last : List ℕ) (lasts : List ℕ → Type 0)
       → last ≡ put 0 (OPEN ∷ []) (put 1 (magic ++ sealed units) file) → IsOnlyImage last lasts → AllStand tail units lasts
   put_open-first_batch_stands tail at next = put_open-all (magic ++ sealed units) file images image shut (StandsAt tail units) (opens-first units counted tail at next)

@@ -123,7 +123,7 @@ reopen-sound s me k l ms sound is at =
 carried-on : (s : SlotState) (me : ℕ) (old new : Task) → IsSound s → task_of me s.hands ≡ old → (Carries s.log.exposed old → Carries s.log.exposed new) → is_marked s.log.exposed s.log.reservations ≡ true → HasCarrier (with_task me new s.hands) s.log.exposed
 carried-on s me old new sound is f there = has_carrier-turned me new s.hands s.log.exposed (λ carries. f (subst (Carries s.log.exposed) is carries)) (sound.carried there)
 
--- Hear, of a granted group and of a refused cond_equal-single
+-- Hear, of a granted group and of a refused one
 pub hear_granted-sound : (s : SlotState) (me k a n t b r : ℕ) (ms : List Member) → IsSound s → task_of me s.hands ≡ joined k a n Waits → group_at k s.groups ≡ group ms (Told t (Granted b) r) → IsSound (turned s me (joined k a n (Fills 0)))
 hear_granted-sound s me k a n t b r ms sound is at = turned-sound s me (joined k a n Waits) (joined k a n (Fills 0)) sound record {
   is = is;

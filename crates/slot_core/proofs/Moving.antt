@@ -1,4 +1,4 @@
--- One actor turned-sound to something else, at one slot or at none: what stays of the laws.
+-- One actor turns to something else, at one slot or at none: what stays of the laws.
 use Rattle.std.proofs.Common.{◌≡◌, ◌≢◌, ℕ, ◌==◌, ◌/◌, ◌<◌, cond, true, false, List, [], ◌∷◌, length, set, Some, None, refl, sym, ap, ◌∙◌, subst, ne_eqb}
 use Rattle.std.specs.List.{find}
 use Rattle.ring_core.specs.RingLog.{Reservation, is_at, is_marked}
@@ -90,7 +90,7 @@ sound-link s me k st g sound is at = subst (λ z. Link me k z g) is (subst (Link
 pub sound-group : (s : SlotState) (k : ℕ) (g : Group) → IsSound s → group_at k s.groups ≡ g → IsGroup (s.log.ring / 4) s.log.reservations (units_of k s.hands g.members) g.members g.phase
 sound-group s k g sound at = subst (λ (z : Group). IsGroup (s.log.ring / 4) s.log.reservations (units_of k s.hands z.members) z.members z.phase) at (sound.groups k)
 
--- one actor turned-sound to another stage, and nothing else changes
+-- one actor turns to another stage, and nothing else changes
 pub record Turn (s : SlotState) (me : ℕ) (old new : Task) : Type 0 where
   pub is : task_of me s.hands ≡ old
   pub mine : (q : ℕ) → Link me q old (group_at q s.groups) → Link me q new (group_at q s.groups)

@@ -15,7 +15,7 @@ pub cond-both_none : {A : Type 0} → (b : Bool) → cond {A = List A} b [] [] �
 cond-both_none true = refl
 cond-both_none false = refl
 
--- the cond_equal-single that makes the slot's next step is its leader
+-- the one that makes the slot's next step is its leader
 pub step_agrees-leader : (l me k : ℕ) (x : NextStep) → cond (l == me) (x ∷ []) [] ≡ cond (k == k) (x ∷ []) [] → l ≡ me
 step_agrees-leader l me k x e = by_test (l == me) refl (e ∙ cond_equal-single x k)
   where
@@ -23,7 +23,7 @@ step_agrees-leader l me k x e = by_test (l == me) refl (e ∙ cond_equal-single 
     by_test true is h = eqb-true l me is
     by_test false is h = absurd (cc)
 
--- what was heard of cond_equal-single phase holds of the next, where all that is told stays told
+-- what was heard of one phase holds of the next, where all that is told stays told
 heard-shift : (st : MemberStage) (p p' : GroupPhase) → ((P : Outcome → Type 0) → IsTold P p → IsTold P p') → HasHeard st p → HasHeard st p'
 heard-shift Closes p p' f h = tt
 heard-shift Waits p p' f h = tt

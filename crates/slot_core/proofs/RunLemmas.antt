@@ -139,7 +139,7 @@ module _ (s : SlotState) (j : ℕ) (m : Membership) (sound : IsSound s) (is : me
       by_stage Tells st less = absurd less
       by_stage Leaves st less = absurd less
 
-  -- what the program makes of a group that has room, and of cond_equal-single that has none
+  -- what the program makes of a group that has room, and of one that has none
   pub placing_granted-after_place : (t : ℕ) → m.stage ≡ Places → t ≡ closed_total (group_at m.slot s.groups).phase → HasRoom s.log t → placing s j s.log.tail s.log.durable m t true ≡ after_place s j s.log.tail s.log.durable (Some m)
   placing_granted-after_place t h total room = place-either t true h total (room-fits t room)
 

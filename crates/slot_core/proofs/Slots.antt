@@ -119,7 +119,7 @@ other-stays s j me k n t r r' z o ms left ne h = record { joins = left.others j 
     heard : (P : Outcome → Type 0) → IsTold P (Told t o r) → IsTold P (Told t o r')
     heard P x = let e = x.3 in let same : x.1 ≡ o = cc in (t, o, r', refl, subst P same x.4)
 
--- Release, not the last: by cond_equal-single that has filled its piece, or of a refused group
+-- Release, not the last: by one that has filled its piece, or of a refused group
 release-more : (s : SlotState) (me k a n t r r' : ℕ) (st : MemberStage) (o : Outcome) (ms : List Member) → IsSound s → task_of me s.hands ≡ joined k a n st → group_at k s.groups ≡ group ms (Told t o r) → r ≡ r' + n → 1 ≤ r'
     → (IsTrueOutcome s.log.reservations o t r (units_of k s.hands ms) → IsTrueOutcome s.log.reservations o t r' (units_of k (with_task me nothing s.hands) (without me ms)))
     → IsSound (moved s me k nothing (group (without me ms) (Told t o r')))

@@ -1,4 +1,4 @@
--- The fields of a slot's word stand word_of-injective.
+-- The fields of a slot's word stand apart.
 use mathlib.Core.HLevel.{is_prop→PathP}
 use Rattle.std.proofs.Common.{arith, ◌≡◌, ◌≤◌, ◌<◌, ◌+◌, ◌-◌, ◌*◌, ◌%◌, ◌^◌, ◌∙◌, ℕ, ap, sym}
 use Rattle.std.proofs.Math.Bridge.{le_prop}

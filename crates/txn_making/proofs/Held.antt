@@ -19,7 +19,7 @@ use Rattle.txn_making.specs.Holdings.{account_of, taken_of, held_behind, given_b
 use Rattle.txn_making.specs.Holdings.{account_given}
 use Rattle.txn_jobs.proofs.Listing.{rising-below}
 
--- ascending accounts are IsStrictlyIncreasing-distinct
+-- ascending accounts are distinct
 pub IsStrictlyIncreasing-distinct : (holdings : List TakenAccount) → IsStrictlyIncreasing (map account_of holdings) → AreDistinct holdings
 IsStrictlyIncreasing-distinct holdings rising = apart holdings (rising-below (map account_of holdings) rising)
   where

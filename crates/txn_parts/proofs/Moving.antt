@@ -4,7 +4,7 @@ use Rattle.std.specs.List.{AllZip}
 use Rattle.std.proofs.lemmas.List.{length-drop, drop-drop, drop-set-lt, get_or-drop, get_or_default, take_more_set}
 use Rattle.std.proofs.lemmas.List.Elements.{all_zip_more}
 
--- a list is changed from the front on: from get_or-unchanged it is still as it was
+-- a list is changed from the front on: from here it is still as it was
 module _ {X : Type 0} (R : X → X → Type 0) (xs ys : List X) (i : ℕ) (within : i < length ys) (same : drop i ys ≡ drop i xs) where
   pub get_or-unchanged : (x : X) → get_or ys i x ≡ get_or xs i x
   get_or-unchanged x = ap (λ j. get_or ys j x) (omega arith) ∙ sym (get_or-drop i ys 0 x) ∙ ap (λ rest. get_or rest 0 x) same ∙ get_or-drop i xs 0 x
