@@ -69,7 +69,7 @@ length-behind : (below above : List Worked) (end : Worked) → length below < le
 length-behind [] above end = omega arith
 length-behind (first ∷ below) above end = let shorter = length-behind below above end in omega arith
 
--- what is concluded is Disk, Write, where something stopped the transfers or the text could not be written transferred-runs_whole, Fine or LogEnd
+-- what is concluded is Disk, Write where something stopped the transfers or the text could not be written whole, Fine or LogEnd
 module _ {K : Type 0} (h : SinkGhosts K) (ended : RunEnd) (text : List ℕ) (old new : K) (P : Detail → Type 0)
     (disk : Concludes h ended text old new Disk → P Disk) (stopped : StoppedAs ended Write × (new ≡ old) → P Write)
     (cut : NothingStopped ended × AppendsPart (h.held_bytes old) (h.held_bytes new) text → P Write)
@@ -162,7 +162,7 @@ module _ {D : Type 0} {K : Type 0} (g : Ghosts D) (h : SinkGhosts K) (prepared :
   ended-same_honest = rw (← has.disk_old, ← has.disk_is) (transferred-same_daemon g h opened jobs has.front has.shares (key_of prepared.table) has.first has.last
       has.view ended.closed.tail ended.closed.accounts.rows has.transferred).flusher.honest
 
-  -- and has the transferred-same_daemon file attached
+  -- and has the same file attached
   pub ended-same_attached : g.attached disk_new ≡ g.attached disk
   ended-same_attached = rw (← has.disk_old, ← has.disk_is) (transferred-same_daemon g h opened jobs has.front has.shares (key_of prepared.table) has.first has.last
       has.view ended.closed.tail ended.closed.accounts.rows has.transferred).flusher.attached

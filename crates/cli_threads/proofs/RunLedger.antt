@@ -49,14 +49,14 @@ module _ (opened : OpenedList) (list : List Rec) (jobs : NumberedJobs) (lawful :
     (spellable : AllByRecursion IsSpellable (opened.records ++ list))
     (after : IsLawful (as_opening (base_left opened)) (later_of opened list))
     (serial : IsPartlySerialAfter (base_left opened) (tasks_of jobs) (later_of opened list)) where
-  -- the records after the opened list have later_of-numbered_from_first from the first on
+  -- the records after the opened list have numbers from the first on
   pub later_of-numbered_from_first : AllByRecursion (λ (entry : Placed). jobs.first ≤ txn_of entry.rec) (later_of opened list)
   later_of-numbered_from_first = no_others-numbers_from jobs.first (tasks_of jobs) (later_of opened list) (numbered-from jobs.first (transfers_of jobs)) serial.others
 
   pub later-shares_no_transaction : ShareNoTransaction (later_of opened list) (placed opened)
   later-shares_no_transaction = numbers_apart-share_none jobs.first (later_of opened list) (placed opened) later_of-numbered_from_first (greatest_txn_below-all_below (placed opened) jobs.first (omega (arith, below)))
 
-  -- as their later_of-numbered_from_first are above those of the opened list, they are lawful behind the opening that it leaves
+  -- as their numbers are above the opened list's, they are lawful behind the opening that it leaves
   behind : IsLawful (opening_left opened) (later_of opened list)
   behind = lawful_as_opening-lawful_after (opening_before opened) jobs.first (later_of opened list) (placed opened) after later_of-numbered_from_first below
 
