@@ -1,6 +1,6 @@
 //! Groups of two that have room, each on one schedule of events.
 
-use crate::rig::{
+use crate::group_rig::{
     fill, is_taken, look_exposed, look_mark, mark, new_run, raise, reserve, stands_at,
 };
 use slot_core::{SlotEvent, SlotRun};

@@ -1,6 +1,6 @@
 //! A group for which the ring has no room.
 
-use crate::rig::{
+use crate::group_rig::{
     fill, is_taken, look_exposed, look_mark, mark, new_run, raise, reserve, stands_at,
 };
 use slot_core::{SlotEvent, SlotRun};
