@@ -1,7 +1,7 @@
 use Rattle.std.proofs.Common.{◌∙◌, sym, subst}
 use Rattle.log_disk.specs.Disk.{IsOnlyImage}
 use Rattle.segment_file.proofs.Scanned.{scanned-stable}
-use Rattle.segment_file_tests.proofs.crashes.reopen.Goals as goal
+use Rattle.files_tests.proofs.log_crashes.reopen.Goals as goal
 
 pub settle-requires-clause-stable : goal.settle-requires-clause-stable
 settle-requires-clause-stable g c = λ honest.

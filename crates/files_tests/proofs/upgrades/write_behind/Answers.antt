@@ -1,6 +1,6 @@
 use Rattle.std.proofs.Common.{[], ◌∷◌}
 use Rattle.segment_file.specs.Log.{cut_log, with_units}
-use Rattle.segment_file_tests.proofs.upgrades.write_behind.Goals as goal
+use Rattle.files_tests.proofs.upgrades.write_behind.Goals as goal
 
 pub open_cut-requires : goal.open_cut-requires
 open_cut-requires g c = record {
