@@ -3,7 +3,7 @@ use Rattle.log_disk.specs.Disk.{IsOnlyImage}
 use Rattle.log_recovery.specs.Opened.{log_of}
 use Rattle.segment_file.proofs.Scanned.{only_image-LogStands, stands-stable, stands-within}
 use Rattle.standby.specs.TakenList.{KeepsList}
-use Rattle.standby_tests.proofs.rig.open.Goals as goal
+use Rattle.stream_tests.proofs.standby_rig.open.Goals as goal
 
 pub settle-requires-clause-stable : goal.settle-requires-clause-stable
 settle-requires-clause-stable g c = λ honest.

@@ -1,5 +1,5 @@
 use Rattle.std.proofs.Common.{◌++◌}
-use Rattle.standby_tests.proofs.rig.feed_piece.Goals as goal
+use Rattle.stream_tests.proofs.standby_rig.feed_piece.Goals as goal
 
 pub returns-in-Ok : goal.returns-in-Ok
 returns-in-Ok g c =

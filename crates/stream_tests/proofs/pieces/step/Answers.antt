@@ -1,8 +1,8 @@
 use Rattle.std.proofs.Common.{◌++◌, take}
 use Rattle.std.proofs.lemmas.Result.{IfOk-weaker}
 use Rattle.stream_reader.specs.Advance.{Advances, CanRead}
-use Rattle.ship_stream_tests.proofs.Steps.{advances-can_read}
-use Rattle.ship_stream_tests.proofs.pieces.step.Goals as goal
+use Rattle.stream_tests.proofs.Steps.{advances-can_read}
+use Rattle.stream_tests.proofs.pieces.step.Goals as goal
 
 pub returns-clause-read : goal.returns-clause-read
 returns-clause-read c =

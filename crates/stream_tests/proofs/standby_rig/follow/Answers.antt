@@ -1,5 +1,5 @@
 use Rattle.std.proofs.Common.{[]}
-use Rattle.standby_tests.proofs.rig.follow.Goals as goal
+use Rattle.stream_tests.proofs.standby_rig.follow.Goals as goal
 
 pub feed_all-requires : goal.feed_all-requires
 feed_all-requires g c =

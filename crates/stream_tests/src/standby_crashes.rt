@@ -1,6 +1,6 @@
 //! A standby whose disk fails, and what is read after a crash.
 
-use crate::rig::{SHIPPED, accounts_log, follow};
+use crate::standby_rig::{SHIPPED, accounts_log, follow};
 use lsn_space::Lsn;
 use memory_disk::MemoryDisk;
 use standby::{Fed, StandbyFault};

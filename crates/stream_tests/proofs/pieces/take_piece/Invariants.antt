@@ -1,5 +1,5 @@
 use Rattle.stream_reader.specs.Advance.{CanRead}
-use Rattle.ship_stream_tests.proofs.pieces.take_piece.Given as goal
+use Rattle.stream_tests.proofs.pieces.take_piece.Given as goal
 
 abbrev pub invariant-parts : goal.invariant-parts
 invariant-parts l = CanRead l.reader

@@ -1,6 +1,6 @@
 //! What a standby answers to a stream, in pieces of several lengths, and what its log then is.
 
-use crate::rig::{SHIPPED, accounts_log, follow, transfer_log};
+use crate::standby_rig::{SHIPPED, accounts_log, follow, transfer_log};
 use lock_core::Why;
 use lsn_space::Lsn;
 use memory_disk::MemoryDisk;
