@@ -1,5 +1,0 @@
-use Rattle.log_table.specs.HiredWorkers.{HasHired}
-use Rattle.slot_tests.proofs.joins_tests.hire_up_to.Given as goal
-
-abbrev pub invariant-loop-worker : goal.invariant-loop-worker
-invariant-loop-worker l = HasHired l.table l.worker l.flusher_seat
