@@ -2,14 +2,24 @@
 #![tactic(auto)]
 
 #[cfg(test)]
+mod crowd_fault_tests;
+#[cfg(test)]
 mod crowd_tests;
 #[cfg(test)]
-mod ends;
+mod cut_tests;
 #[cfg(test)]
-mod fault_tests;
+mod demo_tests;
+#[cfg(test)]
+mod dump_tests;
+#[cfg(test)]
+mod ends;
 #[cfg(test)]
 mod gates;
 #[cfg(test)]
 mod overlap_tests;
+#[cfg(test)]
+mod recover_tests;
+#[cfg(test)]
+mod run_tests;
 #[cfg(test)]
 mod scripts;

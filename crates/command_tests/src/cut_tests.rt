@@ -1,7 +1,7 @@
 //! What `cut` and `upgrade` answer, and what the other commands make of logs of the second format.
 
 use crate::run_tests::GREATEST_TRANSACTION;
-use crate::tests::{ONE_TRANSFER, UNFINISHED_TRANSFER};
+use crate::recover_tests::{ONE_TRANSFER, UNFINISHED_TRANSFER};
 use cli_rig::{
     Answer, End, GENESIS_LOG, Given, answer_at, answers, has_answered, has_left, leaves, log_of,
     reads,

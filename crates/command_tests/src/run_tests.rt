@@ -1,6 +1,6 @@
 //! What `run` answers, over a disk, a source and a sink in memory.
 
-use crate::tests::UNFINISHED_TRANSFER;
+use crate::recover_tests::UNFINISHED_TRANSFER;
 use cli_rig::{
     Answer, End, GENESIS_LOG, Given, answer_at, answers, has_answered, is_no_command, leaves,
     log_of, made, reads, run_on,

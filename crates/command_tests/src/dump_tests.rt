@@ -1,6 +1,8 @@
 //! What `dump` answers, over a source and a sink in memory.
 
-use crate::tests::{CUT_TRANSFER, NO_RECORD, ONE_TRANSFER, UNFINISHED_TRANSFER, WRONG_PREDECESSOR};
+use crate::recover_tests::{
+    CUT_TRANSFER, NO_RECORD, ONE_TRANSFER, UNFINISHED_TRANSFER, WRONG_PREDECESSOR,
+};
 use cli_rig::{End, Given, answers, log_of};
 use std::alloc::AllocGlobal;
 use std::process::Abort;
