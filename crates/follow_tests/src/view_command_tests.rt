@@ -1,6 +1,6 @@
 //! What `asof` and `statement` answer, row by row.
 
-use crate::logs::{
+use crate::view_logs::{
     ALL_OF_IT, BACK, CUT, GENESIS, GREATEST, SHORT, THERE, TWO_LEGS, UNFINISHED, WRONG_PREDECESSOR,
     log_of, to_and_fro,
 };
