@@ -2,7 +2,7 @@
 
 ghost use Rattle.std.specs.Prelude.{◌≡◌, IfSome};
 
-use crate::scanning::is_tail;
+use crate::scanning::{has_fault, is_tail};
 use log_disk::LogDisk;
 use lsn_space::{Balances, Lsn, Opening};
 use memory_disk::MemoryDisk;
@@ -33,10 +33,6 @@ fn cut_with(alloc: Global, place: usize, bytes: &[u8]) -> Result<Vec<u8>, AllocE
     let rest = file.len().min(45);
     file.extend_from_slice(CUT.as_slice().split_at(rest).1)?;
     Ok(file)
-}
-
-fn has_fault<R: AllocGlobal + Abort>(rt: &R, bytes: &[u8], fault: ScanFault) {
-    assert_eq!(rt; scan(rt.alloc(), bytes).err(), Some(fault), "{bytes:?}");
 }
 
 /// What stands before the list, in the order of the file.

@@ -54,7 +54,7 @@ fn finds_the_first_closed_gate(rt: HostRuntime) -> Result<(), Fail> {
 }
 
 /// The scan of these bytes has this fault.
-fn has_fault<R: AllocGlobal + Abort>(rt: &R, bytes: &[u8], fault: ScanFault) {
+pub fn has_fault<R: AllocGlobal + Abort>(rt: &R, bytes: &[u8], fault: ScanFault) {
     assert_eq!(rt; scan(rt.alloc(), bytes).err(), Some(fault), "{bytes:?}");
 }
 
