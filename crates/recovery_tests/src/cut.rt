@@ -16,8 +16,8 @@ const CUT: [u8; 44] = [
     0, 0, 0, 0, 0, 0, 0, 0x1e, 0, 0, 0, 9,
 ];
 
-/// 30 from account 1 back to account 0, by transaction 2.
-const BACK: [u64; 5] = [
+/// 30 from account 1 back to account 0, by transaction 2, where both were last changed at 9.
+pub(crate) const BACK: [u64; 5] = [
     0x0202_0001_0000_0002,
     0xffff_ffe2_0000_0009,
     0x0202_0000_0000_0002,

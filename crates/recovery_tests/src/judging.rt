@@ -14,7 +14,7 @@ fn has_two_accounts(rt: &impl Abort, judge: &Judge) {
 }
 
 /// The record was refused by its leg.
-fn is_refused_by_its_leg(rt: &impl Abort, found: Result<(), JudgeFault>) {
+pub(crate) fn is_refused_by_its_leg(rt: &impl Abort, found: Result<(), JudgeFault>) {
     assert_eq!(rt; found, Err(JudgeFault::Why(Why::Legs)));
 }
 

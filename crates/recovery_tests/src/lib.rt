@@ -24,8 +24,8 @@ mod plainly;
 #[cfg(test)]
 mod view_adding;
 #[cfg(test)]
-mod view_images;
-#[cfg(test)]
 mod view_plainly;
 #[cfg(test)]
 mod view_rows;
+#[cfg(test)]
+mod view_units;

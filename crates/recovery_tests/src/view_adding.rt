@@ -5,6 +5,7 @@ ghost use Rattle.lsn_space.specs.Opening.{no_opening};
 ghost use Rattle.lock_core.specs.AccountRows.{opening_of};
 ghost use Rattle.ledger_view.specs.ViewedAccounts.{HasViewed};
 
+use crate::judging::is_refused_by_its_leg;
 use ledger_view::View;
 use lock_core::{JudgeFault, Why};
 use log_record::Rec;
@@ -24,11 +25,6 @@ fn view_of_nothing(alloc: Global) -> Result<View, NoMemory>
 /// The accounts of the test.
 fn has_two_accounts(rt: &impl Abort, view: &View) {
     assert_eq!(rt; view.accounts(), 2);
-}
-
-/// The record was refused by its leg.
-fn is_refused_by_its_leg(rt: &impl Abort, found: Result<(), JudgeFault>) {
-    assert_eq!(rt; found, Err(JudgeFault::Why(Why::Legs)));
 }
 
 /// A view takes two accounts, of balances 100 and 0, and refuses a Short whose leg says that there were two Updates.

@@ -5,11 +5,10 @@ ghost use Rattle.log_record.specs.declared.rec.Placed.{Placed};
 ghost use Rattle.lock_core.specs.Sums.{Opening};
 ghost use Rattle.ledger_view.specs.ViewedAccounts.{HasViewed};
 
-use crate::view_images::{
-    ALL, BACK, EIGHT_LEGS, GENESIS, NOTHING, REFUSED, RICH, THERE, TWO_LEGS, UNFINISHED, cut_image,
-    image,
-};
+use crate::cut::{BACK, cut_and};
+use crate::images::{GENESIS, TRANSFER, image};
 use crate::view_plainly::is_same;
+use crate::view_units::{ALL, EIGHT_LEGS, NOTHING, REFUSED, RICH, TWO_LEGS, UNFINISHED};
 use ledger_view::{Entries, View};
 use log_recovery::taken;
 use lsn_space::Lsn;
@@ -48,7 +47,7 @@ const ROWS: &[Row] = &[
         &[(0, None), (4, None), (4294967295, None)],
     ),
     (
-        &[&GENESIS, &THERE, &BACK],
+        &[&GENESIS, &TRANSFER, &BACK],
         0,
         Some((100, &[(9, 1, -30, 70), (14, 2, 30, 100)])),
         &[
@@ -62,7 +61,7 @@ const ROWS: &[Row] = &[
         ],
     ),
     (
-        &[&GENESIS, &THERE, &BACK],
+        &[&GENESIS, &TRANSFER, &BACK],
         1,
         Some((0, &[(9, 1, 30, 30), (14, 2, -30, 0)])),
         &[
@@ -191,7 +190,7 @@ fn whole_logs(rt: HostRuntime) -> Result<(), Fail> {
 #[test]
 fn cut_logs(rt: HostRuntime) -> Result<(), Fail> {
     for row in BEHIND {
-        let bytes = cut_image(rt.alloc(), row.0)?;
+        let bytes = cut_and(rt.alloc(), row.0)?;
         is_answered(&rt, bytes.as_slice(), row);
         assert!(rt; is_same(rt.alloc(), bytes.as_slice()), "{}", row.1);
     }
