@@ -23,6 +23,16 @@ pub(crate) fn is_number(rt: &impl Abort, what: &str, number: u64, wanted: u64) {
     assert_eq!(rt; number, wanted, "{what}");
 }
 
+/// So many are there.
+pub(crate) fn is_count(rt: &impl Abort, what: &str, count: u32, wanted: u32) {
+    assert_eq!(rt; count, wanted, "{what}");
+}
+
+/// This is so, or isn't.
+pub(crate) fn is_so(rt: &impl Abort, what: &str, found: bool, wanted: bool) {
+    assert_eq!(rt; found, wanted, "{what}");
+}
+
 /// These units were sent, and end here.
 pub(crate) fn has_sent(rt: &impl Abort, units: &[u64], to: Lsn, wanted: &[u64], end: u32) {
     assert_eq!(rt; units, wanted);

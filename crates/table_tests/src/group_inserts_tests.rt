@@ -3,8 +3,9 @@ ghost use Rattle.std.specs.Prelude.{◌≡◌, ◌≤◌};
 ghost use Rattle.log_table.specs.HiredWorkers.{HasHired};
 ghost use Rattle.test_rig.specs.NotedJobs.{IsNotedJob, MayInsert};
 
-use crate::group_found::{is_at, is_number, is_so};
+use crate::found::{is_at, is_count, is_so};
 use crate::group::{hear_piece, join_for, lead_if_first, put_piece};
+use crate::meeting::{have_met, wait_for};
 use consol_array::{Released, insert};
 use lock_core::Job;
 use log_table::{LogTable, Seat};
@@ -14,11 +15,8 @@ use std::process::Abort;
 use std::sync::Wait;
 use std::sync::atomic::{AtomicBool, AtomicU32, Ordering};
 use std::test::Fail;
-use std::thread::{Threads, join, yield_now};
+use std::thread::{Threads, join};
 use test_rig::{note_units, noted_job, table_with_slots, worker};
-
-/// How often a held thread looks for the other before it gives up.
-const MOST_TURNS: u32 = 1_000_000;
 
 /// How many have come by, and whether one gave up waiting for the others.
 #[derive(Drop)]
@@ -42,21 +40,12 @@ impl Meeting {
 
     /// Waits until so many have come by, or notes that it gave up.
     fn hold(&self, wanted: u32) {
-        for _ in 0..MOST_TURNS {
-            if self.come.load(Ordering::SeqCst) >= wanted {
-                return;
-            }
-            yield_now();
-        }
-        self.gave_up.store(true, Ordering::SeqCst);
+        wait_for(&self.come, wanted, &self.gave_up);
     }
 
     /// Nobody gave up.
     fn was_held(&self, rt: &impl Abort) {
-        assert!(rt;
-            !self.gave_up.load(Ordering::SeqCst),
-            "the threads did not meet"
-        );
+        have_met(rt, &self.gave_up);
     }
 }
 
@@ -138,7 +127,7 @@ fn who_loses_the_exchange_joins(rt: HostRuntime) -> Result<(), Fail> {
     let these = (Some(Lsn::new(4)), Some(Lsn::new(6)));
     let those = (Some(Lsn::new(7)), Some(Lsn::new(4)));
     assert!(&rt; found == these || found == those, "{found:?}");
-    is_number(&rt, "joins", gate.joined.come.load(Ordering::SeqCst), 1);
+    is_count(&rt, "joins", gate.joined.come.load(Ordering::SeqCst), 1);
     gate.looked.was_held(&rt);
     Ok(())
 }

@@ -3,7 +3,7 @@ ghost use Rattle.std.specs.Prelude.{◌≡◌, ◌≤◌, ◌+◌, IfOk};
 ghost use Rattle.log_table.specs.HiredWorkers.{HasHired};
 ghost use Rattle.test_rig.specs.NotedJobs.{IsNotedJob};
 
-use crate::group_found::is_number;
+use crate::found::is_count;
 use crate::group::join_for;
 use consol_array::{Joined, NotJoined};
 use lock_core::Job;
@@ -49,7 +49,7 @@ fn nine_join<R: Abort>(
         let Ok(joined) = hired_joins(table, flusher_seat, i, job) else {
             return Err(Fail::new("a worker has not joined"));
         };
-        is_number(rt, "offset", joined.offset, 26 * i);
+        is_count(rt, "offset", joined.offset, 26 * i);
     }
     Ok(())
 }

@@ -8,7 +8,7 @@ ghost use Rattle.consol_array.specs.Members.{HasPiece};
 ghost use Rattle.table_tests.specs.Shares.{GoesOn, HasShare};
 ghost use Rattle.test_rig.specs.NotedJobs.{IsNotedJob, MayInsert};
 
-use crate::group_found::{is_at, is_number, is_so};
+use crate::found::{is_at, is_count, is_so};
 use crate::group::{hear_piece, join_for, lead_if_first, leave_refused, put_piece};
 use consol_array::{Joined, Member};
 use lock_core::Job;
@@ -55,7 +55,7 @@ fn joins<R: Abort>(
     let Ok(joined) = join_for(table, &mut seat, number + 1, &job, &units) else {
         return Err(Fail::new("the worker has not joined"));
     };
-    is_number(rt, "offset", joined.offset, offset);
+    is_count(rt, "offset", joined.offset, offset);
     Ok(Sharer {
         seat,
         joined,
@@ -139,7 +139,7 @@ fn releases_in_turn<R: Abort + Wait>(
     is_at(rt, "tail", table.load_tail(&mut seat), 9);
     is_at(rt, "exposed", table.load_exposed(&mut seat), 9);
     let after = table.load_slot(&mut seat, 0);
-    is_number(rt, "the slot's total", after.total(), 0);
+    is_count(rt, "the slot's total", after.total(), 0);
     Ok(())
 }
 

@@ -128,7 +128,7 @@ impl Gate for FirstIsHeld {
 }
 
 /// The units of both notes, of eight letters under number 1 and of nine under number 2.
-const BOTH: [u64; 5] = [
+pub(crate) const BOTH: [u64; 5] = [
     0x0602_0008_0000_0001,
     0x6161_6161_6161_6161,
     0x0603_0009_0000_0002,

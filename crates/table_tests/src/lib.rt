@@ -7,8 +7,6 @@ mod found;
 #[cfg(test)]
 mod group;
 #[cfg(test)]
-mod group_found;
-#[cfg(test)]
 mod group_inserts_tests;
 #[cfg(test)]
 mod group_joins_tests;

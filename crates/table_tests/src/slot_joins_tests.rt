@@ -3,7 +3,8 @@ ghost use Rattle.std.specs.Prelude.{◌≡◌, ◌+◌, ◌≤◌, ◌<◌, ◌%
 ghost use Rattle.log_table.specs.HiredWorkers.{HasHired};
 ghost use Rattle.test_rig.specs.NotedJobs.{IsNotedJob};
 
-use crate::slot_found::{has_joined, is_number};
+use crate::found::is_count;
+use crate::slot_found::has_joined;
 use lock_core::Job;
 use log_table::{LogTable, Seat};
 use slot_rig::{NotJoined, Pair, Share, close, join_for_note, joiner, pair_of};
@@ -90,7 +91,7 @@ fn a_join_after_the_close_finds_pending(rt: HostRuntime) -> Result<(), Fail> {
         ours,
         ..
     } = pair;
-    is_number(&rt, "total", close(&table, &mut one, &ours), 5);
+    is_count(&rt, "total", close(&table, &mut one, &ours), 5);
     let Some(job) = noted_job(b"a") else {
         return Err(Fail::new("no job"));
     };

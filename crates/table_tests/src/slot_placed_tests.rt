@@ -6,7 +6,9 @@ ghost use Rattle.log_table.specs.HiredWorkers.{HasHired};
 ghost use Rattle.log_table.specs.Seats.{key_of};
 ghost use Rattle.slot_rig.specs.Shares.{HasReleased, IsMember};
 
-use crate::slot_found::{has_left, has_sent, is_at, is_range};
+use crate::found::{has_sent, is_at};
+use crate::inserting_tests::BOTH;
+use crate::slot_found::{has_left, is_range};
 use log_table::{LogTable, Seat};
 use lsn_space::Lsn;
 use slot_rig::{Pair, Share, fill_piece, gather_both, hear, lead, leave, pair_of};
@@ -14,15 +16,6 @@ use std::alloc::Global;
 use std::process::Abort;
 use std::test::Fail;
 use test_rig::{send_all, table_with_slots};
-
-/// The units of both notes, of eight letters under number 1 and of nine under number 2.
-const BOTH: [u64; 5] = [
-    0x0602_0008_0000_0001,
-    0x6161_6161_6161_6161,
-    0x0603_0009_0000_0002,
-    0x6262_6262_6262_6262,
-    0x6200_0000_0000_0000,
-];
 
 /// A group of two that was placed: the table, the flusher's seat, both members with their shares, and where the range begins.
 #[derive(Drop)]

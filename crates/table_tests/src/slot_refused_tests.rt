@@ -6,7 +6,8 @@ ghost use Rattle.log_table.specs.HiredWorkers.{HasHired};
 ghost use Rattle.test_rig.specs.NotedJobs.{IsNotedJob};
 ghost use Rattle.slot_rig.specs.Shares.{HasLeft, IsMember};
 
-use crate::slot_found::{has_joined, is_at, is_number, is_refusal};
+use crate::found::{is_at, is_count};
+use crate::slot_found::{has_joined, is_refusal};
 use lock_core::Job;
 use log_table::{LogTable, Seat};
 use slot_rig::{
@@ -70,7 +71,7 @@ fn hears_and_leaves<R: Abort>(
         return Err(Fail::new("no refusal was heard"));
     };
     is_refusal(rt, &refusal, 1028, 4);
-    is_number(
+    is_count(
         rt,
         "remaining",
         leave_refused(table, seat, share, &refusal),
