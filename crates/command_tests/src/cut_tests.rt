@@ -1,7 +1,7 @@
 //! What `cut` and `upgrade` answer, and what the other commands make of logs of the second format.
 
+use crate::recover_tests::{ONE_TRANSFER, RECOVER, UNFINISHED_TRANSFER};
 use crate::run_tests::GREATEST_TRANSACTION;
-use crate::recover_tests::{ONE_TRANSFER, UNFINISHED_TRANSFER};
 use cli_rig::{
     Answer, End, GENESIS_LOG, Given, answer_at, answers, has_answered, has_left, leaves, log_of,
     reads,
@@ -19,8 +19,6 @@ const CUT: &[&str] = &["aether", "cut", "short.log"];
 const UPGRADE: &[&str] = &["aether", "upgrade", "new.log"];
 
 const ALONE: &[&str] = &["aether", "run", "short.log", "--workers", "1"];
-
-const RECOVER: &[&str] = &["aether", "recover"];
 
 const TEXT: &[u8] = b"lsn 9\n0 70\n1 30\n";
 

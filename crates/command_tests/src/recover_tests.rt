@@ -35,7 +35,7 @@ pub(crate) const NO_RECORD: &[u8] = b"O\0\0\0\x01\0\0\0\0\0\0\0\0\0";
 
 const GENESIS_TEXT: &[u8] = b"lsn 4\n0 100\n1 0\n";
 
-const RECOVER: &[&str] = &["aether", "recover"];
+pub(crate) const RECOVER: &[&str] = &["aether", "recover"];
 
 /// `recover` of these bytes behind the genesis log's batch.
 fn recovers<R: Threads + Wait + Clock + Sync + AllocGlobal + Abort>(
