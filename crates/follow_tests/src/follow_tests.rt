@@ -3,8 +3,8 @@
 use crate::calls::follows;
 use crate::logs::{
     ACCOUNTS, BACK, BOTH, CUT, CUT_AND_BACK, END, ENDED, ENDED_AND_NONE, FROM_0, FULL, LATE, LATER,
-    Log, NO_ACCOUNT, ONE_TRANSFER, SHIPPED, Stream, TEXT, THERE, UNLAWFUL, UPGRADED, WITHIN,
-    log_of, stream_of,
+    Log, NO_ACCOUNT, NONE_FROM_9, ONE_TRANSFER, SHIPPED, SHIPPED_BACK, Stream, TEXT, THERE,
+    UNLAWFUL, UPGRADED, WITHIN, log_of, stream_of,
 };
 use cli_rig::{End, GENESIS_LOG};
 use log_recovery::Why;
@@ -54,20 +54,6 @@ fn follows_row<R: Threads + Wait + Clock + Sync + AllocGlobal>(
         left.as_slice(),
     )
 }
-
-/// The stream without a frame.
-const NONE_FROM_9: Stream = Stream {
-    first: 9,
-    frames: &[],
-    rest: END,
-};
-
-/// The transfer back.
-const SHIPPED_BACK: Stream = Stream {
-    first: 9,
-    frames: &[&BACK],
-    rest: END,
-};
 
 /// Logs that follow a stream to its end, the accounts then, and the log that is left.
 const FOLLOWED: &[(Log, Stream, &[u8], Log)] = &[

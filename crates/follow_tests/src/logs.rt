@@ -164,6 +164,20 @@ pub(crate) const SHIPPED: Stream = Stream {
     rest: END,
 };
 
+/// The end of a list that ends at 9, where nothing is shipped.
+pub(crate) const NONE_FROM_9: Stream = Stream {
+    first: 9,
+    frames: &[],
+    rest: END,
+};
+
+/// The transfer back, of a log of each format.
+pub(crate) const SHIPPED_BACK: Stream = Stream {
+    first: 9,
+    frames: &[&BACK],
+    rest: END,
+};
+
 /// Adds a count and so many units.
 pub(crate) fn push_units(bytes: &mut Vec<u8>, units: &[u64]) -> Result<(), AllocError> {
     let count = u32::try_from(units.len()).unwrap_or(0);
@@ -174,18 +188,27 @@ pub(crate) fn push_units(bytes: &mut Vec<u8>, units: &[u64]) -> Result<(), Alloc
     Ok(())
 }
 
-/// The bytes of a log.
-pub(crate) fn log_of<R: AllocGlobal>(rt: &R, log: Log) -> Result<Vec<u8>, AllocError> {
-    let mut bytes = Vec::from_slice(rt.alloc(), log.head)?;
-    for (i, units) in log.batches.iter().enumerate() {
+/// The bytes of a log of these batches behind a head or, where that is empty, the magic bytes.
+pub(crate) fn file_of<R: AllocGlobal>(
+    rt: &R,
+    head: &[u8],
+    batches: &[&[u64]],
+) -> Result<Vec<u8>, AllocError> {
+    let mut bytes = Vec::from_slice(rt.alloc(), head)?;
+    for (i, units) in batches.iter().enumerate() {
         bytes.push(b'O')?;
-        if i == 0 && log.head.is_empty() {
+        if i == 0 && head.is_empty() {
             bytes.extend_from_slice(b"AETHER1")?;
         }
         push_units(&mut bytes, units)?;
     }
     bytes.push(0)?;
     Ok(bytes)
+}
+
+/// The bytes of a log.
+pub(crate) fn log_of<R: AllocGlobal>(rt: &R, log: Log) -> Result<Vec<u8>, AllocError> {
+    file_of(rt, log.head, log.batches)
 }
 
 /// The bytes of a stream.

@@ -2,8 +2,8 @@
 
 use crate::calls::ships;
 use crate::logs::{
-    ACCOUNTS, BACK, BOTH, CUT, CUT_AND_BACK, END, FROM_0, FULL, GENESIS, Log, ONE_TRANSFER,
-    SHIPPED, Stream, TEXT, THERE, UNLAWFUL, UPGRADED, log_of, stream_of,
+    ACCOUNTS, BOTH, CUT, CUT_AND_BACK, END, FROM_0, FULL, GENESIS, Log, NONE_FROM_9, ONE_TRANSFER,
+    SHIPPED, SHIPPED_BACK, Stream, TEXT, THERE, UNLAWFUL, UPGRADED, log_of, stream_of,
 };
 use cli_rig::End;
 use log_recovery::Why;
@@ -24,20 +24,6 @@ fn ships_row<R: Threads + Wait + Clock + Sync + AllocGlobal>(
     let stream = stream_of(rt, stream)?;
     ships(rt, log.as_slice(), words, &End::Fine, stream.as_slice())
 }
-
-/// The end of a list, where nothing is shipped.
-const NONE_FROM_9: Stream = Stream {
-    first: 9,
-    frames: &[],
-    rest: END,
-};
-
-/// The transfer back, of a log of each format.
-const SHIPPED_BACK: Stream = Stream {
-    first: 9,
-    frames: &[&BACK],
-    rest: END,
-};
 
 /// A log, the words that ship it, and the stream. The batches of a log don't matter: a frame has as many records as fit.
 const STREAMS: &[(Log, &[&str], Stream)] = &[

@@ -1,9 +1,7 @@
 //! What `asof` and `statement` answer, row by row.
 
-use crate::view_logs::{
-    ALL_OF_IT, BACK, CUT, GENESIS, GREATEST, SHORT, THERE, TWO_LEGS, UNFINISHED, WRONG_PREDECESSOR,
-    log_of, to_and_fro,
-};
+use crate::logs::{BACK, CUT_HEAD, GENESIS, THERE, WRONG_PREDECESSOR, file_of};
+use crate::view_logs::{ALL_OF_IT, GREATEST, SHORT, TWO_LEGS, UNFINISHED, to_and_fro};
 use cli_shared::Detail;
 use cli_view::asof_command::asof_command;
 use cli_view::statement_command::statement_command;
@@ -93,9 +91,19 @@ const TEXTS: &[Row] = &[
         Question::AsOf(14),
         b"lsn 14\n0 100\n1 0\n",
     ),
-    (CUT, &[], Question::AsOf(9), b"lsn 9\n0 70\n1 30\n"),
-    (CUT, &[&BACK], Question::AsOf(13), b"lsn 13\n0 70\n1 30\n"),
-    (CUT, &[&BACK], Question::AsOf(14), b"lsn 14\n0 100\n1 0\n"),
+    (CUT_HEAD, &[], Question::AsOf(9), b"lsn 9\n0 70\n1 30\n"),
+    (
+        CUT_HEAD,
+        &[&BACK],
+        Question::AsOf(13),
+        b"lsn 13\n0 70\n1 30\n",
+    ),
+    (
+        CUT_HEAD,
+        &[&BACK],
+        Question::AsOf(14),
+        b"lsn 14\n0 100\n1 0\n",
+    ),
     (
         b"",
         &[&GENESIS, &THERE],
@@ -144,9 +152,9 @@ const TEXTS: &[Row] = &[
         Question::Statement(1),
         b"open 0\n9 1 2147483647 2147483647\nlsn 9\n",
     ),
-    (CUT, &[], Question::Statement(0), b"open 70\nlsn 9\n"),
+    (CUT_HEAD, &[], Question::Statement(0), b"open 70\nlsn 9\n"),
     (
-        CUT,
+        CUT_HEAD,
         &[&BACK],
         Question::Statement(1),
         b"open 30\n14 2 -30 0\nlsn 14\n",
@@ -156,7 +164,7 @@ const TEXTS: &[Row] = &[
 #[test]
 fn writes_texts(rt: HostRuntime) -> Result<(), Fail> {
     for (head, batches, question, text) in TEXTS {
-        let log = log_of(&rt, head, batches)?;
+        let log = file_of(&rt, head, batches)?;
         answers(&rt, log.as_slice(), *question, Detail::Fine, text)?;
     }
     Ok(())
@@ -165,7 +173,7 @@ fn writes_texts(rt: HostRuntime) -> Result<(), Fail> {
 #[test]
 fn sums_eight_legs_to_0(rt: HostRuntime) -> Result<(), Fail> {
     let legs = to_and_fro(rt.alloc())?;
-    let log = log_of(&rt, b"", &[&GENESIS, legs.as_slice()])?;
+    let log = file_of(&rt, b"", &[&GENESIS, legs.as_slice()])?;
     let text = b"open 100\n37 1 0 100\nlsn 37\n";
     answers(
         &rt,
@@ -182,15 +190,15 @@ const NO_BOUNDARIES: &[(&[u8], &[&[u64]], u32)] = &[
     (b"", &[&GENESIS, &THERE], 5),
     (b"", &[&GENESIS, &THERE], 10),
     (b"", &[&GENESIS, &THERE], 4294967295),
-    (CUT, &[&BACK], 0),
-    (CUT, &[&BACK], 8),
-    (CUT, &[&BACK], 15),
+    (CUT_HEAD, &[&BACK], 0),
+    (CUT_HEAD, &[&BACK], 8),
+    (CUT_HEAD, &[&BACK], 15),
 ];
 
 #[test]
 fn refuses_an_lsn_within_a_record(rt: HostRuntime) -> Result<(), Fail> {
     for (head, batches, lsn) in NO_BOUNDARIES {
-        let log = log_of(&rt, head, batches)?;
+        let log = file_of(&rt, head, batches)?;
         let detail = Detail::NoSuchLsn {
             lsn: Lsn::new(*lsn),
         };
@@ -201,7 +209,7 @@ fn refuses_an_lsn_within_a_record(rt: HostRuntime) -> Result<(), Fail> {
 
 #[test]
 fn refuses_an_account_that_is_not_there(rt: HostRuntime) -> Result<(), Fail> {
-    let log = log_of(&rt, b"", &[&GENESIS, &THERE, &BACK])?;
+    let log = file_of(&rt, b"", &[&GENESIS, &THERE, &BACK])?;
     for account in [2, 4095] {
         let detail = Detail::NoAccount { account };
         answers(
@@ -217,7 +225,7 @@ fn refuses_an_account_that_is_not_there(rt: HostRuntime) -> Result<(), Fail> {
 
 #[test]
 fn refuses_a_log_with_a_fault_above_the_lsn(rt: HostRuntime) -> Result<(), Fail> {
-    let log = log_of(&rt, b"", &[&GENESIS, &WRONG_PREDECESSOR])?;
+    let log = file_of(&rt, b"", &[&GENESIS, &WRONG_PREDECESSOR])?;
     let (lsn, why) = (Lsn::new(4), Why::Prev);
     for question in [
         Question::AsOf(2),
