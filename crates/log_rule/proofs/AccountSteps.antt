@@ -26,7 +26,7 @@ use Rattle.log_rule.specs.declared.view.View.{View}
 use Rattle.log_rule.specs.Accounts.{IsAsTaken, MayBeTaken, KeepsAccounts}
 use Rattle.log_rule.specs.Books.{IsNote, taking_job, taking, giving}
 use Rattle.log_rule.specs.Events.{Leads, IsStep, none}
-use Rattle.log_rule.specs.Layout.{Stop, Account}
+use Rattle.table_layout.specs.Layout.{Stop, Account}
 use Rattle.log_rule.specs.Log.{Log, ranges_of}
 use Rattle.log_rule.specs.May.{IsOwnWord, MayTakeJob, MayTake, MayGiveBack}
 use Rattle.log_rule.specs.Members.{AwaitsPlace}

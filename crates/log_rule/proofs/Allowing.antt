@@ -5,11 +5,11 @@ use Rattle.atomic_table.specs.Table.{Me, Allows}
 use Rattle.atomic_table.proofs.Lists.{set_here}
 use Rattle.lsn_space.specs.declared.lsn.TheConstants.{LAST}
 use Rattle.log_rule.specs.Events.{fills, flushes, look_event, looks_mark, marks, none, raises, reserves, places, Event, IsStep}
-use Rattle.log_rule.specs.declared.layout.TheConstants.{STRIDE, TAIL, EXPOSED, DURABLE, STOP, CREW, RING}
+use Rattle.table_layout.specs.declared.layout.TheConstants.{STRIDE, TAIL, EXPOSED, DURABLE, STOP, CREW, RING}
 use Rattle.log_rule.specs.declared.start.Start.{Start}
 use Rattle.log_rule.specs.declared.view.Role.TheVariants.{Flusher, Fresh}
 use Rattle.log_rule.specs.declared.view.View.{View}
-use Rattle.log_rule.specs.Layout.{Tail, Exposed, Durable, Stop, Crew, Ring, Mark, Account}
+use Rattle.table_layout.specs.Layout.{Tail, Exposed, Durable, Stop, Crew, Ring, Mark, Account}
 use Rattle.log_rule.specs.May.{IsOwnWord, MayLeave, MayReserve, MayPlaceGroup, MayExchangeTail, MayFill, MayMark, MayLookMark, MayRaise, MayRead, MaySend, MayStop, MayTakeJob, MayTake, MayGiveBack}
 use Rattle.slot_word.specs.declared.account_word.AccountWord.{AccountWord}
 use Rattle.slot_word.specs.AccountWord.{word_of}
@@ -36,7 +36,7 @@ use Rattle.log_rule.proofs.GroupMarking.{mark-step}
 use Rattle.log_rule.proofs.Raising.{raise-step, raise-tells_bounds}
 use Rattle.log_rule.proofs.Stopping.{stop_unchanged-step, stop-tells_read_stop, stop-step, saw_crew-step}
 use Rattle.log_rule.proofs.Reserving.{reserve_exchange-step}
-use Rattle.log_rule.proofs.WordPlaces.{Fits, shared_tail, shared_exposed, shared_durable, shared_stop, shared_crew, in_ring, in_marks, of_account}
+use Rattle.table_layout.proofs.WordPlaces.{Fits, shared_tail, shared_exposed, shared_durable, shared_stop, shared_crew, in_ring, in_marks, of_account}
 use Rattle.log_rule.proofs.ViewChanges.{get_elem-below_length}
 use Rattle.log_rule.proofs.AccountSteps.{FitsWord, job-step, saw_account-step, account-tells_own_word, after_account-step, give-step}
 

@@ -13,7 +13,7 @@ use Rattle.log_rule.specs.declared.view.Role.{Role}
 use Rattle.log_rule.specs.declared.view.Role.TheVariants.{Flusher, Fresh, Active, Ended, Note, Spent}
 use Rattle.log_rule.specs.declared.view.View.{View}
 use Rattle.log_rule.specs.Events.{Leads, IsStep, none}
-use Rattle.log_rule.specs.Layout.{Crew}
+use Rattle.table_layout.specs.Layout.{Crew}
 use Rattle.log_rule.specs.Log.{Log}
 use Rattle.log_rule.specs.May.{MayLeave}
 use Rattle.log_rule.specs.Sound.{EachView, StoresStop, HasReadStop, HasSoundRole, HasSoundRoles, HasSoundCrew, IsSound, Knows, Lacks, is_active_view}

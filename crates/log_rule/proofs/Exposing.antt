@@ -24,7 +24,7 @@ use Rattle.log_rule.specs.declared.view.View.{View}
 use Rattle.log_rule.specs.Events.{Event, task_in, hands_of, slots_of, Leads, IsStep, look_event, looks_mark, raises, none}
 use Rattle.log_rule.specs.Groups.{Group}
 use Rattle.log_rule.specs.GroupViews.{slot_after, call_after}
-use Rattle.log_rule.specs.Layout.{Exposed, Mark}
+use Rattle.table_layout.specs.Layout.{Exposed, Mark}
 use Rattle.log_rule.specs.Log.{Log, ranges_of}
 use Rattle.log_rule.specs.Marks.{IsFirstReleased, FirstEnds, Carries, IsPassed, HasTrueEnds}
 use Rattle.log_rule.specs.MarkViews.{in_hand, next_raise, call_with_mark, seen_mark, saw_mark}

@@ -21,7 +21,7 @@ use Rattle.log_rule.specs.declared.view.Entry.{Entry}
 use Rattle.log_rule.specs.declared.view.Seen.{Seen}
 use Rattle.log_rule.specs.declared.view.View.{View}
 use Rattle.log_rule.specs.Events.{reservation_of, task_in, hands_of, slots_of, Leads, IsStep, fills}
-use Rattle.log_rule.specs.Layout.{Ring}
+use Rattle.table_layout.specs.Layout.{Ring}
 use Rattle.log_rule.specs.Log.{Part, LogRange, Claim, Log, Tiles, ranges_of, own, owes, claim_of, part_of, parts_of, unreleased_in, inside, filled_inside, filled_in, is_released, SpellsRecord, records_in, StandsInRing, IsFullIfReleased, IsReleasedBelow, CountsRemaining, AgreesFrom, EndsWithPart, Laid}
 use Rattle.log_rule.specs.Marks.{Carries, HasTrueEnds}
 use Rattle.log_rule.specs.May.{MayFillRun}

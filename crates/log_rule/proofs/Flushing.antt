@@ -12,7 +12,7 @@ use Rattle.log_rule.specs.declared.view.Constants.{Constants}
 use Rattle.log_rule.specs.declared.view.Role.TheVariants.{Flusher}
 use Rattle.log_rule.specs.declared.view.View.{View}
 use Rattle.log_rule.specs.Events.{reservation_of, slots_of, IsStep, Leads, flushes}
-use Rattle.log_rule.specs.Layout.{Durable}
+use Rattle.table_layout.specs.Layout.{Durable}
 use Rattle.log_rule.specs.Log.{Part, LogRange, Log, ranges_of, StandsInRing, AgreesFrom, EndsWithPart, IsReleased, IsRangeBoundary}
 use Rattle.log_rule.specs.Marks.{HasTrueMark, HasTrueEnds}
 use Rattle.log_rule.specs.May.{MaySend}

@@ -10,7 +10,7 @@ use Rattle.lsn_space.specs.Tiling.{IsTiling, IsTilingBoundary}
 use Rattle.lsn_space.specs.declared.lsn.TheConstants.{LAST}
 use Rattle.lsn_space.proofs.TilingLemmas.{all-weaken, all-both}
 use Rattle.lsn_space.specs.Lists.{summed}
-use Rattle.log_rule.specs.declared.layout.TheConstants.{TAIL, EXPOSED}
+use Rattle.table_layout.specs.declared.layout.TheConstants.{TAIL, EXPOSED}
 use Rattle.log_rule.specs.declared.start.Start.{Start}
 use Rattle.log_rule.specs.declared.view.Call.TheVariants.{Idle}
 use Rattle.log_rule.specs.declared.view.Constants.{Constants}
@@ -28,8 +28,10 @@ use Rattle.lock_core.specs.Sums.{BaseState, IsBalanceOf, last_commit_of, total}
 use Rattle.log_rule.specs.declared.view.Books.{Books}
 use Rattle.log_rule.specs.Accounts.{holders, takers, HasDistinctJobs, WentBack, AccountsFollowList}
 use Rattle.log_rule.specs.Books.{task_of, times_held, times_taken}
-use Rattle.log_rule.specs.ClosedLog.{HasHeardOfWorkers, IsGathered, IsLedger, HasLedger, ReadsRows, records_of, history_of, in_use}
-use Rattle.log_rule.specs.Layout.{Account, Slot, index_of}
+use Rattle.table_layout.specs.AccountWords.{ReadsRows}
+use Rattle.table_layout.proofs.Rows.{get_elem-get_or}
+use Rattle.log_rule.specs.ClosedLog.{HasHeardOfWorkers, IsGathered, IsLedger, HasLedger, records_of, history_of, in_use}
+use Rattle.table_layout.specs.Layout.{Account, Slot, index_of}
 use Rattle.log_rule.proofs.GatheredSeats.{all_jobs-partly_serial}
 use Rattle.log_rule.specs.Log.{Part, Log, own, part_of, parts_of, IsSpelled, ranges_of, Laid, IsFull, IsFullIfReleased, AgreesFrom, IsRangeBoundary, IsEntryBoundary, SpellsRecord, records_in}
 use Rattle.log_rule.specs.Sends.{IsDrained}
@@ -300,11 +302,6 @@ pub record IsClosed (key : Start) (ws : List ℕ) (tail exposed : ℕ) (v : View
   pub accounts : (old rows : List (ℕ × ℕ)) → length old ≡ length key.accounts.rows → ReadsRows key.ring key.slots (length old) ws old rows → HasLedger (base_of key) v rows
   pub heard : HasHeardOfWorkers v
   pub empty : in_use key.ring key.slots ws ≡ 0
-
-pub get_elem-get_or : (l : List ℕ) (i a : ℕ) → get_elem? l i ≡ some a → get_or l i 0 ≡ a
-get_elem-get_or [] i a e = absurd (some-ne-none a (sym e))
-get_elem-get_or (x ∷ xs) zero a e = some-injective x a e
-get_elem-get_or (x ∷ xs) (suc i) a e = get_elem-get_or xs i a e
 
 pub may_close-closed : (key : Start) (me : ℕ) (v : View) (ws : List ℕ) (xs : List (Unit {0})) (tail exposed : ℕ) → Final (Seen (Ruled key) me v) ws xs
     → MayClose v → get_elem? ws TAIL ≡ some tail → get_elem? ws EXPOSED ≡ some exposed → IsClosed key ws tail exposed v

@@ -21,7 +21,7 @@ use Rattle.log_rule.specs.declared.view.Role.TheVariants.{Active}
 use Rattle.log_rule.specs.declared.view.View.{View}
 use Rattle.log_rule.specs.Events.{reservation_of, task_in, slots_of, Leads, IsStep, marks}
 use Rattle.log_rule.specs.GroupViews.{follow_up}
-use Rattle.log_rule.specs.Layout.{Mark}
+use Rattle.table_layout.specs.Layout.{Mark}
 use Rattle.log_rule.specs.Log.{Part, Owed, Released, LogRange, Claim, Log, ranges_of, owed, owes, is_owed_by, claim_of, parts_of, unreleased_in, filled_in, is_released, IsFull, IsFullIfReleased, IsReleased, IsAtWork, CountsRemaining, Tiles, Laid, EndsWithPart, IsRangeBoundary}
 use Rattle.log_rule.specs.Marks.{FirstEnds, IsCurrentMark, HasReleaseMarks, HasTrueMark, HasTrueEnds}
 use Rattle.log_rule.specs.MarkViews.{marked}

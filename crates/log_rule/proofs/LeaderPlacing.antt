@@ -32,7 +32,7 @@ use Rattle.log_rule.specs.Books.{placing}
 use Rattle.log_rule.specs.Events.{task_in, group_shown, reservation_of, slots_of, Leads, IsStep, none, places}
 use Rattle.log_rule.specs.Groups.{Granted, Closed, Placed, Piece, Member, Group, put_group}
 use Rattle.log_rule.specs.GroupViews.{member_books}
-use Rattle.log_rule.specs.Layout.{Tail}
+use Rattle.table_layout.specs.Layout.{Tail}
 use Rattle.log_rule.specs.Log.{Part, Shared, LogRange, Log, ranges_of, own, owed, is_by, whole, owes, claim_of, parts_of, Laid, SpellsRecord, records_in, IsAtWork}
 use Rattle.log_rule.specs.Marks.{Carries}
 use Rattle.log_rule.specs.May.{MayPlaceGroup}

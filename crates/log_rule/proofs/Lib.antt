@@ -48,7 +48,6 @@ mod Renaming
 pub mod Reserving
 mod Resting
 mod Roles
-mod Rows
 pub mod SentRecords
 mod Sharing
 pub mod SlotAllowing

@@ -5,12 +5,13 @@ use lib.ListN.{get_elem?}
 use Rattle.atomic_table.specs.Table.{Me, keeps, Allows}
 use Rattle.log_rule.specs.declared.start.Start.{Start}
 use Rattle.log_rule.specs.declared.view.View.{View}
-use Rattle.log_rule.specs.Layout.{Word, index_of}
+use Rattle.table_layout.specs.Layout.{Word, index_of}
 use Rattle.log_rule.specs.Log.{Log}
 use Rattle.log_rule.specs.Sound.{IsSound, Ruled}
 use Rattle.log_rule.specs.Words.{Words, words_in, word_at, with_word}
 use Rattle.log_rule.specs.Events.{IsStep, Leads, Event}
-use Rattle.log_rule.proofs.WordPlaces.{Fits, words_of-set, get_or-word_at}
+use Rattle.table_layout.proofs.WordPlaces.{Fits}
+use Rattle.log_rule.proofs.WordPlaces.{words_of-set, get_or-word_at}
 
 -- what the rule tells of the word, whenever the seat has this view
 abbrev pub Tells : Start → ℕ → Word → View → (ℕ → Type 0) → Type 0

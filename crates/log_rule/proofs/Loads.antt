@@ -11,7 +11,7 @@ use Rattle.log_rule.specs.declared.view.Seen.{Seen}
 use Rattle.log_rule.specs.declared.view.Sending.{Sending}
 use Rattle.log_rule.specs.declared.view.View.{View}
 use Rattle.log_rule.specs.Events.{Leads, IsStep, none}
-use Rattle.log_rule.specs.Layout.{Tail, Exposed, Durable, Stop}
+use Rattle.table_layout.specs.Layout.{Tail, Exposed, Durable, Stop}
 use Rattle.log_rule.specs.Log.{Log, ranges_of, IsRangeBoundary, Tiles}
 use Rattle.log_rule.specs.Sends.{IsExposedToFlusher, IsDurableToFlusher}
 use Rattle.log_rule.specs.Sound.{EachView, HasSeenBoundaries, HasContiguousReservations, SendsIfFlusher, StoresStop, HasReadStop, RestsIfQuiet, LookedIfQuiet, IsSound}

@@ -21,7 +21,7 @@ use Rattle.log_rule.specs.declared.view.Role.{Role}
 use Rattle.log_rule.specs.declared.view.Role.TheVariants.{Flusher, Fresh, Active, Ended, Note, Spent}
 use Rattle.log_rule.specs.declared.view.View.{View}
 use Rattle.log_rule.specs.Events.{reservation_of, hands_of, slots_of, Leads, IsStep, marks}
-use Rattle.log_rule.specs.Layout.{Mark}
+use Rattle.table_layout.specs.Layout.{Mark}
 use Rattle.log_rule.specs.Log.{Part, Owed, Released, LogRange, Claim, Log, ranges_of, own, owed, owes, is_owed_by, claim_of, part_of, parts_of, unreleased_in, inside, filled_in, is_released, IsFull, SpellsRecord, records_in, StandsInRing, IsFullIfReleased, IsReleasedBelow, IsReleased, IsAtWork, CountsRemaining, Tiles, Laid, AgreesFrom, EndsWithPart, IsRangeBoundary}
 use Rattle.log_rule.specs.Marks.{HasReleaseMarks, HasTrueMark, HasTrueEnds}
 use Rattle.log_rule.specs.GroupViews.{follow_up}

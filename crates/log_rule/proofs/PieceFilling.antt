@@ -16,7 +16,7 @@ use Rattle.log_rule.specs.declared.view.View.{View}
 use Rattle.log_rule.specs.Events.{reservation_of, task_in, hands_of, slots_of, Leads, IsStep, fills}
 use Rattle.log_rule.specs.Groups.{Granted, GroupPhase, Piece, Group}
 use Rattle.log_rule.specs.GroupViews.{placed_piece}
-use Rattle.log_rule.specs.Layout.{Ring}
+use Rattle.table_layout.specs.Layout.{Ring}
 use Rattle.log_rule.specs.Log.{Log, ranges_of}
 use Rattle.log_rule.specs.May.{MayFill, MayFillRun, MayFillPiece}
 use Rattle.log_rule.specs.Slots.{IsToldOf, KnowsGroup}

@@ -22,7 +22,7 @@ use Rattle.log_rule.specs.declared.view.Role.TheVariants.{Flusher}
 use Rattle.log_rule.specs.declared.view.View.{View}
 use Rattle.log_rule.specs.Events.{reservation_of, task_in, hands_of, slots_of, Leads, IsStep, raises}
 use Rattle.log_rule.specs.GroupViews.{slot_after}
-use Rattle.log_rule.specs.Layout.{Exposed}
+use Rattle.table_layout.specs.Layout.{Exposed}
 use Rattle.log_rule.specs.Log.{Part, LogRange, Log, ranges_of, owed, is_owed_by, claim_of, parts_of, unreleased_in, IsReleased, IsAtWork, IsReleasedBelow, CountsRemaining, EndsWithPart, IsRangeBoundary, Tiles}
 use Rattle.log_rule.specs.Marks.{IsReady, IsCurrentMark, HasTrueMark, IsFirstReleased, FirstEnds, HasTrueEnds}
 use Rattle.log_rule.specs.MarkViews.{call_with_exposed, after_raise}

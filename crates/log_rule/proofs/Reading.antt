@@ -8,7 +8,7 @@ use Rattle.log_rule.specs.declared.start.Start.{Start}
 use Rattle.log_rule.specs.declared.view.Constants.{Constants}
 use Rattle.log_rule.specs.declared.view.View.{View}
 use Rattle.log_rule.specs.Events.{IsStep, Leads, none}
-use Rattle.log_rule.specs.Layout.{Ring}
+use Rattle.table_layout.specs.Layout.{Ring}
 use Rattle.log_rule.specs.Log.{Part, Log, AgreesFrom, StandsInRing, IsFull, IsFullIfReleased, IsReleasedBelow}
 use Rattle.log_rule.specs.May.{MayRead}
 use Rattle.log_rule.specs.Sends.{AreEntries, ReadsWholeEntries}

@@ -14,7 +14,7 @@ use Rattle.log_rule.specs.declared.view.Entry.{Entry}
 use Rattle.log_rule.specs.declared.view.View.{View}
 use Rattle.slot_core.specs.State.{SlotState}
 use Rattle.log_rule.specs.Events.{reservation_of, task_in, slots_of, Leads, IsStep, none, reserves}
-use Rattle.log_rule.specs.Layout.{Tail}
+use Rattle.table_layout.specs.Layout.{Tail}
 use Rattle.log_rule.specs.Log.{Part, Owed, LogRange, Log, ranges_of, part_of, parts_of, SpellsRecord, records_in, IsAtWork}
 use Rattle.log_rule.specs.Marks.{Carries}
 use Rattle.log_rule.specs.May.{MayReserve}

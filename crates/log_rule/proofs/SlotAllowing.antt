@@ -7,10 +7,10 @@ use Rattle.slot_word.specs.declared.slot_word.SlotWord.{SlotWord}
 use Rattle.slot_word.specs.SlotWord.{packed, word_of, total_in, IsSlotWord}
 use Rattle.slot_word.proofs.SlotWordLemmas.{total_back}
 use Rattle.log_rule.specs.Events.{closes, hears, none, refuses, reopens, stores_base, tells}
-use Rattle.log_rule.specs.declared.layout.TheConstants.{STRIDE, RING}
+use Rattle.table_layout.specs.declared.layout.TheConstants.{STRIDE, RING}
 use Rattle.log_rule.specs.declared.start.Start.{Start}
 use Rattle.log_rule.specs.declared.view.View.{View}
-use Rattle.log_rule.specs.Layout.{Slot, Base}
+use Rattle.table_layout.specs.Layout.{Slot, Base}
 use Rattle.log_rule.specs.May.{MayJoinSlot, MayCloseSlot, MayStoreBase, MayStoreGranted, MayStoreRefused, MayPublish, MayLoadBase, MayReopen}
 use Rattle.log_rule.specs.SlotViews.{own_slot_of, saw_slot, after_join, closed_slot, stored_base, published, heard_base, reopened, IsGatheringWord, TellsMember, TellsWaiting}
 use Rattle.log_rule.specs.Sound.{Ruled}
@@ -23,7 +23,7 @@ use Rattle.log_rule.proofs.SlotReopening.{reopen-step}
 use Rattle.log_rule.proofs.SlotStoring.{granted-step, refused-step}
 use Rattle.log_rule.proofs.SlotTelling.{publish-step}
 use Rattle.log_rule.proofs.ToldWaiting.{slot-tells_waiting}
-use Rattle.log_rule.proofs.WordPlaces.{Fits, of_slot, of_base}
+use Rattle.table_layout.proofs.WordPlaces.{Fits, of_slot, of_base}
 
 module _ (key : Start) (slots seat : ℕ) (me : Me (Unit {0}) View) where
   module _ (place ring number slot picked : ℕ) (at : place ≡ RING + ring + ring + STRIDE * slot) (same : key.ring ≡ ring)

@@ -15,7 +15,7 @@ use Rattle.log_rule.specs.declared.view.Role.TheVariants.{Active}
 use Rattle.log_rule.specs.declared.view.View.{View}
 use Rattle.log_rule.specs.Events.{Leads, IsStep, closes}
 use Rattle.log_rule.specs.Groups.{GroupPhase, Vacant, Gathering, Closed, Placed, Ready, Told, Emptied, Piece}
-use Rattle.log_rule.specs.Layout.{Slot}
+use Rattle.table_layout.specs.Layout.{Slot}
 use Rattle.log_rule.specs.Log.{Log, ranges_of}
 use Rattle.log_rule.specs.May.{MayCloseSlot}
 use Rattle.log_rule.specs.Members.{LoadedSince, AwaitsPlace}

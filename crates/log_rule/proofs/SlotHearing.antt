@@ -21,7 +21,7 @@ use Rattle.log_rule.specs.Books.{placing}
 use Rattle.log_rule.specs.Events.{task_in, hands_of, slots_of, Leads, IsStep, hears}
 use Rattle.log_rule.specs.Groups.{Outcome, Granted, Refused, GroupPhase, Told, Piece, Member, Group, put_group}
 use Rattle.log_rule.specs.GroupViews.{unheard_entry, member_entry, unheard_books, member_books, stage_of}
-use Rattle.log_rule.specs.Layout.{Base}
+use Rattle.table_layout.specs.Layout.{Base}
 use Rattle.log_rule.specs.Log.{Log, ranges_of, IsRangeBoundary}
 use Rattle.log_rule.specs.May.{MayLoadBase}
 use Rattle.log_rule.specs.Members.{HadSeenUnder, HasOutcome, HasPhaseOutcome, LoadsAtStep, SawLast, AwaitsAtStep, IsTotalOf, HasTotalAtPhase, HeardOfWorkers}

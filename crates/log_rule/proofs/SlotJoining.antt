@@ -27,7 +27,7 @@ use Rattle.log_rule.specs.Books.{next_of}
 use Rattle.log_rule.specs.Events.{Event, task_in, member_shown, group_shown, slots_of, Leads, IsStep, joins, none}
 use Rattle.log_rule.specs.Groups.{Outcome, Granted, Refused, GroupPhase, Vacant, Gathering, Closed, Placed, Ready, Told, Emptied, Piece, Member, Group, put_group}
 use Rattle.log_rule.specs.GroupViews.{stage_of, member_entry, member_books}
-use Rattle.log_rule.specs.Layout.{Slot}
+use Rattle.table_layout.specs.Layout.{Slot}
 use Rattle.log_rule.specs.Log.{LogRange, Log, ranges_of}
 use Rattle.log_rule.specs.Marks.{Carries}
 use Rattle.log_rule.specs.May.{MayJoinSlot}

@@ -14,7 +14,7 @@ use Rattle.log_rule.specs.declared.view.View.{View}
 use Rattle.log_rule.specs.Events.{task_in, slots_of, Leads, IsStep, none}
 use Rattle.log_rule.specs.Groups.{Piece, Group}
 use Rattle.log_rule.specs.GroupViews.{stage_of}
-use Rattle.log_rule.specs.Layout.{Slot}
+use Rattle.table_layout.specs.Layout.{Slot}
 use Rattle.log_rule.specs.Log.{Log}
 use Rattle.log_rule.specs.Marks.{Carries, HasTrueEnds}
 use Rattle.log_rule.specs.Members.{LoadsForGroup, AwaitsPlace}

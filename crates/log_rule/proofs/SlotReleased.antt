@@ -8,7 +8,7 @@ use Rattle.atomic_table.specs.Table.{Me, Allows}
 use Rattle.slot_word.specs.declared.phase.Phase.TheVariants as kind
 use Rattle.slot_word.specs.SlotWord.{total_in, remaining_in, phase_in, subtracted}
 use Rattle.slot_word.proofs.SlotWordLemmas.{phase_back}
-use Rattle.log_rule.specs.declared.layout.TheConstants.{STRIDE, RING}
+use Rattle.table_layout.specs.declared.layout.TheConstants.{STRIDE, RING}
 use Rattle.log_rule.specs.declared.group_view.MemberStep.{MemberStep}
 use Rattle.log_rule.specs.declared.group_view.MemberStep.TheVariants.{Fills, Leaves}
 use Rattle.log_rule.specs.declared.start.Start.{Start}
@@ -20,7 +20,7 @@ use Rattle.log_rule.specs.declared.view.View.{View}
 use Rattle.log_rule.specs.Events.{Leads, IsStep, releases}
 use Rattle.log_rule.specs.GroupViews.{placed_piece}
 use Rattle.log_rule.specs.Groups.{Outcome, Granted, Refused, Piece, Told, Emptied}
-use Rattle.log_rule.specs.Layout.{Slot}
+use Rattle.table_layout.specs.Layout.{Slot}
 use Rattle.log_rule.specs.Log.{Log, Shared, Owed}
 use Rattle.log_rule.specs.May.{MayReleaseSlot, MayReleaseFilled, MayReleaseRefused}
 use Rattle.log_rule.specs.Roles.{is_spent}

@@ -10,7 +10,7 @@ use Rattle.log_rule.specs.declared.view.Role.TheVariants.{Active}
 use Rattle.log_rule.specs.declared.view.View.{View}
 use Rattle.log_rule.specs.Events.{task_in, hands_of, slots_of, Leads, IsStep, reopens}
 use Rattle.log_rule.specs.Groups.{Emptied, empty_group, put_group}
-use Rattle.log_rule.specs.Layout.{Slot}
+use Rattle.table_layout.specs.Layout.{Slot}
 use Rattle.log_rule.specs.Log.{Log, ranges_of}
 use Rattle.log_rule.specs.Marks.{Carries}
 use Rattle.log_rule.specs.May.{MayReopen}

@@ -21,7 +21,7 @@ use Rattle.log_rule.specs.declared.view.Role.TheVariants.{Active}
 use Rattle.log_rule.specs.declared.view.View.{View}
 use Rattle.log_rule.specs.Events.{task_in, group_shown, slots_of, Leads, IsStep, stores_base, refuses}
 use Rattle.log_rule.specs.Groups.{Outcome, Granted, Refused, Piece, Member, Group, Closed, Placed, Ready, put_group}
-use Rattle.log_rule.specs.Layout.{Base}
+use Rattle.table_layout.specs.Layout.{Base}
 use Rattle.log_rule.specs.Log.{Log, ranges_of, IsRangeBoundary}
 use Rattle.log_rule.specs.May.{MayStoreGranted, MayStoreRefused}
 use Rattle.log_rule.specs.Members.{HadSeenUpTo, LacksRoom, HasOutcome, HasPhaseOutcome, LoadedSince, LoadsForGroup, AwaitsPlace}

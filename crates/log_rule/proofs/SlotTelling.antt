@@ -12,7 +12,7 @@ use Rattle.log_rule.specs.declared.view.Call.TheVariants.{Joined}
 use Rattle.log_rule.specs.declared.view.View.{View}
 use Rattle.log_rule.specs.Events.{Leads, IsStep, tells}
 use Rattle.log_rule.specs.Groups.{Outcome, Piece, Ready, Told}
-use Rattle.log_rule.specs.Layout.{Slot}
+use Rattle.table_layout.specs.Layout.{Slot}
 use Rattle.log_rule.specs.Log.{Log, ranges_of}
 use Rattle.log_rule.specs.May.{MayPublish}
 use Rattle.log_rule.specs.Members.{HasPhaseOutcome, AwaitsPlace}

@@ -4,7 +4,7 @@ use Rattle.std.proofs.lemmas.List.{length-replicate, get_or-replicate}
 use mathlib.Core.Option.{some-injective, some-ne-none}
 use Rattle.atomic_table.specs.Table.{opening}
 use Rattle.lsn_space.specs.declared.lsn.TheConstants.{LAST, LEAST_RING, GREATEST_RING}
-use Rattle.log_rule.specs.declared.layout.TheConstants.{STRIDE, TAIL, EXPOSED, DURABLE, STOP, CREW, RING}
+use Rattle.table_layout.specs.declared.layout.TheConstants.{STRIDE, TAIL, EXPOSED, DURABLE, STOP, CREW, RING}
 use Rattle.log_rule.specs.declared.start.Start.{Start}
 use Rattle.log_rule.specs.declared.view.View.{View}
 use Rattle.log_rule.specs.Groups.{empty_group}
@@ -20,8 +20,9 @@ use Rattle.log_record.specs.Spelling.{IsBalance}
 use Rattle.lock_core.specs.AccountRows.{row}
 use Rattle.log_rule.specs.Accounts.{KeepsAccounts}
 use Rattle.log_rule.specs.Books.{no_books}
-use Rattle.log_rule.specs.Layout.{Mark, Slot, Account, index_of, word_count}
-use Rattle.log_rule.specs.FirstAccounts.{HasAccounts, PutsAccounts}
+use Rattle.table_layout.specs.Layout.{Mark, Slot, Account, index_of, word_count}
+use Rattle.table_layout.specs.AccountWords.{PutsAccounts}
+use Rattle.log_rule.specs.FirstAccounts.{HasAccounts}
 use Rattle.log_rule.proofs.GatheredSeats.{start-keeps_accounts}
 use Rattle.log_rule.proofs.Lists.{among-first}
 
@@ -119,7 +120,7 @@ abbrev pub shared_words : List ℕ → ℕ → List ℕ
 shared_words zeros n = set (set (set zeros TAIL n) EXPOSED n) DURABLE n
 
 pub start-allowed : (key : Start) (ws zeros : List ℕ) → LEAST_RING ≤ key.ring → key.ring ≤ GREATEST_RING → key.start ≤ LAST → HasAccounts key
-    → zeros ≡ replicate (word_count key.ring key.slots (length key.accounts.rows)) 0 → PutsAccounts key (length key.accounts.rows) (shared_words zeros key.start) ws
+    → zeros ≡ replicate (word_count key.ring key.slots (length key.accounts.rows)) 0 → PutsAccounts key.ring key.slots key.accounts.rows (length key.accounts.rows) (shared_words zeros key.start) ws
     → Ruled key (opening ws [] (flusher key))
 start-allowed key ws zeros least most small has zero-is puts = (
   puts.count ∙ length-c,

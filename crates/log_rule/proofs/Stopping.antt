@@ -10,7 +10,7 @@ use Rattle.log_rule.specs.declared.view.Role.{Role}
 use Rattle.log_rule.specs.declared.view.Role.TheVariants.{Flusher, Fresh, Active, Ended, Note, Spent}
 use Rattle.log_rule.specs.declared.view.View.{View}
 use Rattle.log_rule.specs.Events.{IsStep, Leads, none}
-use Rattle.log_rule.specs.Layout.{Stop, Crew}
+use Rattle.table_layout.specs.Layout.{Stop, Crew}
 use Rattle.log_rule.specs.Log.{Log}
 use Rattle.log_rule.specs.May.{MayStop}
 use Rattle.log_rule.specs.Sound.{EachView, StoresStop, HasReadStop, IsSound, Knows, is_active_view}

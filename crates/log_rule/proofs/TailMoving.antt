@@ -18,7 +18,7 @@ use Rattle.log_rule.specs.declared.view.View.{View}
 use Rattle.log_rule.specs.Accounts.{KeepsAccounts}
 use Rattle.log_rule.specs.Events.{Event, IsStep, reservation_of, none}
 use Rattle.log_rule.specs.Groups.{Group}
-use Rattle.log_rule.specs.Layout.{Tail}
+use Rattle.table_layout.specs.Layout.{Tail}
 use Rattle.log_rule.specs.Log.{Part, Duty, Released, LogRange, Log, ranges_of, unreleased_in, filled_in, Laid, SpellsRecord, StandsInRing, IsFullIfReleased, IsReleasedBelow, IsAtWork, CountsRemaining, AgreesFrom, EndsWithPart, IsRangeBoundary, is_released}
 use Rattle.log_rule.specs.Marks.{HasTrueMark, Carries, HasTrueEnds}
 use Rattle.log_rule.specs.Members.{HasSeenInGroup, LoadsForGroup, AwaitsPlace, HasTotalOfWorkers, HasSeenLast}

@@ -9,7 +9,7 @@ use Rattle.log_rule.specs.declared.view.Call.TheVariants.{Joined}
 use Rattle.log_rule.specs.declared.view.Constants.{Constants}
 use Rattle.log_rule.specs.declared.view.View.{View}
 use Rattle.log_rule.specs.Groups.{Outcome, Piece}
-use Rattle.log_rule.specs.Layout.{Slot}
+use Rattle.table_layout.specs.Layout.{Slot}
 use Rattle.log_rule.specs.Log.{Log}
 use Rattle.log_rule.specs.Roles.{is_spent}
 use Rattle.log_rule.specs.Slots.{IsToldAs}

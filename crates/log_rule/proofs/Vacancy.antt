@@ -6,7 +6,7 @@ use Rattle.log_rule.specs.declared.start.Start.{Start}
 use Rattle.log_rule.specs.declared.view.Call.TheVariants.{Idle}
 use Rattle.log_rule.specs.declared.view.View.{View}
 use Rattle.log_rule.specs.Groups.{GroupPhase, Vacant, Gathering, Closed, Placed, Ready, Told, Emptied, Member}
-use Rattle.log_rule.specs.Layout.{Slot, index_of}
+use Rattle.table_layout.specs.Layout.{Slot, index_of}
 use Rattle.log_rule.specs.Log.{Log}
 use Rattle.log_rule.specs.Slots.{known_phase, led_phase, pieces_at, phase_at, sum_of, IsVacant, IsAtPhase}
 use Rattle.log_rule.specs.Sound.{IsSound}

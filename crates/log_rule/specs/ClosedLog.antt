@@ -1,22 +1,21 @@
 -- What the list of entries is once all seats are gathered.
-use Rattle.std.specs.Prelude.{◌≡◌, ℕ, zero, suc, ◌+◌, ◌<◌, ◌≤◌, min, List, [], ◌∷◌, ◌++◌, map, length, slice_index}
+use Rattle.std.specs.Prelude.{◌≡◌, ℕ, zero, suc, ◌+◌, ◌≤◌, min, List, [], ◌∷◌, ◌++◌, map, length, slice_index}
 use Rattle.std.specs.List.{AllByRecursion}
 use Rattle.lsn_space.specs.Tiling.{IsTiling}
 use Rattle.log_rule.specs.declared.view.Entry.{Entry}
 use Rattle.log_rule.specs.declared.view.View.{View}
 use Rattle.log_rule.specs.Log.{IsFull, IsSpelled, IsEntryBoundary, units_in}
 use Rattle.log_rule.specs.Sends.{IsDrained}
-use Rattle.slot_word.specs.AccountWord.{balance_in, last_commit_in}
 use Rattle.log_record.specs.declared.rec.Rec.{Rec}
 use Rattle.log_record.specs.declared.rec.Placed.{Placed}
 use Rattle.lock_core.specs.History.{history_from}
 use Rattle.lock_core.specs.Lawful.{IsLawful}
 use Rattle.lock_core.specs.Serial.{NumberedTransfer, IsPartlySerialAfter}
-use Rattle.lock_core.specs.AccountRows.{row, KeepsRows}
+use Rattle.lock_core.specs.AccountRows.{KeepsRows}
 use Rattle.lock_core.specs.Sums.{BaseState, as_opening}
 use Rattle.log_rule.specs.Accounts.{WentBack}
 use Rattle.log_rule.specs.Books.{task_of, times_taken}
-use Rattle.log_rule.specs.Layout.{Account, Slot, index_of}
+use Rattle.table_layout.specs.Layout.{Slot, index_of}
 use Rattle.log_rule.specs.Members.{IsRefusalOf}
 
 -- The entries are the whole log from the start to this LSN, without gap or overlap, and each is filled. Each LSN that a seat saw lies
@@ -60,12 +59,6 @@ pub record HasLedger (base : BaseState) (view : View) (rows : List (ℕ × ℕ))
 -- for each further worker that was made; so where one worker was made, it is exactly these units.
 abbrev pub HasHeardOfWorkers : View → Type 0
 HasHeardOfWorkers view = AllByRecursion (IsRefusalOf (length view.standing.made)) view.seen.refusals
-
--- the rows of the first n accounts have the balances and the last commits of their words, in a table with such a ring and so many slots
-pub record ReadsRows (ring slots n : ℕ) (words : List ℕ) (old new : List (ℕ × ℕ)) : Type 0 where
-  pub count : length new ≡ length old
-  pub each : (account : ℕ) → account < n
-      → row new account ≡ (balance_in (slice_index words (index_of ring slots (Account account))), last_commit_in (slice_index words (index_of ring slots (Account account))))
 
 -- how many of the first n slots have a state that is not 0, by the words of a table whose ring has that length
 abbrev pub in_use : ℕ → ℕ → List ℕ → ℕ

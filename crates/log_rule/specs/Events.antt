@@ -14,7 +14,7 @@ use Rattle.log_rule.specs.declared.view.Call.TheVariants as call
 use Rattle.log_rule.specs.declared.view.View.{View}
 use Rattle.log_rule.specs.Groups.{Member, Group}
 use Rattle.log_rule.specs.GroupViews.{stage_of, slot_after}
-use Rattle.log_rule.specs.Layout.{Word}
+use Rattle.table_layout.specs.Layout.{Word}
 use Rattle.log_rule.specs.Log.{Part, LogRange, Log, ranges_of, filled_in, is_released}
 use Rattle.log_rule.specs.Sound.{IsSound}
 use Rattle.log_rule.specs.Words.{Words, word_at, with_word}

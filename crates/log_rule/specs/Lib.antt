@@ -7,7 +7,6 @@ pub mod Events
 pub mod FirstAccounts
 pub mod GroupViews
 pub mod Groups
-pub mod Layout
 pub mod Log
 pub mod MarkViews
 pub mod Marks

@@ -19,7 +19,7 @@ use Rattle.lock_core.specs.Sums.{BaseState}
 use Rattle.log_rule.specs.declared.view.Books.{Books}
 use Rattle.log_rule.specs.Accounts.{KeepsAccounts}
 use Rattle.log_rule.specs.Groups.{Group}
-use Rattle.log_rule.specs.Layout.{word_count}
+use Rattle.table_layout.specs.Layout.{word_count}
 use Rattle.log_rule.specs.Log.{Part, LogRange, Log, ranges_of, own, parts_of, owed, Tiles, Laid, SpellsRecord, records_in, StandsInRing, AgreesFrom, IsRangeBoundary, EndsWithPart, IsFullIfReleased, IsReleasedBelow, IsReleased, IsAtWork, CountsRemaining}
 use Rattle.log_rule.specs.Marks.{HasReleaseMarks, IsCarried, HasTrueEnds}
 use Rattle.log_rule.specs.Members.{HasSeenInGroup, LoadsForGroup, AwaitsPlace, HasTotalOfWorkers, HeardOfWorkers, HasSeenLast}

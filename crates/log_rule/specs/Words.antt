@@ -1,7 +1,7 @@
 -- What the words hold.
 use Rattle.std.specs.Prelude.{◌==◌, ℕ, if◌then◌else◌, nat_lt, List, length, slice_index}
 use Rattle.log_rule.specs.declared.start.Start.{Start}
-use Rattle.log_rule.specs.Layout.{Word, Tail, Exposed, Durable, Stop, Crew, Ring, Mark, Slot, Base, Account, index_of}
+use Rattle.table_layout.specs.Layout.{Word, Tail, Exposed, Durable, Stop, Crew, Ring, Mark, Slot, Base, Account, index_of}
 
 -- the words by name; those of the ring and the marks as functions of their index, those of the slots of the slot, and those of the accounts
 -- of their number

@@ -8,7 +8,7 @@ use Rattle.log_rule.specs.AccountViews.{saw_account, took_account, gave_account}
 use Rattle.log_rule.specs.CrewViews.{hires, hired}
 use Rattle.log_rule.specs.declared.view.View.{View}
 use Rattle.log_rule.specs.Events.{Event, IsStep, none}
-use Rattle.log_rule.specs.Layout.{Word, Account, Slot, Stop}
+use Rattle.table_layout.specs.Layout.{Word, Account, Slot, Stop}
 use Rattle.log_rule.specs.May.{IsOwnWord}
 use Rattle.log_rule.specs.Moments.{HoldsAtOnce}
 use Rattle.log_rule.specs.SlotViews.{saw_slot, TellsWaiting}

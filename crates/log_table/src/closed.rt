@@ -7,12 +7,12 @@ ghost use Rattle.log_rule.specs.May.{MayClose};
 ghost use Rattle.log_table.specs.Seats.{IsOf, view_of, key_of};
 ghost use Rattle.log_rule.specs.Sound.{base_of};
 ghost use Rattle.std.specs.Slots.{slots_len, slots_items, IsFull};
-ghost use Rattle.log_rule.specs.Layout.{word_count};
+ghost use Rattle.table_layout.specs.Layout.{word_count};
 
 use crate::table::{LogTable, Seat};
-use log_rule::{EXPOSED, TAIL, read_rows, slot_place};
 use lsn_space::{Balances, Lsn};
 use std::alloc::Global;
+use table_layout::{EXPOSED, TAIL, read_rows, slot_place};
 
 /// What the words of a closed table held.
 #[derive(Drop)]

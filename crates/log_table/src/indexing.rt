@@ -2,10 +2,10 @@
 //! much as a locked step, and a transfer of one leg would take a dozen.
 ghost use Rattle.std.specs.Prelude.{◌≡◌, ◌≤◌, ◌+◌, ◌%◌};
 ghost use Rattle.lsn_space.specs.declared.lsn.TheConstants.{LEAST_RING, GREATEST_RING};
-ghost use Rattle.log_rule.specs.declared.layout.TheConstants.{RING};
+ghost use Rattle.table_layout.specs.declared.layout.TheConstants.{RING};
 
-use log_rule::RING;
 use lsn_space::Lsn;
+use table_layout::RING;
 
 /// The length of a ring where no other is asked for. It is a power of two, so that the remainder is a mask.
 const USUAL_RING: u32 = 65536;

@@ -13,6 +13,7 @@ mod table;
 pub use closed::Closed;
 pub use log_rule::{
     After, Books, Call, Constants, Entry, Given, HeardRefusal, MemberStep, Piece, Role, Seen,
-    Sending, Standing, Start, Taken, TakenJob, View, fixed_layout,
+    Sending, Standing, Start, Taken, TakenJob, View,
 };
 pub use table::{LogTable, Seat};
+pub use table_layout::fixed_layout;

@@ -13,10 +13,11 @@ ghost use Rattle.log_rule.specs.CrewViews.{noted, takes_in};
 use crate::plays::{Hire, MakeNote, Number, TakeIn, TellStop};
 use crate::table::{LogTable, Seat};
 use atomic_table::Table;
-use log_rule::{DURABLE, EXPOSED, STOP, Start, TAIL, account_place, put_accounts};
+use log_rule::Start;
 use lsn_space::NoMemory;
 use std::alloc::Global;
 use std::marker::Brand;
+use table_layout::{DURABLE, EXPOSED, STOP, TAIL, account_place, put_accounts};
 
 /// The new seat's view has the worker's number, which a step can't see: it comes by the type.
 fn split_as<N: Number>(table: &LogTable, seat: &mut Seat, worker: u32) -> Seat
@@ -52,7 +53,7 @@ impl LogTable {
         words[TAIL] = lsn;
         words[EXPOSED] = lsn;
         words[DURABLE] = lsn;
-        put_accounts(&mut words, &start);
+        put_accounts(&mut words, start.ring, start.slots, &start.accounts);
         let Ok((table, base)) = Table::of_words(alloc, words.as_slice(), &start) else {
             return Err(NoMemory);
         };

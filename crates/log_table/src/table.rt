@@ -2,7 +2,7 @@
 ghost use Rattle.std.specs.Prelude.{◌≡◌, ◌≤◌, length};
 ghost use Rattle.lsn_space.specs.declared.lsn.TheConstants.{LEAST_RING, GREATEST_RING, MOST_SLOTS};
 ghost use Rattle.lsn_space.specs.declared.opening.TheConstants.{MOST_ACCOUNTS};
-ghost use Rattle.log_rule.specs.Layout.{word_count};
+ghost use Rattle.table_layout.specs.Layout.{word_count};
 ghost use Rattle.log_rule.specs.FirstAccounts.{HasAccounts};
 
 use atomic_table::{Table, TableRule};

@@ -6,9 +6,9 @@ ghost use Rattle.log_table.specs.Steps.{LoadsAccount, ExchangesAccount, StoresAc
 
 use crate::plays::{ExchangeAccount, LoadAccount, Number, StoreAccount};
 use crate::table::{LogTable, Seat};
-use log_rule::account_place;
 use slot_word::AccountWord;
 use std::marker::Brand;
+use table_layout::account_place;
 
 /// The account's number, which a step can't see, comes by the type, here and below.
 fn load_account_as<N: Number>(table: &LogTable, seat: &mut Seat, account: u32) -> AccountWord

@@ -2,7 +2,7 @@
 ghost use Rattle.std.specs.Prelude.{◌≡◌, ◌+◌, ◌-◌};
 ghost use Rattle.log_rule.specs.declared.view.Role.TheVariants.{Fresh};
 ghost use Rattle.log_rule.specs.Events.{none};
-ghost use Rattle.log_rule.specs.Layout.{Crew};
+ghost use Rattle.table_layout.specs.Layout.{Crew};
 ghost use Rattle.log_rule.specs.May.{MayLeave};
 ghost use Rattle.log_table.specs.Seats.{IsOf, view_of};
 ghost use Rattle.log_table.specs.Steps.{ChangesWord, LoadsWord};
@@ -11,7 +11,7 @@ ghost use Rattle.log_rule.specs.CrewViews.{enrolled, retired};
 
 use crate::plays::{Enroll, Leave, LoadCrew};
 use crate::table::{LogTable, Seat};
-use log_rule::CREW;
+use table_layout::CREW;
 
 impl LogTable {
     /// Counts a new worker as active.

@@ -1,7 +1,7 @@
 //! Durable: everything below is on the disk.
 ghost use Rattle.std.specs.Prelude.{◌≡◌, ◌≤◌};
 ghost use Rattle.log_rule.specs.Events.{IsStep, flushes, none};
-ghost use Rattle.log_rule.specs.Layout.{Durable};
+ghost use Rattle.table_layout.specs.Layout.{Durable};
 ghost use Rattle.log_rule.specs.May.{MaySend};
 ghost use Rattle.log_table.specs.Seats.{IsOf, Becomes, view_of, number_of, key_of};
 ghost use Rattle.log_table.specs.Steps.{ChangesAtOnce};
@@ -10,9 +10,9 @@ ghost use Rattle.log_rule.specs.Views.{saw_durable, has_sent};
 
 use crate::plays::{LoadDurable, Stepper, StoreDurable};
 use crate::table::{LogTable, Seat};
-use log_rule::DURABLE;
 use lsn_space::Lsn;
 use std::marker::Brand;
+use table_layout::DURABLE;
 
 /// The seat's number and what the table was made with, which a step can't see, come by the type.
 fn store_durable_as<S: Stepper>(table: &LogTable, seat: &mut Seat, to: Lsn)

@@ -1,7 +1,7 @@
 //! Exposed: everything below is filled and released.
 ghost use Rattle.std.specs.Prelude.{◌≤◌, ◌<◌, OnOk, IfErr};
 ghost use Rattle.log_rule.specs.Events.{IsStep, look_event, raises};
-ghost use Rattle.log_rule.specs.Layout.{Exposed};
+ghost use Rattle.table_layout.specs.Layout.{Exposed};
 ghost use Rattle.log_rule.specs.MarkViews.{after_raise};
 ghost use Rattle.log_rule.specs.May.{MayRaise};
 ghost use Rattle.log_table.specs.Seats.{IsOf, Becomes, view_of, number_of, key_of};
@@ -10,8 +10,8 @@ ghost use Rattle.log_rule.specs.Views.{saw_exposed};
 
 use crate::plays::{ExchangeExposed, LoadExposed};
 use crate::table::{LogTable, Seat};
-use log_rule::EXPOSED;
 use lsn_space::Lsn;
+use table_layout::EXPOSED;
 
 impl LogTable {
     /// A seat that has just made a mark has exposed in hand then.

@@ -8,8 +8,8 @@ ghost use Rattle.log_rule.specs.AccountViews.{took_job};
 use crate::plays::{TakeJob, Task};
 use crate::table::{LogTable, Seat};
 use lock_core::Job;
-use log_rule::STOP;
 use std::marker::Brand;
+use table_layout::STOP;
 
 /// The job and its number, which a step can't see, come by the type.
 fn take_job_as<N: Task>(table: &LogTable, seat: &mut Seat, number: u32, job: &Job) -> u64

@@ -1,14 +1,14 @@
 //! A look at the table, of which the rule holds then.
 ghost use Rattle.std.specs.Prelude.{◌≡◌};
 ghost use Rattle.log_rule.specs.Events.{none};
-ghost use Rattle.log_rule.specs.Layout.{Stop};
+ghost use Rattle.table_layout.specs.Layout.{Stop};
 ghost use Rattle.log_table.specs.Seats.{IsOf, view_of, number_of, key_of};
 ghost use Rattle.log_table.specs.Steps.{ChangesAtOnce};
 
 use crate::plays::{Look, Stepper};
 use crate::table::{LogTable, Seat};
-use log_rule::STOP;
 use std::marker::Brand;
+use table_layout::STOP;
 
 /// The seat's number and what the table was made with, which a step can't see, come by the type.
 fn look_as<S: Stepper>(table: &LogTable, seat: &mut Seat)

@@ -1,7 +1,7 @@
 //! The release marks: where a released range ends, at the place of its base.
 ghost use Rattle.std.specs.Prelude.{◌%◌};
 ghost use Rattle.log_rule.specs.Events.{marks, looks_mark};
-ghost use Rattle.log_rule.specs.Layout.{Mark};
+ghost use Rattle.table_layout.specs.Layout.{Mark};
 ghost use Rattle.log_rule.specs.MarkViews.{marked, saw_mark};
 ghost use Rattle.log_rule.specs.May.{MayMark, MayLookMark};
 ghost use Rattle.log_table.specs.Seats.{IsOf, view_of, number_of};

@@ -1,7 +1,7 @@
 //! The ring: the units that are reserved and not yet on the disk.
 ghost use Rattle.std.specs.Prelude.{◌%◌};
 ghost use Rattle.log_rule.specs.Events.{IsStep, fills, none};
-ghost use Rattle.log_rule.specs.Layout.{Ring};
+ghost use Rattle.table_layout.specs.Layout.{Ring};
 ghost use Rattle.log_rule.specs.May.{MayFill, MayRead};
 ghost use Rattle.log_table.specs.Seats.{IsOf, Becomes, view_of, number_of, key_of};
 ghost use Rattle.log_table.specs.Steps.{ChangesWord};
@@ -11,8 +11,8 @@ ghost use Rattle.log_rule.specs.Views.{filled, has_read};
 use crate::indexing::place;
 use crate::plays::{LoadRing, StoreRing};
 use crate::table::{LogTable, Seat};
-use log_rule::RING;
 use lsn_space::Lsn;
+use table_layout::RING;
 
 impl LogTable {
     /// Copies the next unit of the seat's record into the ring, to the range that it has reserved alone, or to its

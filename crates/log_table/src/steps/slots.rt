@@ -5,7 +5,7 @@ ghost use Rattle.slot_word.specs.declared.phase.Phase.TheVariants.{Pending};
 ghost use Rattle.slot_word.specs.SlotWord.{packed, word_of};
 ghost use Rattle.log_rule.specs.Books.{next_of};
 ghost use Rattle.log_rule.specs.Events.{IsStep, closes, hears, joins, none, refuses, reopens, stores_base, tells, releases};
-ghost use Rattle.log_rule.specs.Layout.{Slot, Base};
+ghost use Rattle.table_layout.specs.Layout.{Slot, Base};
 ghost use Rattle.log_rule.specs.May.{MayJoinSlot, MayCloseSlot, MayStoreBase, MayStoreGranted, MayStoreRefused, MayPublish, MayLoadBase, MayReopen, MayReleaseSlot};
 ghost use Rattle.log_table.specs.Seats.{IsOf, Becomes, view_of, number_of, key_of};
 ghost use Rattle.log_table.specs.Steps.{ChangesWord, LoadsSlot};
@@ -15,9 +15,9 @@ use crate::plays::{
     CloseSlot, JoinSlot, LoadBase, LoadSlot, Number, Publish, ReleaseSlot, Reopen, StoreBase,
 };
 use crate::table::{LogTable, Seat};
-use log_rule::{base_place, slot_place};
 use slot_word::SlotWord;
 use std::marker::Brand;
+use table_layout::{base_place, slot_place};
 
 /// The slot's number, which a step can't see, comes by the type.
 fn load_slot_as<N: Number>(table: &LogTable, seat: &mut Seat, slot: u32) -> SlotWord

@@ -1,6 +1,6 @@
 //! Stop: why the log stopped, 0 while it runs.
 ghost use Rattle.log_rule.specs.Events.{none};
-ghost use Rattle.log_rule.specs.Layout.{Stop};
+ghost use Rattle.table_layout.specs.Layout.{Stop};
 ghost use Rattle.log_rule.specs.May.{MayStop};
 ghost use Rattle.log_table.specs.Seats.{IsOf, view_of};
 ghost use Rattle.log_table.specs.Steps.{ChangesWord, LoadsStop};
@@ -8,7 +8,7 @@ ghost use Rattle.log_rule.specs.Views.{saw_stop, has_stopped};
 
 use crate::plays::{LoadStop, StoreStop};
 use crate::table::{LogTable, Seat};
-use log_rule::STOP;
+use table_layout::STOP;
 
 impl LogTable {
     pub fn load_stop(&self, seat: &mut Seat) -> u64

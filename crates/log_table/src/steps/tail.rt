@@ -1,7 +1,7 @@
 //! The tail: the end of the last reservation.
 ghost use Rattle.std.specs.Prelude.{◌-◌, ◌≤◌, ◌<◌, OnOk, IfErr};
 ghost use Rattle.log_rule.specs.Events.{IsStep, places, reserves, none};
-ghost use Rattle.log_rule.specs.Layout.{Tail};
+ghost use Rattle.table_layout.specs.Layout.{Tail};
 ghost use Rattle.log_rule.specs.May.{MayReserve, MayPlaceGroup, MayExchangeTail};
 ghost use Rattle.log_table.specs.Seats.{IsOf, Becomes, view_of, number_of, key_of};
 ghost use Rattle.log_rule.specs.SlotViews.{reserved_group};
@@ -9,8 +9,8 @@ ghost use Rattle.log_rule.specs.Views.{saw_tail, reserved, lost_alone};
 
 use crate::plays::{ExchangeTail, LoadTail};
 use crate::table::{LogTable, Seat};
-use log_rule::TAIL;
 use lsn_space::Lsn;
+use table_layout::TAIL;
 
 impl LogTable {
     pub fn load_tail(&self, seat: &mut Seat) -> Lsn

@@ -1,7 +1,7 @@
 use Rattle.std.proofs.Common.{◌≡◌, ◌∙◌, ◌+◌, ℕ, List, get_or, min, sym, ap, arith}
 use Rattle.std.specs.Slots.{slots_items}
-use Rattle.log_rule.specs.Layout.{Slot, index_of}
-use Rattle.log_rule.proofs.Gathering.{get_elem-get_or}
+use Rattle.table_layout.specs.Layout.{Slot, index_of}
+use Rattle.table_layout.proofs.Rows.{get_elem-get_or}
 use Rattle.log_rule.proofs.Vacancy.{in_use-more}
 use Rattle.log_table.proofs.closed.count_in_use.Goals as goal
 

@@ -1,6 +1,6 @@
 use Rattle.std.proofs.Common.{arith, ◌≡◌, ℕ, sym, ap, subst}
 use Rattle.atomic_table.specs.Table.{Allows}
-use Rattle.log_rule.specs.declared.layout.TheConstants.{DURABLE}
+use Rattle.table_layout.specs.declared.layout.TheConstants.{DURABLE}
 use Rattle.log_rule.specs.declared.start.Start.{Start}
 use Rattle.log_rule.specs.May.{MaySend}
 use Rattle.log_rule.specs.Moments.{HoldsAtOnce}

@@ -1,6 +1,6 @@
 use Rattle.std.proofs.Common.{arith, ◌≡◌, ℕ, sym, subst}
 use Rattle.atomic_table.specs.Table.{Allows}
-use Rattle.log_rule.specs.declared.layout.TheConstants.{STOP}
+use Rattle.table_layout.specs.declared.layout.TheConstants.{STOP}
 use Rattle.log_rule.specs.declared.start.Start.{Start}
 use Rattle.log_rule.specs.Moments.{HoldsAtOnce}
 use Rattle.log_rule.specs.Sound.{Ruled}

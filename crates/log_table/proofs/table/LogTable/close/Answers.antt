@@ -1,6 +1,7 @@
 use Rattle.std.proofs.Common.{arith, ℕ, length, ◌∙◌, sym, subst}
 use Rattle.std.specs.Slots.{slots_items}
-use Rattle.log_rule.specs.ClosedLog.{IsGathered, ReadsRows, in_use}
+use Rattle.table_layout.specs.AccountWords.{ReadsRows}
+use Rattle.log_rule.specs.ClosedLog.{IsGathered, in_use}
 use Rattle.log_table.specs.Seats.{view_of, key_of}
 use Rattle.log_rule.proofs.Gathering.{IsClosed, may_close-closed}
 use Rattle.log_table.proofs.table.LogTable.close.Goals as goal

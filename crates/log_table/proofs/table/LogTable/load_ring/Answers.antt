@@ -1,6 +1,6 @@
 use Rattle.std.proofs.Common.{◌≡◌, arith, ℕ, ◌+◌, ◌%◌, ◌<◌, mod-lt, sym, subst}
 use Rattle.atomic_table.specs.Table.{Allows}
-use Rattle.log_rule.specs.declared.layout.TheConstants.{RING}
+use Rattle.table_layout.specs.declared.layout.TheConstants.{RING}
 use Rattle.log_table.specs.Seats.{number_of, key_of}
 use Rattle.log_rule.specs.Sends.{ReadsWholeEntries}
 use Rattle.log_rule.specs.Sound.{Ruled}

@@ -1,6 +1,6 @@
 -- The words of the table by name, and where each lies.
 use Rattle.std.specs.Prelude.{ℕ, ◌+◌, ◌*◌}
-use Rattle.log_rule.specs.declared.layout.TheConstants.{STRIDE, TAIL, EXPOSED, DURABLE, STOP, CREW, RING}
+use Rattle.table_layout.specs.declared.layout.TheConstants.{STRIDE, TAIL, EXPOSED, DURABLE, STOP, CREW, RING}
 
 -- a word of the table; those of the ring and the release marks by their index, a slot's state and base by the slot, and those of the
 -- accounts by their number

@@ -2,11 +2,10 @@ use Rattle.std.proofs.Common.{rules, arith, ◌≡◌, ◌<◌, ◌∙◌, ◌+�
 use Rattle.std.specs.Slots.{slots_items}
 use Rattle.lsn_space.specs.Accounts.{Accounts}
 use Rattle.slot_word.specs.AccountWord.{balance_in, last_commit_in}
-use Rattle.log_rule.specs.ClosedLog.{ReadsRows}
-use Rattle.log_rule.specs.Layout.{Account, index_of}
-use Rattle.log_rule.proofs.Gathering.{get_elem-get_or}
-use Rattle.log_rule.proofs.Rows.{reads-more}
-use Rattle.log_rule.proofs.account_words.read_rows.Goals as goal
+use Rattle.table_layout.specs.AccountWords.{ReadsRows}
+use Rattle.table_layout.specs.Layout.{Account, index_of}
+use Rattle.table_layout.proofs.Rows.{get_elem-get_or, reads-more}
+use Rattle.table_layout.proofs.account_words.read_rows.Goals as goal
 
 pub loop-account-preserved : goal.loop-account-preserved
 loop-account-preserved c =

@@ -4,7 +4,7 @@
 ghost use Rattle.std.specs.Prelude.{◌≡◌, ◌≤◌, ◌+◌, ◌*◌, ◌%◌};
 ghost use Rattle.lsn_space.specs.declared.lsn.TheConstants.{LEAST_RING, GREATEST_RING, MOST_SLOTS};
 ghost use Rattle.lsn_space.specs.declared.opening.TheConstants.{MOST_ACCOUNTS};
-ghost use Rattle.log_rule.specs.declared.layout.TheConstants.{STRIDE, RING};
+ghost use Rattle.table_layout.specs.declared.layout.TheConstants.{STRIDE, RING};
 
 use lsn_space::{Lsn, place};
 

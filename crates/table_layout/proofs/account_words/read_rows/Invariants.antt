@@ -1,7 +1,7 @@
 use Rattle.std.proofs.Common.{◌≡◌}
 use Rattle.std.specs.Slots.{slots_items}
-use Rattle.log_rule.specs.ClosedLog.{ReadsRows}
-use Rattle.log_rule.proofs.account_words.read_rows.Given as goal
+use Rattle.table_layout.specs.AccountWords.{ReadsRows}
+use Rattle.table_layout.proofs.account_words.read_rows.Given as goal
 
 abbrev pub invariant-loop-account : goal.invariant-loop-account
 invariant-loop-account l = record {

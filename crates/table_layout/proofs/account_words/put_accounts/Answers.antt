@@ -1,12 +1,12 @@
 use Rattle.std.proofs.Common.{arith, ◌<◌, length}
 use Rattle.std.proofs.lemmas.Option.{slice_get-get_or}
-use Rattle.log_rule.proofs.Rows.{puts-more}
-use Rattle.log_rule.proofs.account_words.put_accounts.Goals as goal
+use Rattle.table_layout.proofs.Rows.{puts-more}
+use Rattle.table_layout.proofs.account_words.put_accounts.Goals as goal
 
 pub loop-account-preserved : goal.loop-account-preserved
 loop-account-preserved c =
-    let rows = c.args.start.now.accounts.rows in
+    let rows = c.args.accounts.now.rows in
     let below : c.loop-account.account < length rows = omega arith in
     let row-is = slice_get-get_or rows c.loop-account.account (0, 0) below in
-    puts-more c.args.start.now c.loop-account.account c.pack-word.result c.account_place.result c.args.words.now.items c.loop-account.words.items
+    puts-more c.args.ring c.args.slots rows c.loop-account.account c.pack-word.result c.account_place.result c.args.words.now.items c.loop-account.words.items
     below c.requires.size c.account_place.ensures (grind arith steps 400000) c.loop-account.invariant

@@ -1,5 +1,5 @@
 use Rattle.std.proofs.Common.{refl}
-use Rattle.log_rule.proofs.layout.base_place.Goals as goal
+use Rattle.table_layout.proofs.layout.slot_place.Goals as goal
 
 pub returns : goal.returns
 returns c = refl
