@@ -94,12 +94,22 @@ def rust_items(path):
     return items
 
 
+def files_of(crate, folder, ending):
+    """The files of a crate's folder that end so, from the top, in the order of their names."""
+    found = []
+    for at, _, names in os.walk(os.path.join(TOP, "crates", crate, folder)):
+        found += [os.path.relpath(os.path.join(at, name), TOP) for name in names if name.endswith(ending)]
+    return sorted(found)
+
+
 @functools.lru_cache(None)
 def sources_of(crate):
-    found = []
-    for folder, _, names in os.walk(os.path.join(TOP, "crates", crate, "src")):
-        found += [os.path.relpath(os.path.join(folder, name), TOP) for name in names if name.endswith(".rt")]
-    return sorted(found)
+    return files_of(crate, "src", ".rt")
+
+
+@functools.lru_cache(None)
+def specs_of(crate):
+    return files_of(crate, "specs", ".antt")
 
 
 def imported(text):
