@@ -1,5 +1,4 @@
-# The commands `cut` and `upgrade`, and logs of the second format: cases of `.ci/built_program`, which reads this file and has the functions that it
-# calls.
+# The commands `cut` and `upgrade`, and logs of the second format.
 
 made=$work/made.log
 cut_log=$examples/cut.log

@@ -1,5 +1,4 @@
-# The commands `ship` and `follow`: cases of `.ci/built_program`, which reads this file and has the functions that it calls. `.ci/stream_reader.py`
-# tries them on more streams, and judges them by a plain reader.
+# The commands `ship` and `follow`. `.ci/stream_reader.py` tries them on more streams, and judges them by a plain reader.
 
 streams=$work/streams
 one_text=$'lsn 9\n0 70\n1 30\n'

@@ -1,4 +1,4 @@
-# The commands `asof` and `statement`: cases of `.ci/built_program`, which reads this file and has the functions that it calls.
+# The commands `asof` and `statement`.
 
 views=$work/views
 
