@@ -1,0 +1,20 @@
+"""The plain programs of this folder, compiled: what stands beside the measured program, and what makes the logs that it reads."""
+import os, shutil, subprocess, sys
+
+BENCH = os.path.dirname(os.path.realpath(__file__))
+
+
+def compiled(compiler, name, folder, *libraries):
+    """The program of this source, or None where the compiler, or a library, isn't there."""
+    target = f"{folder}/{name}"
+    words = [compiler, "-std=c11", "-O2", "-pthread", "-o", target, f"{BENCH}/{name}.c", *libraries]
+    return target if subprocess.run(words, capture_output=True).returncode == 0 else None
+
+
+def rivals_in(folder):
+    """The rivals, made in this folder, and the compiler that made them: the first that is there and can. Where none can it ends."""
+    for compiler in filter(shutil.which, ("cc", "gcc", "clang")):
+        rivals = compiled(compiler, "rivals", folder)
+        if rivals:
+            return rivals, compiler
+    return sys.exit(f"{os.path.basename(sys.argv[0])}: no C compiler (cc, gcc, clang) makes bench/rivals.c")
