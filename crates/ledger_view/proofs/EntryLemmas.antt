@@ -88,10 +88,6 @@ pub first_entry-adds_net : (first : ℕ) (entries : List Entry) (d : Entry) → 
 first_entry-adds_net first [] d sums some = absurd (omega arith)
 first_entry-adds_net first (entry ∷ entries) d sums some = sums.2
 
-pub last_balance-none : (first : ℕ) (entries : List Entry) → length entries ≡ 0 → last_balance first entries ≡ first
-last_balance-none first [] none = refl
-last_balance-none first (x ∷ entries) none = absurd (omega arith)
-
 -- where they lead to a balance in its range, each balance on the way is in it
 pub add_up-first_in_range : (least first : ℕ) (entries : List Entry) → AddUp least first entries → IsBalance (last_balance first entries) → IsBalance first
 add_up-first_in_range least first [] sums last = last

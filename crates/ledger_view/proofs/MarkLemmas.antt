@@ -1,6 +1,6 @@
 -- How a search among the marks, and then among the rows from one mark to the next, finds its place.
-use Rattle.std.proofs.Common.{◌≡◌, ◌<◌, ◌≤◌, ℕ, ◌+◌, ◌-◌, ◌*◌, ◌%◌, min, List, [], ◌∷◌, ◌++◌, length, take, drop, get_or, ap, ◌∙◌, sym, arith, length-append, length-take, length-drop}
-use Rattle.std.proofs.lemmas.List.{get_or-take, get_or-drop, get_or_append_left, get_or_at}
+use Rattle.std.proofs.Common.{◌≡◌, ◌<◌, ◌≤◌, ℕ, ◌+◌, ◌-◌, ◌*◌, min, List, length, take, drop, get_or, ap, ◌∙◌, arith, length-take, length-drop}
+use Rattle.std.proofs.lemmas.List.{get_or-take, get_or-drop}
 use Rattle.std.specs.List.Sorted.{IsNonDecreasingBy}
 use mathlib.Core.Logic.{dite}
 use native.Mathlib.Decide.{dec_lt}
@@ -29,40 +29,7 @@ take_drop-is_block rows rest block from size begun fits rest_is block_is =
           ∙ ap (λ l. get_or l j none) rest_is ∙ get_or-drop from rows j none;
     }
 
-pub block-rises : (rows block : List Row) (from : ℕ) → IsBlock rows block from → Rises rows → Rises block
-block-rises rows block from is rises i j none before inside =
-    let up = rises (from + i) (from + j) none (omega (arith, before)) (omega (arith, inside, is.within)) in
-    let first = ap (λ (e : Row). e.end) (is.at i none (omega (arith, before, inside))) in
-    let second = ap (λ (e : Row). e.end) (is.at j none inside) in
-    omega (arith, up, first, second)
-
 module _ (marks : List ℕ) (rows : List Row) (are : AreMarks marks rows) where
-  -- one more row where a mark is due, and where none is
-  pub are_marks-push_due : (row : Row) → length rows % 16 ≡ 0 → AreMarks (marks ++ row.end ∷ []) (rows ++ row ∷ [])
-  are_marks-push_due row due =
-      let enough = are.enough in let few = are.few in
-      let longer = length-append marks (row.end ∷ []) in let long = length-append rows (row ∷ []) in
-      let full : length rows ≡ 16 * length marks = omega (arith, due, enough, few) in record {
-        enough = omega (arith, longer, long, full);
-        few = omega (arith, longer, long, full);
-        each = λ k otherwise none inside. dite (dec_lt k (length marks))
-            (λ old. get_or_append_left marks (row.end ∷ []) otherwise k old ∙ are.each k otherwise none old
-            ∙ ap (λ (e : Row). e.end) (sym (get_or_append_left rows (row ∷ []) none (16 * k) (omega (arith, old, full)))))
-            (λ not_old.
-            let last : k ≡ length marks = omega (arith, inside, longer, not_old) in
-            get_or_at marks row.end [] otherwise k (sym last)
-            ∙ ap (λ (e : Row). e.end) (sym (get_or_at rows row [] none (16 * k) (omega (arith, last, full)))));
-      }
-
-  pub are_marks-push_not_due : (row : Row) → (length rows % 16 ≡ 0 → ⊥) → AreMarks marks (rows ++ row ∷ [])
-  are_marks-push_not_due row undue =
-      let enough = are.enough in let few = are.few in let long = length-append rows (row ∷ []) in record {
-        enough = omega (arith, long, enough, few, undue);
-        few = omega (arith, long, few);
-        each = λ k otherwise none inside. are.each k otherwise none inside
-            ∙ ap (λ (e : Row). e.end) (sym (get_or_append_left rows (row ∷ []) none (16 * k) (omega (arith, inside, few))));
-      }
-
   module _ (rises : Rises rows) where
     pub marks-rise : IsNonDecreasingBy (λ (mark : ℕ). mark) marks
     marks-rise i j otherwise before inside =
@@ -71,16 +38,6 @@ module _ (marks : List ℕ) (rows : List Row) (are : AreMarks marks rows) where
         let second = are.each j otherwise no_row inside in
         let up = rises (16 * i) (16 * j) no_row (omega (arith, before)) (omega (arith, inside, few)) in
         omega (arith, first, second, up)
-
-    -- where the first mark lies behind the LSN, all rows do
-    pub marks_behind-rows_behind : (lsn : ℕ) → ((i otherwise : ℕ) → 0 ≤ i → i < length marks → lsn < get_or marks i otherwise)
-        → (i : ℕ) (none : Row) → i < length rows → lsn < (get_or rows i none).end
-    marks_behind-rows_behind lsn behind i none inside =
-        let enough = are.enough in
-        let some : 0 < length marks = omega (arith, enough, inside) in
-        let first = are.each 0 0 none some in let past = behind 0 0 (omega arith) some in
-        let up = rises 0 i none (omega arith) inside in
-        omega (arith, first, past, up)
 
     module _ (lsn found : ℕ) (some : 0 < found) (known : found ≤ length marks) (block : List Row) (from count : ℕ) (start : from ≡ 16 * (found - 1))
         (is : IsBlock rows block from) (bound : count ≤ length block) where

@@ -1,5 +1,5 @@
 -- The plain program, entry by entry.
-use Rattle.std.proofs.Common.{◌≡◌, ◌≤◌, ◌<◌, ◌==◌, ◌&&◌, ◌||◌, ℕ, zero, suc, ◌+ℤ◌, Bool, true, false, true≢false, cond, None, Some, List, [], ◌∷◌, ◌++◌, length, take, drop, reverse, get_or, refl, ap, ◌∙◌, sym, subst, arith, eq-eqb, ne_eqb, eqb-true, le_trans, lt-ltb, le-ltb}
+use Rattle.std.proofs.Common.{◌≡◌, ◌≤◌, ◌<◌, ◌==◌, ◌&&◌, ◌||◌, ℕ, zero, suc, ◌+ℤ◌, Bool, true, false, true≢false, cond, List, [], ◌∷◌, ◌++◌, length, take, drop, reverse, get_or, refl, ap, ◌∙◌, sym, subst, arith, eq-eqb, ne_eqb, eqb-true, le_trans}
 use Rattle.std.proofs.lemmas.List.{reverse-append, take-append-drop}
 use mathlib.Core.Logic.{dite}
 use native.Mathlib.Decide.{ℕ_discrete, dec_lt}
@@ -17,7 +17,7 @@ use Rattle.lock_core.proofs.Meeting.{lawful-met}
 use Rattle.lock_core.proofs.Pairing.{updates_of-fits}
 use Rattle.ledger_view.specs.declared.entries.Entry.{Entry}
 use Rattle.ledger_view.specs.declared.view.View.{View}
-use Rattle.ledger_view.specs.Entries.{net_of, balance_after, is_commit_on, entry_of, entries_of, entries_if_known}
+use Rattle.ledger_view.specs.Entries.{net_of, balance_after, is_commit_on, entry_of, entries_of}
 use Rattle.ledger_view.specs.Plain.{own_changes, KeepsRange}
 use Rattle.ledger_view.specs.ViewedAccounts.{account_at, HasViewed}
 use Rattle.ledger_view.proofs.EntryLemmas.{add_up-range}
@@ -146,12 +146,6 @@ module _ (opening : Opening) (account : ℕ) where
       (add_up-range 0 kept.first (account_at view.accounts account).entries kept.sums
       (subst IsBalance (sym kept.last) (last-in-range opening view h account viewed inside))))
       (λ past. subst (AllByRecursion in_range) (sym (entries-unknown opening h account viewed.judged.ledger.judged.lawful (omega arith))) tt)
-
-  pub entries-if_known : (h : List Placed) → account < (base_with opening h).accounts → entries_if_known opening h account ≡ Some (entries_of opening h account)
-  entries-if_known h inside = ap (λ b. cond b (Some (entries_of opening h account)) None) (lt-ltb account (base_with opening h).accounts inside)
-
-  pub entries-if_unknown : (h : List Placed) → (base_with opening h).accounts ≤ account → entries_if_known opening h account ≡ None
-  entries-if_unknown h past = ap (λ b. cond b (Some (entries_of opening h account)) None) (le-ltb account (base_with opening h).accounts past)
 
 get_or-again : (entries : List Placed) (i : ℕ) (d : Placed) → i < length entries → get_or entries i (get_or entries i d) ≡ get_or entries i d
 get_or-again [] i d inside = absurd (omega arith)

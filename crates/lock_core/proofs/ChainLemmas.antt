@@ -62,9 +62,6 @@ pub record Collects (links : List UpdateLink) (place : ℕ) (collected : List Ch
   pub whole : HasChain links place (collected ++ rest)
   pub few : length collected + length rest ≤ 16
 
-pub collects-none : (links : List UpdateLink) (place : ℕ) (changes : List Change) → HasChain links place changes → length changes ≤ 16 → Collects links place [] place
-collects-none links place changes chain few = record { rest = changes; chain = chain; whole = chain; few = omega arith }
-
 pub collects-inside_and_room : (links : List UpdateLink) (place : ℕ) (collected : List Change) (at : ℕ) → 0 < at → Collects links place collected at
     → (at < length links) × (length collected < 16)
 collects-inside_and_room links place collected at some collects = by_rest collects.rest collects.chain collects.few

@@ -32,9 +32,6 @@ pub record AppliesToTouched (some changes : List Change) (end : ℕ) (old new : 
   pub done : (account : ℕ) → touches account some ≡ true → AppliesToRow changes end account (row old account) (row new account)
   pub left : (account : ℕ) → touches account some ≡ false → row new account ≡ row old account
 
-pub applies_touched-none : (changes : List Change) (end : ℕ) (rows : List (ℕ × ℕ)) → AppliesToTouched [] changes end rows rows
-applies_touched-none changes end rows = record { count = refl; done = λ account on. absurd (true≢false (sym on)); left = λ account off. refl }
-
 pub touches-more : (account : ℕ) (changes : List Change) (change : Change) → touches account (changes ++ change ∷ []) ≡ (touches account changes || (change.account == account))
 touches-more account [] change = or-false (change.account == account)
 touches-more account (first ∷ changes) change = by_case (first.account == account) (touches-more account changes change)

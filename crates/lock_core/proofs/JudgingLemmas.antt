@@ -1,5 +1,5 @@
 -- How what a judge keeps goes on by one entry.
-use Rattle.std.proofs.Common.{◌≡◌, ℕ, false, true≢false, List, [], ◌∷◌, ◌<◌, length, Result, Ok, Err, refl, sym, subst, ◌∙◌, arith}
+use Rattle.std.proofs.Common.{◌≡◌, ℕ, false, true≢false, List, ◌∷◌, ◌<◌, length, Result, Ok, Err, refl, sym, subst, ◌∙◌, arith}
 use Rattle.std.specs.Prelude.{OnOk, IfErr, Some}
 use Rattle.std.specs.List.{AllByRecursion}
 use Rattle.std.proofs.lemmas.Option.{slice_get-get_or}
@@ -11,7 +11,7 @@ use Rattle.lsn_space.specs.declared.opening.TheConstants.{MOST_ACCOUNTS}
 use Rattle.lock_core.specs.declared.reason.Why.{Why}
 use Rattle.lock_core.specs.Records.{commits}
 use Rattle.lock_core.specs.Transactions.{own_records_of}
-use Rattle.lock_core.specs.Sums.{BaseState, Opening, no_opening, ShowsAccounts}
+use Rattle.lock_core.specs.Sums.{BaseState, Opening, ShowsAccounts}
 use Rattle.lock_core.specs.Tests.{IsGenesis}
 use Rattle.lock_core.specs.Lawful.{tests, Passes, IsLawful, base_with}
 use Rattle.lock_core.specs.Faults.{IsFirstFailing}
@@ -21,19 +21,6 @@ use Rattle.lock_core.proofs.OneMore.{has_commit-unended, total-uncommitted, tota
 use Rattle.lock_core.proofs.Meeting.{all_passed-meets_tests}
 use Rattle.lock_core.proofs.Ranging.{is_balance-equals_balance_of}
 use Rattle.lock_core.proofs.KindLemmas.{keeps_rows-first_unmoved}
-
--- no record, no account
-pub judged-none : (accounts : Accounts) → accounts.rows ≡ [] → accounts.room ≡ MOST_ACCOUNTS → IsJudged no_opening accounts []
-judged-none accounts empty room = let none : length accounts.rows ≡ 0 = (λ i. length (empty i)) in record {
-  lawful = tt;
-  room = room;
-  rows = record {
-    count = none;
-    range = λ a inside. absurd (omega arith);
-    balance = λ a inside. absurd (omega arith);
-    last = λ a inside. absurd (omega arith);
-  };
-}
 
 module _ (opening : Opening) where
   -- an entry that passes all tests, and neither opens an account nor commits, leaves the accounts

@@ -25,15 +25,6 @@ own_records_of-same n entry h is = ap recs_of (of_transaction-first_own n entry 
 own_records_of-other : (n : ℕ) (entry : Placed) (h : List Placed) → txn_of entry.rec ≢ n → own_records_of n (entry ∷ h) ≡ own_records_of n h
 own_records_of-other n entry h other = ap recs_of (of_transaction-first_other n entry h other)
 
-pub keeps_transactions-none : (txns : Transactions) → txns.updates ≡ no_link ∷ [] → txns.active ≡ 0 → ((txn : ℕ) → value_at txns.newest txn ≡ 0)
-    → KeepsTransactions txns []
-keeps_transactions-none txns updates none_active values = let one = ap length updates in record {
-  some = omega arith;
-  first = ap (λ links. link_at links 0) updates;
-  each = λ txn. record { ended = λ is. absurd (let none = values txn in omega arith); unended = λ other. record { unended = refl; chain = values txn } };
-  active = ([], record { count = omega arith; fits = omega arith; others = λ txn all. inl (values txn) });
-}
-
 -- ---- the transactions that are active
 
 -- a list without a number that it has: it is shorter, and what none of it is, no other of the list is

@@ -19,9 +19,6 @@ use Rattle.lock_core.proofs.OneMore.{has_commit-unended, total-uncommitted, tota
 pub is_balance-equals_balance_of : (base : BaseState) (h : List Placed) (account balance : ℕ) → IsBalanceOf base h account balance → balance_of base h account ≡ balance
 is_balance-equals_balance_of base h account balance is = omega arith
 
-pub is_balance-unique : (base : BaseState) (h : List Placed) (account x y : ℕ) → IsBalanceOf base h account x → IsBalanceOf base h account y → x ≡ y
-is_balance-unique base h account x y first second = omega arith
-
 pub in_range-same : (base : BaseState) (h h' : List Placed) → ((side : ℤ → ℕ) (a : ℕ) → total side a h' ≡ total side a h) → AreInRange base h → AreInRange base h'
 in_range-same base h h' same range account below =
     let before = range account below in let gains = same gain account in let losses = same loss account in

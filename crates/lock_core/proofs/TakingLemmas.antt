@@ -1,6 +1,5 @@
 -- What a ledger answers on one record more: the first test that fails, or what it keeps then.
 use Rattle.std.proofs.Common.{◌≡◌, ◌<◌, ◌≤◌, ◌⊎◌, ⊎_elim, inl, inr, ℕ, zero, suc, ◌+◌, ◌-◌, ◌*◌, true, false, true≢false, List, [], ◌∷◌, ◌++◌, length, refl, ap, ◌∙◌, sym, subst, arith}
-use Rattle.std.specs.Prelude.{IsTrue, ◌↔◌}
 use Rattle.std.specs.List.{AllByRecursion}
 use Rattle.lsn_space.specs.declared.opening.TheConstants.{MOST_ACCOUNTS}
 use Rattle.log_record.specs.declared.limits.TheConstants.{MOST_LEGS}
@@ -17,13 +16,12 @@ use Rattle.lock_core.specs.declared.reason.Why.TheVariants as why
 use Rattle.lock_core.specs.declared.update.Change.{Change}
 use Rattle.lock_core.specs.declared.transactions.Transactions.{Transactions}
 use Rattle.lock_core.specs.declared.ledger.Ledger.{Ledger}
-use Rattle.lock_core.specs.Records.{txn_of}
 use Rattle.lock_core.specs.Transactions.{own_records_of, updates_of, has_end}
 use Rattle.lock_core.specs.Sums.{Opening}
-use Rattle.lock_core.specs.Tests.{IsGenesis, OpensLedger, IsAbove, IsPaired}
+use Rattle.lock_core.specs.Tests.{IsGenesis, OpensLedger, IsPaired}
 use Rattle.lock_core.specs.Lawful.{tests, Passes, IsLawful, base_with, with_genesis}
 use Rattle.lock_core.specs.Faults.{IsFirstFailing}
-use Rattle.lock_core.specs.AccountRows.{row, opening_of, AppliesChanges, LeavesSome, KeepsRows, AreRowsInRange}
+use Rattle.lock_core.specs.AccountRows.{row, AppliesChanges, LeavesSome, KeepsRows, AreRowsInRange}
 use Rattle.lock_core.specs.Judging.{IsCommitting}
 use Rattle.lock_core.specs.KeptLedger.{IsEndFault, KeepsTransactions, KeepsLedger}
 use Rattle.lock_core.proofs.KindLemmas.{all_genesis-accounts_count, base_with-accounts_le, keeps_rows-first_genesis, passes-genesis, fails-stale, fails-balance, committing-applied_keeps_rows, passes-commit}
@@ -49,27 +47,6 @@ empty_or_snapshot-rows_in_range opening (inr is) = snapshot-rows opening.lsn ope
 pub empty_or_snapshot-few_accounts : (opening : space.Opening) → (opening.accounts ≡ []) ⊎ IsSnapshot opening → length opening.accounts ≤ MOST_ACCOUNTS
 empty_or_snapshot-few_accounts opening (inl none) = let count = ap length none in omega arith
 empty_or_snapshot-few_accounts opening (inr is) = is.most
-
--- a ledger that has taken no record behind an opening
-pub keeps_ledger-none : (opening : space.Opening) (ledger : Ledger) → ledger.accounts.rows ≡ opening.accounts → ledger.accounts.room ≡ MOST_ACCOUNTS
-    → AreRowsInRange opening.accounts → IsTrue ledger.is_opening ↔ (length opening.accounts ≡ 0) → KeepsTransactions ledger.txns [] → ledger.least ≡ opening.txn
-    → KeepsLedger (opening_of opening) ledger []
-keeps_ledger-none opening ledger same room range begins none least = record {
-  judged = record {
-    lawful = tt;
-    room = room;
-    rows = subst (λ rows. KeepsRows rows (opening_of opening).state []) (sym same)
-        (record { count = refl; range = range; balance = λ account inside. refl; last = λ account inside. refl });
-  };
-  begins = ((λ on. (begins.0 on, tt)), (λ start. begins.1 start.0));
-  transactions = none;
-  least = least;
-  blank = λ empty account. row-none opening.accounts empty account;
-}
-  where
-    row-none : (rows : List (ℕ × ℕ)) → length rows ≡ 0 → (account : ℕ) → (row rows account).1 ≡ 0
-    row-none [] empty account = refl
-    row-none (first ∷ rows) empty account = absurd (omega arith)
 
 module _ (opening : Opening) where
   -- a lawful history with a record has an account
@@ -101,10 +78,6 @@ module _ (opening : Opening) where
     -- a number above the opening's, of a transaction with no end record
     pub unended-passes_ended : (txn : ℕ) → ledger.least < txn → has_end (own_records_of txn h) ≡ false → {X : Type 0} → (X → opening.txn < txn) × (has_end (own_records_of txn h) ≡ false)
     unended-passes_ended txn above unended = ((λ other. let least = kept.least in omega arith), unended)
-
-    -- a number up to the opening's, or a transaction with an end record, fails the test of the end
-    pub at_most_least-not_above : (rec : Rec) → (IsGenesis rec → ⊥) → txn_of rec ≤ ledger.least → IsAbove opening.txn rec → ⊥
-    at_most_least-not_above rec other low above = let least = kept.least in let high = above other in omega arith
 
     pub some_rows-some_account_or_record : (length ledger.accounts.rows ≡ 0 → ⊥) → 0 < opening.state.accounts + length h
     some_rows-some_account_or_record some = let same = counted in let most = base_with-accounts_le opening h in let none : (base_with opening h).accounts ≡ 0 → ⊥ = (λ is. some (same ∙ is)) in omega (arith, none)

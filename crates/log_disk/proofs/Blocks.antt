@@ -12,12 +12,6 @@ AppendsBut-none held bytes = ([], refl, Appends-nil held)
 pub AppendsBut-nothing_waits : (old new : Option (List ℕ)) (bytes : List ℕ) → Appends old new bytes → AppendsBut old new bytes []
 AppendsBut-nothing_waits old new bytes all = (bytes, sym (append-nil bytes), all)
 
--- more bytes wait
-pub AppendsBut-append_waiting : (old new : Option (List ℕ)) (bytes waiting piece : List ℕ) → AppendsBut old new bytes waiting
-    → AppendsBut old new (bytes ++ piece) (waiting ++ piece)
-AppendsBut-append_waiting old new bytes waiting piece done =
-    (done.0, ap (λ us. us ++ piece) done.1 ∙ append_assoc done.0 waiting piece, done.2)
-
 module _ (old middle new : Option (List ℕ)) (bytes waiting : List ℕ) (done : AppendsBut old middle bytes waiting) where
   -- a piece was put behind what waited, and more waits then
   pub AppendsBut-trans : (piece left : List ℕ) → AppendsBut middle new (waiting ++ piece) left → AppendsBut old new (bytes ++ piece) left

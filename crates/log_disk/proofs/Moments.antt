@@ -27,13 +27,6 @@ module _ {D : Type 0} (moment : D → ℕ) (images_since : D → ℕ → List �
     }
 
     module _ (counts_now : (disk : D) (t : ℕ) (c : List ℕ) → t ≤ moment disk → images disk c → images_since disk t c) where
-      -- one call that adds no image
-      pub Leaves-no_new_image : (P : List ℕ → Type 0) (old new : D) → Elapses moment images images_since old new → ((c : List ℕ) → images new c → images old c) → Leaves moment images_since P old new
-      Leaves-no_new_image P old new time none_new = record {
-        later = time.later;
-        each = λ t c early since. ⊎_elim (λ was. inl was) (λ now. inl (counts_now old t c early (none_new c now))) (time.no_others t c early since);
-      }
-
       -- what a crash may leave now is one of those images
       pub Leaves-images_now : (P : List ℕ → Type 0) (old new : D) → ((disk : D) (c : List ℕ) → images_since disk (moment disk) c → images disk c)
           → ((c : List ℕ) → images old c → P c) → Leaves moment images_since P old new → (c : List ℕ) → images new c → P c

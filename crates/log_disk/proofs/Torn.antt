@@ -1,6 +1,6 @@
 -- Writes that were cut short.
-use Rattle.std.proofs.Common.{◌≡◌, ◌≤◌, ◌<◌, ◌∙◌, sym, ap, refl, subst, ℕ, ◌+◌, ◌-◌, List, ◌++◌, length, take, drop, set, arith, append_assoc, length-append}
-use Rattle.std.proofs.lemmas.List.{take-set-le, drop-set-lt, length-set, drop-drop, length-take-le, length-drop, take_at, drop_at}
+use Rattle.std.proofs.Common.{◌≡◌, ◌≤◌, ◌∙◌, sym, ap, refl, subst, ℕ, ◌+◌, ◌-◌, List, ◌++◌, length, take, drop, arith, append_assoc, length-append}
+use Rattle.std.proofs.lemmas.List.{drop-drop, length-take-le, length-drop, take_at, drop_at}
 use Rattle.log_disk.specs.Disk.{put, IsTorn}
 
 -- the bytes as they were
@@ -41,12 +41,3 @@ IsTorn-put at n bytes old within shorter =
       no_shorter = omega (arith, written, long, length-drop (at + length bytes) old);
       no_longer = omega (arith, written, long, length-drop (at + length bytes) old);
     }
-
--- one byte of the range
-pub IsTorn-set : (at n i byte : ℕ) (old : List ℕ) → at ≤ i → i < at + n → IsTorn at n old (set old i byte)
-IsTorn-set at n i byte old low high = record {
-  before = take-set-le at old i byte low;
-  after = drop-set-lt (at + n) old i byte high;
-  no_shorter = omega (arith, length-set old i byte);
-  no_longer = omega (arith, length-set old i byte);
-}

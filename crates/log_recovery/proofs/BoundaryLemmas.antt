@@ -63,15 +63,6 @@ pub begins-at-boundary : (records : List Rec) → IsBoundary records 0
 begins-at-boundary records = front_is_boundary records 0 ([], records, refl, refl)
 
 module _ (begin : ℕ) (units rest : List ℕ) (at lsn : ℕ) (seeks : Seeks begin units rest at lsn) where
-  left-length : end_of seeks.done + length rest ≡ length units
-  left-length =
-      let parts = ap length (units_of-append seeks.done seeks.more) ∙ length-append (units_of seeks.done) (units_of seeks.more) in
-      omega (arith, ap length seeks.list.units_are, parts, ap length seeks.left)
-
-  -- the rest lies within the units
-  pub seeks-rest_reaches_end : at + length rest ≡ begin + length units
-  seeks-rest_reaches_end = omega (arith, left-length, seeks.place)
-
   spellable-left : AllByRecursion IsSpellable seeks.more
   spellable-left = (all-split IsSpellable seeks.done seeks.more seeks.list.spellable).1
 

@@ -1,5 +1,5 @@
 -- How the records of units are taken, one by one.
-use Rattle.std.proofs.Common.{◌≡◌, ◌≤◌, ℕ, ◌+◌, List, [], ◌∷◌, ◌++◌, length, drop, refl, ap, ◌∙◌, sym, subst, arith, length-append}
+use Rattle.std.proofs.Common.{◌≡◌, ◌≤◌, ℕ, ◌+◌, List, [], ◌∷◌, ◌++◌, length, drop, ap, ◌∙◌, sym, subst, arith, length-append}
 use Rattle.std.specs.List.{AllByRecursion}
 use Rattle.std.proofs.lemmas.List.{append-nil}
 use Rattle.log_record.specs.declared.rec.Rec.{Rec}
@@ -17,7 +17,7 @@ use Rattle.lock_core.specs.Faults.{IsFirstFailing, IsUnlawfulAt}
 use Rattle.lock_core.specs.Sums as sums
 use Rattle.lock_core.proofs.Fronts.{history_from-append, history_from-extends}
 use Rattle.log_recovery.specs.ListedRecords.{IsFront, IsRecords}
-use Rattle.log_recovery.specs.JudgedUnits.{HasTakenFront, HasTakenUnits, FailsBefore}
+use Rattle.log_recovery.specs.JudgedUnits.{HasTakenFront, FailsBefore}
 use Rattle.log_recovery.proofs.ListingLemmas.{end_from-history, front_records-push, front_and_rest-length}
 
 pub IsFront-step : (units rest after : List ℕ) (rec : Rec) → IsFront units rest → BeginsWith rest rec → after ≡ drop (length (spelling rec)) rest → IsFront units after
@@ -31,19 +31,8 @@ IsFront-IsRecords units rest empty front =
 
 -- what is taken of the units by what has taken lists so
 module _ {T : Type 0} (HasTaken : sums.Opening → T → List Placed → Type 0) where
-  pub taken-none : (opening : Opening) (units : List ℕ) (taker : T) → HasTaken (opening_of opening) taker [] → HasTakenFront HasTaken opening units units taker
-  taken-none opening units taker taken = record { records = []; each = tt; whole = refl; taken = taken }
-
   pub taken_front-IsFront : (opening : Opening) (units rest : List ℕ) (taker : T) → HasTakenFront HasTaken opening units rest taker → IsFront units rest
   taken_front-IsFront opening units rest taker front = record { records = front.records; each = front.each; whole = front.whole }
-
-  pub taken_front-HasTakenUnits : (opening : Opening) (units rest : List ℕ) (taker : T) → rest ≡ [] → HasTakenFront HasTaken opening units rest taker
-      → HasTakenUnits HasTaken opening units taker
-  taken_front-HasTakenUnits opening units rest taker empty front = record {
-    records = front.records;
-    list = record { spellable = front.each; units_are = front.whole ∙ ap (λ l. units_of front.records ++ l) empty ∙ append-nil (units_of front.records) };
-    taken = front.taken;
-  }
 
 module _ {T : Type 0} (HasTaken : sums.Opening → T → List Placed → Type 0) (opening : Opening) (units rest : List ℕ) (taker : T) (lsn : ℕ)
     (before : HasTakenFront HasTaken opening units rest taker) (place : lsn + length rest ≡ opening.lsn + length units) where

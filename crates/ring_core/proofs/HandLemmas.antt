@@ -1,5 +1,5 @@
 -- What the actors have in hand, after one of them changes it.
-use Rattle.std.proofs.Common.{◌≡◌, ◌≢◌, ◌⊎◌, inl, inr, ⊎_elim, ℕ, ◌==◌, cond, Bool, true, false, List, [], ◌∷◌, Some, None, ◌≤◌, arith, refl, sym, ap, ◌∙◌, eq-eqb, eqb-true, ne_eqb, subst}
+use Rattle.std.proofs.Common.{◌≡◌, ◌≢◌, ◌⊎◌, inl, inr, ⊎_elim, ℕ, ◌==◌, cond, Bool, true, false, List, [], ◌∷◌, Some, ◌≤◌, arith, refl, sym, ap, ◌∙◌, eq-eqb, eqb-true, ne_eqb, subst}
 use Rattle.std.specs.List.{find}
 use mathlib.Core.Logic.{dite}
 use native.Mathlib.Decide.{ℕ_discrete}
@@ -57,13 +57,6 @@ base_in-some (Works n) base is = let same : n ≡ base = cc in ap Works same
 base_in-some Marked base is = absurd (cc)
 base_in-some (Holds at) base is = absurd (cc)
 base_in-some (Raises at) base is = absurd (cc)
-
-pub base_in_none-worked_on_none : (stage : Stage) (rs : List Reservation) → base_in stage ≡ None → worked_on stage rs ≡ None
-base_in_none-worked_on_none Idle rs is = refl
-base_in_none-worked_on_none (Works n) rs is = absurd (cc)
-base_in_none-worked_on_none Marked rs is = refl
-base_in_none-worked_on_none (Holds at) rs is = refl
-base_in_none-worked_on_none (Raises at) rs is = refl
 
 pub looks_at-some : (stage : Stage) (place : ℕ) → looks_at stage ≡ Some place → stage ≡ Holds place
 looks_at-some Idle place is = absurd (cc)

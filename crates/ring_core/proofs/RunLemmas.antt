@@ -1,14 +1,14 @@
 -- The steps of a run, by what it writes.
-use Rattle.std.proofs.Common.{◌≡◌, ◌≢◌, ◌↔◌, ℕ, Bool, true, false, true≢false, IsTrue, List, Option, Some, None, refl, sym, ap, ◌∙◌, subst}
+use Rattle.std.proofs.Common.{◌≡◌, ◌≢◌, ◌↔◌, ℕ, Bool, true, false, true≢false, IsTrue, List, Option, Some, refl, sym, ap, ◌∙◌, subst}
 use Rattle.std.specs.Bool.{OnTrue, OnFalse}
 use Rattle.std.specs.List.{find}
-use Rattle.std.specs.Option.{IsSome, IsSomeAnd, is_some}
+use Rattle.std.specs.Option.{IsSomeAnd, is_some}
 use Rattle.ring_core.specs.declared.event.RingEvent.TheVariants.{Reserve, Fill, Mark, LookExposed, LookMark, Raise, Flushed}
 use Rattle.ring_core.specs.RingLog.{Reservation, RingLog, is_at, is_marked, HasUnfilled, filled, IsFull, marked, raised, MayFlush, flushed, reserved}
-use Rattle.ring_core.specs.State.{Stage, Idle, Works, Marked, Holds, Raises, Hand, RingState, log_of, state, stage_of, with_stage, base_in, looks_at, raises_from, after_look, worked_on, in_hand}
+use Rattle.ring_core.specs.State.{Stage, Works, Marked, Holds, Raises, Hand, RingState, log_of, state, stage_of, with_stage, base_in, looks_at, raises_from, after_look, worked_on, in_hand}
 use Rattle.ring_core.specs.Machine.{MayReserve, after_reserve, after_fill, after_mark, after_look_mark, after_raise, RingStep}
 use Rattle.ring_core.specs.Laws.{IsTrueHand, IsSound}
-use Rattle.ring_core.proofs.HandLemmas.{base_in-some, base_in_none-worked_on_none, raises_from-some}
+use Rattle.ring_core.proofs.HandLemmas.{base_in-some, raises_from-some}
 use Rattle.ring_core.proofs.RangeLemmas.{found-base, some_and-some}
 
 -- the actor works on the reservation at a base
@@ -36,12 +36,6 @@ module _ (now s : RingState) (is : s ≡ now) (actor base : ℕ) (works : base_i
         ap (λ z. state z s.hands) same,
       )
 
-  pub mark-refused : ¬ IsSomeAnd (find (is_at base) s.reservations) IsFull → (l : RingLog) → l ≡ log_of s → RingStep now (Mark actor) false (state l s.hands)
-  mark-refused unfilled l same = subst (λ z. RingStep z (Mark actor) false (state l s.hands)) is (
-    (λ enabled. unfilled (subst (λ o. IsSomeAnd o IsFull) in_hand-is enabled)),
-    ap (λ z. state z s.hands) same,
-  )
-
   pub mark-step : IsSomeAnd (find (is_at base) s.reservations) IsFull → (l : RingLog) (hands : List Hand) → l ≡ marked (log_of s) base → hands ≡ with_stage actor Marked s.hands
       → RingStep now (Mark actor) true (state l hands)
   mark-step full l hands done turned = subst (λ z. RingStep z (Mark actor) true (state l hands)) is (
@@ -50,20 +44,6 @@ module _ (now s : RingState) (is : s ≡ now) (actor base : ℕ) (works : base_i
         ∙ done-at IsFull (after_mark s actor) (λ b. state (marked (log_of s) b) (with_stage actor Marked s.hands)) (λ r. refl) full,
   )
 
-  pub works-not_idle : stage_of actor s.hands ≢ Idle
-  works-not_idle idle = let works_there = base_in-some (stage_of actor s.hands) base works in absurd (cc)
-
--- an actor that works on nothing neither fills nor marks
-module _ (now : RingState) (actor : ℕ) (nothing : base_in (stage_of actor now.hands) ≡ None) where
-  none-in_hand : in_hand now actor ≡ None
-  none-in_hand = base_in_none-worked_on_none (stage_of actor now.hands) now.reservations nothing
-
-  pub fill_none-refused : RingStep now (Fill actor) false now
-  fill_none-refused = ((λ enabled. subst (λ o. IsSomeAnd o HasUnfilled) none-in_hand enabled), refl)
-
-  pub mark_none-refused : RingStep now (Mark actor) false now
-  mark_none-refused = ((λ enabled. subst (λ o. IsSomeAnd o IsFull) none-in_hand enabled), refl)
-
 pub look_exposed-step : (now s : RingState) (is : s ≡ now) (actor at : ℕ) → stage_of actor s.hands ≡ Marked → at ≡ s.exposed → (hands : List Hand) → hands ≡ with_stage actor (Holds at) s.hands
     → RingStep now (LookExposed actor) true (state (log_of s) hands)
 look_exposed-step now s is actor at mark here hands turned = subst (λ z. RingStep z (LookExposed actor) true (state (log_of s) hands)) is (
@@ -71,21 +51,12 @@ look_exposed-step now s is actor at mark here hands turned = subst (λ z. RingSt
   ap (state (log_of s)) turned ∙ ap (λ n. state (log_of s) (with_stage actor (Holds n) s.hands)) here,
 )
 
-is_some-none : {o : Option ℕ} → o ≡ None → ¬ IsSome o
-is_some-none none is = true≢false (sym is ∙ ap is_some none)
-
-pub look_mark_none-refused : (now : RingState) (actor : ℕ) → looks_at (stage_of actor now.hands) ≡ None → RingStep now (LookMark actor) false now
-look_mark_none-refused now actor nothing = (is_some-none nothing, refl)
-
 pub look_mark-step : (now s : RingState) (is : s ≡ now) (actor at : ℕ) → looks_at (stage_of actor s.hands) ≡ Some at → (stage : Stage) → stage ≡ after_look at (is_marked at s.reservations)
     → (hands : List Hand) → hands ≡ with_stage actor stage s.hands → RingStep now (LookMark actor) true (state (log_of s) hands)
 look_mark-step now s is actor at looks stage after hands turned = subst (λ z. RingStep z (LookMark actor) true (state (log_of s) hands)) is (
   ap is_some looks,
   ap (state (log_of s)) turned ∙ ap (λ st. state (log_of s) (with_stage actor st s.hands)) after ∙ ap (after_look_mark s actor) (sym looks),
 )
-
-pub raise_none-refused : (now : RingState) (actor : ℕ) → raises_from (stage_of actor now.hands) ≡ None → RingStep now (Raise actor) false now
-raise_none-refused now actor nothing = (is_some-none nothing, refl)
 
 pub raise-step : (now s : RingState) (is : s ≡ now) (actor from at : ℕ) → raises_from (stage_of actor s.hands) ≡ Some from → (l : RingLog) → l ≡ raised (log_of s) from → at ≡ l.exposed
     → (hands : List Hand) → hands ≡ with_stage actor (Holds at) s.hands → RingStep now (Raise actor) true (state l hands)

@@ -1,11 +1,11 @@
 -- Logs with nothing before their list are the files of the first format.
-use Rattle.std.proofs.Common.{◌≡◌, inl, inr, ⊎_elim, ◌∙◌, ap, refl, ℕ, List, [], ◌∷◌, ◌++◌, length, arith, length-append}
+use Rattle.std.proofs.Common.{◌≡◌, ◌∙◌, ap, refl, ℕ, List, [], ◌∷◌, ◌++◌, length, arith, length-append}
 use Rattle.std.specs.List.{flat_map}
 use Rattle.segment_file.specs.declared.layout.TheConstants.{OPEN}
 use Rattle.segment_file.specs.declared.scan_result.Tail.{Tail}
 use Rattle.segment_file.specs.File.{magic, batch, gated, written, joined, BeginsOpen, IsFile, HoldsUnits}
 use Rattle.segment_file.specs.Log.{whole_log, IsFront, first_format, second_format, ReadsTo, HoldsLog}
-use Rattle.segment_file.specs.StandingLog.{StandsAt, AllStand, HoldsEither, LogStandsAt, LogStands, HoldsLogOrMore}
+use Rattle.segment_file.specs.StandingLog.{StandsAt, AllStand, LogStandsAt, LogStands}
 
 -- a file of the first format is read up to its last gate
 file-reads : (bytes units : List ℕ) (batches : List (List ℕ)) (rest : List ℕ) → IsFile bytes batches rest → units ≡ joined batches
@@ -60,23 +60,5 @@ StandsAt-LogStandsAt tail units bytes stands = record {
   next = omega (arith, stands.next);
 }
 
-pub LogStandsAt-StandsAt : (tail : Tail) (units bytes : List ℕ) → LogStandsAt tail (whole_log units) bytes → StandsAt tail units bytes
-LogStandsAt-StandsAt tail units bytes stands =
-    let of = log-file bytes units stands.held in
-    record {
-      batches = of.batches;
-      rest = stands.held.rest;
-      file = of.file;
-      units_are = of.units_are;
-      place = omega (arith, stands.place, ap length of.file.whole, length-append (written of.batches) stands.held.rest);
-      next = omega (arith, stands.next);
-    }
-
 pub AllStand-LogStands : (tail : Tail) (units : List ℕ) (images : List ℕ → Type 0) → AllStand tail units images → LogStands tail (whole_log units) images
 AllStand-LogStands tail units images stand c left = StandsAt-LogStandsAt tail units c (stand c left)
-
-pub LogStands-AllStand : (tail : Tail) (units : List ℕ) (images : List ℕ → Type 0) → LogStands tail (whole_log units) images → AllStand tail units images
-LogStands-AllStand tail units images stand c left = LogStandsAt-StandsAt tail units c (stand c left)
-
-pub HoldsLogOrMore-HoldsEither : (units more c : List ℕ) → HoldsLogOrMore (whole_log units) more c → HoldsEither units more c
-HoldsLogOrMore-HoldsEither units more c held = ⊎_elim (λ before. inl (HoldsLog-HoldsUnits c units before)) (λ whole. inr (HoldsLog-HoldsUnits c (units ++ more) whole)) held

@@ -12,12 +12,9 @@ use Rattle.lsn_space.specs.Unit.{unit_bytes, unit_value}
 use Rattle.segment_head.specs.Head.{head_magic}
 use Rattle.segment_head.proofs.HeadLemmas.{snapshot_bytes-append_injective}
 use Rattle.segment_file.specs.declared.layout.TheConstants.{OPEN}
-use Rattle.segment_file.specs.File.{magic, batch, gated, joined, IsCountedBatch, AreUnits, BeginsOpen, BeginsAsLog, HasNoBatch, HoldsUnits}
-use Rattle.segment_file.specs.Log.{Log, whole_log, log_end, IsFront, first_format, second_format, ReadsTo, HoldsLog, IsBadSnapshot, IsBadBatchBehind, IsBadBatch, first_batch, later_batch}
-use Rattle.segment_file.specs.StandingLog.{LogStandsAt}
-use Rattle.segment_file.specs.declared.scan_result.Tail.{Tail}
+use Rattle.segment_file.specs.File.{magic, batch, gated, joined, IsCountedBatch, AreUnits, BeginsOpen, BeginsAsLog, HasNoBatch}
+use Rattle.segment_file.specs.Log.{Log, log_end, IsFront, first_format, second_format, ReadsTo, HoldsLog, IsBadSnapshot, IsBadBatchBehind, IsBadBatch, first_batch, later_batch}
 use Rattle.segment_file.proofs.BatchLemmas.{count_at-batch}
-use Rattle.segment_file.proofs.FirstFormat.{HoldsUnits-HoldsLog}
 use Rattle.segment_file.proofs.FileLemmas.{open_byte-begins_open}
 
 -- units that stand at the same place are the same
@@ -168,11 +165,6 @@ one_reading-log bytes a b held also = by_sides (sides bytes a b held.rest also.r
     by_sides (longer c later is) = absurd (held.closed (next-open a held.rest (longer-next bytes a b held.rest also.rest held.reads also.reads c later is)))
     by_sides (shorter c later is) = absurd (also.closed (next-open b also.rest (longer-next bytes b a also.rest held.rest also.reads held.reads c later is)))
 
--- of the first format
-pub one_reading-units : (bytes us vs : List ℕ) → HoldsUnits bytes us → HoldsUnits bytes vs → us ≡ vs
-one_reading-units bytes us vs held also =
-    ap (λ (log : Log). log.units) (one_reading-log bytes (whole_log us) (whole_log vs) (HoldsUnits-HoldsLog bytes us held) (HoldsUnits-HoldsLog bytes vs also))
-
 -- what is read begins as a log
 reads-begins : (bytes : List ℕ) (log : Log) (rest : List ℕ) (reads : ReadsTo bytes log rest) → IsFront reads.front log.opening reads.first → BeginsAsLog bytes
 reads-begins bytes log rest reads (first_format nothing counted is) =
@@ -317,6 +309,3 @@ module _ (bytes : List ℕ) (log : Log) (a b : HoldsLog bytes log) where
 
       closed-prop : (rest : List ℕ) → IsProp (BeginsOpen rest → ⊥)
       closed-prop rest = hlevel
-
-pub LogStandsAt-prop : (tail : Tail) (log : Log) (bytes : List ℕ) → IsProp (LogStandsAt tail log bytes)
-LogStandsAt-prop tail log bytes = hlevel (props, HoldsLog-prop)

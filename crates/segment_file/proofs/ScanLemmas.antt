@@ -1,12 +1,12 @@
 -- What a scan reads, from what a file begins with to its last gate.
-use Rattle.std.proofs.Common.{◌≡◌, ◌≤◌, ⊎_elim, ◌∙◌, sym, ap, refl, subst, ℕ, ◌+◌, List, [], ◌∷◌, ◌++◌, length, drop, arith, append_assoc, length-append}
+use Rattle.std.proofs.Common.{◌≡◌, ◌≤◌, ◌∙◌, sym, ap, refl, subst, ℕ, ◌+◌, List, [], ◌∷◌, ◌++◌, length, arith, append_assoc, length-append}
 use Rattle.std.specs.List.{flat_map, AllByRecursion}
 use Rattle.lsn_space.specs.declared.lsn.TheConstants.{LAST}
 use Rattle.lsn_space.specs.Opening.{Opening, no_opening, IsSnapshot}
 use Rattle.segment_head.specs.Head.{head, head_magic, snapshot_bytes}
 use Rattle.segment_file.specs.declared.layout.TheConstants.{OPEN}
-use Rattle.segment_file.specs.File.{magic, batch, gated, joined, IsCountedBatch, BeginsAsFirst, BeginsAsLog, HasNoBatch}
-use Rattle.segment_file.specs.Log.{IsFront, first_format, second_format, ReadsTo, IsBadSnapshot}
+use Rattle.segment_file.specs.File.{magic, batch, gated, joined, IsCountedBatch, HasNoBatch}
+use Rattle.segment_file.specs.Log.{IsFront, first_format, second_format, ReadsTo}
 use Rattle.segment_file.specs.Taking.{TakesFront, TakesBatch}
 use Rattle.segment_file.proofs.FileLemmas.{gated-push_between, joined-push}
 
@@ -37,16 +37,6 @@ TakesFront-second_format bytes body units rest opening is held whole none = reco
   whole = is ∙ ap (λ list. OPEN ∷ head_magic ++ list) whole;
   total = omega (arith, held.lsn, ap length none);
 }
-
--- no head
-pub no_head-bad_snapshot : (bytes body : List ℕ) → bytes ≡ OPEN ∷ head_magic ++ body
-    → ((opening : Opening) (rest : List ℕ) → IsSnapshot opening → body ≡ snapshot_bytes opening ++ rest → ⊥) → IsBadSnapshot bytes
-no_head-bad_snapshot bytes body is none =
-    record { second = (body, is); none = λ opening rest held whole. none opening rest held (ap (drop 8) (sym is ∙ whole)) }
-
--- neither format
-pub no_log-neither : (bytes : List ℕ) → (BeginsAsFirst bytes → ⊥) → ((rest : List ℕ) → bytes ≡ OPEN ∷ head_magic ++ rest → ⊥) → BeginsAsLog bytes → ⊥
-no_log-neither bytes first second log = ⊎_elim first (λ begins. second begins.0 begins.1) log
 
 -- ---- batch by batch
 

@@ -35,6 +35,3 @@ module _ (tail : Tail) (log : Log) (file : List ℕ) (stands : LogStandsAt tail 
 module _ (found : Scan) (file : List ℕ) (images : List ℕ → Type 0) (scanned : Scans found file) (settled : IsOnlyImage file images) where
   pub scanned-stable : IsStableGate found.tail.at images
   scanned-stable = stands-stable found.tail (scanned_log found) file scanned images settled
-
-  pub scanned-stands : LogStands found.tail (scanned_log found) images
-  scanned-stands = only_image-LogStands found.tail (scanned_log found) file scanned images settled

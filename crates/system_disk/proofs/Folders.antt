@@ -25,10 +25,6 @@ module _ (path : List ℕ) (i j : ℕ) (found : RFindsChar SLASH path (Some (i, 
   here : get_or path i 0 ≡ SLASH
   here = found.1.byte (omega arith)
 
-  -- where one is found, there is one
-  pub found-contains_slash : Contains path SLASH
-  found-contains_slash = subst (Contains path) here (Contains-get_or path i 0 within)
-
   -- no slash is behind it, so the one before a name isn't
   not-behind : (front name : List ℕ) → path ≡ front ++ SLASH ∷ name → i < length front → ⊥
   not-behind front name is less =

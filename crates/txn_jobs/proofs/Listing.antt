@@ -88,9 +88,6 @@ adds-insert account old new i within is = subst (AddsAccount account old) (sym i
     cases other (zero, within, is) = inl (sym is)
     cases other (suc k, within, is) = inr (k, omega arith, is)
 
-none : ℕ × ℕ × ℕ
-none = (0, 0, 0)
-
 -- both accounts of one more leg
 module _ (legs : List (ℕ × ℕ × ℕ)) (i : ℕ) (within : i < length legs) (before between after : List ℕ)
     (first : AddsAccount (get_or legs i (0, 0, 0)).0 before between) (second : AddsAccount (get_or legs i (0, 0, 0)).1 between after) where

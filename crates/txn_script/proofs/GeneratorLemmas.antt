@@ -1,7 +1,6 @@
 -- Generated transfers.
-use Rattle.std.proofs.Common.{◌≡◌, ◌<◌, ◌≤◌, ℕ, zero, suc, ◌+◌, ◌-◌, List, [], ◌∷◌, ◌++◌, length, All, refl, ap, ◌∙◌, sym, arith, append_assoc}
+use Rattle.std.proofs.Common.{◌≡◌, ◌<◌, ℕ, zero, suc, ◌+◌, ◌-◌, List, [], ◌∷◌, ◌++◌, length, All, refl, ap, ◌∙◌, sym, arith, append_assoc}
 use Rattle.std.specs.List.{AllByRecursion}
-use Rattle.std.proofs.lemmas.List.{append-nil}
 use Rattle.std.proofs.lemmas.List.Elements.{All-from_recursion}
 use Rattle.lock_core.specs.declared.job.Job.{Job}
 use Rattle.txn_script.specs.Generator.{number_after, leg_from, job_from, generated_jobs}
@@ -14,10 +13,6 @@ generated_jobs-step made whole n i x within before =
     let left : n - i ≡ suc (n - (i + 1)) = omega arith in
     append_assoc made (job_from (number_after x) ∷ []) (generated_jobs (n - (i + 1)) (number_after x))
     ∙ ap (λ k. made ++ generated_jobs k x) (sym left) ∙ before
-
-pub generated_jobs-none_left : (made whole : List Job) (n i x : ℕ) → n ≤ i → made ++ generated_jobs (n - i) x ≡ whole → made ≡ whole
-generated_jobs-none_left made whole n i x all before =
-    let left : n - i ≡ 0 = omega arith in sym (append-nil made) ∙ ap (λ k. made ++ generated_jobs k x) (sym left) ∙ before
 
 pub length-generated : (n seed : ℕ) → length (generated_jobs n seed) ≡ n
 length-generated zero seed = refl

@@ -1,9 +1,9 @@
 -- Transfers as a script keeps them, and one more.
-use Rattle.std.proofs.Common.{◌≡◌, ◌∙◌, ap, refl, List, [], ◌∷◌, ◌++◌, length, map, All, length-append, arith}
+use Rattle.std.proofs.Common.{◌≡◌, ◌∙◌, ap, refl, List, [], ◌∷◌, ◌++◌, length, map, All}
 use Rattle.std.specs.List.{AllByRecursion}
 use Rattle.std.proofs.lemmas.List.{map-append, get_or_append_left}
 use Rattle.std.proofs.Math.Seq.{get_or-append_seam}
-use Rattle.std.proofs.lemmas.List.Elements.{All-weaker, recursion_from_All}
+use Rattle.std.proofs.lemmas.List.Elements.{recursion_from_All}
 use Rattle.lock_core.specs.declared.job.Job.{Job}
 use Rattle.txn_script.specs.declared.stored.Stored.{Stored}
 use Rattle.txn_script.specs.declared.stored.Stored.TheVariants.{Single, Long}
@@ -11,16 +11,9 @@ use Rattle.txn_script.specs.StoredJob.{job_stored, IsStored}
 
 -- beside more long ones
 module _ (long more : List Job) where
-  IsStored-append : (stored : Stored) → IsStored long stored → IsStored (long ++ more) stored
-  IsStored-append (Single leg) is = tt
-  IsStored-append (Long at) is = omega (arith, is, length-append long more)
-
   job_stored-append : (stored : Stored) → IsStored long stored → job_stored (long ++ more) stored ≡ job_stored long stored
   job_stored-append (Single leg) is = refl
   job_stored-append (Long at) is = get_or_append_left long more _ at is
-
-  pub all_stored-append : (list : List Stored) → All (IsStored long) list → All (IsStored (long ++ more)) list
-  all_stored-append = All-weaker (IsStored long) (IsStored (long ++ more)) IsStored-append
 
   pub jobs_stored-append : (list : List Stored) → All (IsStored long) list → map (job_stored (long ++ more)) list ≡ map (job_stored long) list
   jobs_stored-append list all = by_recursion list (recursion_from_All (IsStored long) list all)

@@ -35,15 +35,6 @@ LeadInside-comes nodes root txn at path places node inside within comes is other
     let there : at + places < length nodes = subst (λ n. at + n < length nodes) (sym way) (inside at path within) in
     (there, Comes-step nodes root (txn / ROOTS) txn at path (at + places) comes (subst (λ (n : Node). n.txn ≢ txn) (sym here) other) (ap (λ n. at + n) way) (omega arith) there)
 
-pub Comes-is_end : (nodes : List Node) (root txn : ℕ) (end : End) (node : Node) (places : ℕ) → end.at < length nodes → Comes nodes root (txn / ROOTS) txn end.at end.path
-    → node ≡ get_or nodes end.at node → places ≡ ahead node end.path → (node.txn ≢ txn → places ≡ 0) → IsEnd nodes root txn end
-Comes-is_end nodes root txn end node places within comes is led last = record {
-  inside = within;
-  comes = comes;
-  last = λ other. let here = get_or-no_node nodes end.at node within is in
-      ap (λ (n : Node). ahead n end.path) here ∙ sym led ∙ last (subst (λ (n : Node). n.txn ≢ txn) here other);
-}
-
 pub IsEnd-own_value : (nodes : List Node) (root txn : ℕ) (end : End) (node : Node) → IsEnd nodes root txn end → node ≡ get_or nodes end.at node → node.txn ≡ txn
     → Some node.value ≡ node_value nodes root (txn / ROOTS) txn
 IsEnd-own_value nodes root txn end node ends is own = let here = get_or-no_node nodes end.at node ends.inside is in
