@@ -1,5 +1,6 @@
 //! The line of an end record.
-ghost use Rattle.std.specs.Prelude.{◌≡◌, ◌+◌, [], IfSome, IfNone};
+ghost use Rattle.std.specs.Prelude.{◌≡◌, ◌≤◌, ◌+◌, ◌++◌, ◌∷◌, [], length, codes, IfSome, IfNone};
+ghost use Rattle.lsn_space.specs.Number.{number_text};
 ghost use Rattle.end_lines.specs.EndLines.{done_line, short_line, over_line, end_line, is_done, is_refused};
 
 use arrayvec::ArrayVec;
@@ -30,12 +31,8 @@ fn done(txn: u32, end: Lsn) -> Line
 {
     let mut line = ArrayVec::new();
     line.try_extend_from_slice(b"done ").unwrap();
-    line.try_extend_from_slice(decimal(txn as u64).as_slice())
-        .unwrap();
-    line.push(b' ');
-    line.try_extend_from_slice(decimal(end.units() as u64).as_slice())
-        .unwrap();
-    line.push(b'\n');
+    put_number(txn, b' ', &mut line);
+    put_number(end.units(), b'\n', &mut line);
     line
 }
 
@@ -43,34 +40,35 @@ fn done(txn: u32, end: Lsn) -> Line
 fn short(txn: u32, leg: u32, end: Lsn) -> Line
     ensures { result.items ≡ short_line txn leg end }
 {
-    let mut line = ArrayVec::new();
-    line.try_extend_from_slice(b"short ").unwrap();
-    line.try_extend_from_slice(decimal(txn as u64).as_slice())
-        .unwrap();
-    line.push(b' ');
-    line.try_extend_from_slice(decimal(leg as u64).as_slice())
-        .unwrap();
-    line.push(b' ');
-    line.try_extend_from_slice(decimal(end.units() as u64).as_slice())
-        .unwrap();
-    line.push(b'\n');
-    line
+    refused(b"short ", txn, leg, end)
 }
 
 #[tactic(auto, unfolding(crate::specs::EndLines::over_line))]
 fn over(txn: u32, leg: u32, end: Lsn) -> Line
     ensures { result.items ≡ over_line txn leg end }
 {
+    refused(b"over ", txn, leg, end)
+}
+
+fn refused(word: &[u8], txn: u32, leg: u32, end: Lsn) -> Line
+    requires { length word.now ≤ 6 }
+    ensures { result.items ≡ word.now ++ number_text txn ++ codes " " ++ number_text leg ++ codes " " ++ number_text end ++ codes "\n" }
+{
     let mut line = ArrayVec::new();
-    line.try_extend_from_slice(b"over ").unwrap();
-    line.try_extend_from_slice(decimal(txn as u64).as_slice())
-        .unwrap();
-    line.push(b' ');
-    line.try_extend_from_slice(decimal(leg as u64).as_slice())
-        .unwrap();
-    line.push(b' ');
-    line.try_extend_from_slice(decimal(end.units() as u64).as_slice())
-        .unwrap();
-    line.push(b'\n');
+    line.try_extend_from_slice(word).unwrap();
+    put_number(txn, b' ', &mut line);
+    put_number(leg, b' ', &mut line);
+    put_number(end.units(), b'\n', &mut line);
     line
+}
+
+/// Appends a number, and a byte behind it.
+fn put_number(n: u32, behind: u8, line: &mut Line)
+    requires { length line.old.items ≤ 50 }
+    ensures text { line.new.items ≡ line.old.items ++ number_text n ++ behind ∷ [] }
+    ensures short { length line.new.items ≤ length line.old.items + 21 }
+{
+    line.try_extend_from_slice(decimal(n as u64).as_slice())
+        .unwrap();
+    line.push(behind);
 }
