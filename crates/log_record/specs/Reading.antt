@@ -1,12 +1,17 @@
 -- What a header and the units after it spell.
-use Rattle.std.specs.Prelude.{◌≡◌, ℕ, List, ◌∷◌, Result, OnOk, OnErr}
+use Rattle.std.specs.Prelude.{◌≡◌, ◌⊎◌, ℕ, List, ◌∷◌, Result, OnOk, OnErr}
 use Rattle.log_record.specs.declared.header.Header.{Header}
+use Rattle.log_record.specs.declared.header.TheConstants.{COMMIT, SHORT, OVER}
 use Rattle.log_record.specs.declared.rec.Rec.{Rec}
 use Rattle.log_record.specs.Spelling.{header, spelling, IsSpellable}
 
 -- the unit of a header
 abbrev pub header_unit : Header → ℕ
 header_unit h = header h.kind h.units h.field h.txn
+
+-- the kind of an end record
+abbrev pub IsEndKind : ℕ → Type 0
+IsEndKind kind = (kind ≡ COMMIT) ⊎ (kind ≡ SHORT) ⊎ (kind ≡ OVER)
 
 -- the header and the units after it are the spelling of this record, and no more
 abbrev pub Spells : Header → List ℕ → Rec → Type 0

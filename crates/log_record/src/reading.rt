@@ -4,7 +4,7 @@ ghost use Rattle.std.specs.Prelude.{◌≡◌, ◌↔◌, ◌+◌, ℕ, List, []
 ghost use Rattle.log_record.specs.declared.rec.Rec.{Rec};
 ghost use Rattle.log_record.specs.Spelling.{spelling, IsTxn, IsLeg, BeginsWith};
 ghost use Rattle.log_record.specs.declared.header.TheConstants.{COMMIT, GENESIS, NOTE, OVER, SHORT, UPDATE};
-ghost use Rattle.log_record.specs.Reading.{header_unit, Reads};
+ghost use Rattle.log_record.specs.Reading.{header_unit, IsEndKind, Reads, Spells};
 
 use crate::header::{COMMIT, GENESIS, Header, NOTE, OVER, SHORT, UPDATE};
 use crate::limits::MOST_LEGS;
@@ -59,9 +59,7 @@ fn read_whole(header: Header, body: &[u64], rec: &mut Rec) -> Result<(), BadRec>
     match header.kind {
         GENESIS => genesis(header, body, rec),
         UPDATE => update(header, body, rec),
-        COMMIT => commit(header, body, rec),
-        SHORT => short(header, body, rec),
-        OVER => over(header, body, rec),
+        COMMIT | SHORT | OVER => end(header, body, rec),
         NOTE => note(header, body, rec),
         _ => Err(BadRec),
     }
@@ -108,49 +106,33 @@ fn update(header: Header, body: &[u64], rec: &mut Rec) -> Result<(), BadRec>
     Ok(())
 }
 
-fn commit(header: Header, body: &[u64], rec: &mut Rec) -> Result<(), BadRec>
-    requires kind { header.kind ≡ COMMIT }
+/// The end record of a transaction.
+fn end(header: Header, body: &[u64], rec: &mut Rec) -> Result<(), BadRec>
+    requires kind { IsEndKind header.kind }
     requires count { header.units ≡ 1 + length body.now }
     ensures { Reads header body.now rec.new result }
 {
     if !is_end(header, body) {
         return Err(BadRec);
     }
-    *rec = Rec::Commit {
-        txn: header.txn,
-        legs: header.field as u32,
-    };
+    *rec = end_of(header);
     Ok(())
 }
 
-fn short(header: Header, body: &[u64], rec: &mut Rec) -> Result<(), BadRec>
-    requires kind { header.kind ≡ SHORT }
-    requires count { header.units ≡ 1 + length body.now }
-    ensures { Reads header body.now rec.new result }
+/// The end record of this header, which has the number of legs, or of a leg, in its field.
+fn end_of(header: Header) -> Rec
+    requires kind { IsEndKind header.kind }
+    requires count { header.units ≡ 1 }
+    requires numbers { IsTxn header.txn × IsLeg header.field }
+    ensures { Spells header [] result }
 {
-    if !is_end(header, body) {
-        return Err(BadRec);
+    let txn = header.txn;
+    let number = header.field as u32;
+    match header.kind {
+        COMMIT => Rec::Commit { txn, legs: number },
+        SHORT => Rec::Short { txn, leg: number },
+        _ => Rec::Over { txn, leg: number },
     }
-    *rec = Rec::Short {
-        txn: header.txn,
-        leg: header.field as u32,
-    };
-    Ok(())
-}
-
-fn over(header: Header, body: &[u64], rec: &mut Rec) -> Result<(), BadRec>
-    requires kind { header.kind ≡ OVER }
-    requires count { header.units ≡ 1 + length body.now }
-    ensures { Reads header body.now rec.new result }
-{
-    if !is_end(header, body) {
-        return Err(BadRec);
-    }
-    *rec = Rec::Over {
-        txn: header.txn,
-        leg: header.field as u32,
-    };
-    Ok(())
 }
 
 /// Whether these are a header alone, of a transaction and with a number of legs, or of a leg, in its field.
