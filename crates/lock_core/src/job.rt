@@ -1,10 +1,10 @@
 //! A job: a transfer as a user asks for it.
-ghost use Rattle.std.specs.Prelude.{◌≡◌, ◌<◌, ◌≤◌, ◌++◌, ◌∷◌, [], length, ℕ, All, IsTrue, ◌↔◌, None, IfSome, IfNone};
+ghost use Rattle.std.specs.Prelude.{◌≡◌, ◌<◌, ◌≤◌, ◌++◌, ◌∷◌, [], length, ℕ, None, IfSome, IfNone};
 ghost use Rattle.log_record.specs.declared.limits.TheConstants.{MOST_LEGS};
-ghost use Rattle.log_record.specs.Spelling.{IsNoteText, IsPrintable};
+ghost use Rattle.log_record.specs.Spelling.{IsNoteText};
 
 use arrayvec::ArrayVec;
-use log_record::{LONGEST_NOTE, MOST_LEGS, Text};
+use log_record::{LONGEST_NOTE, MOST_LEGS, Text, is_printable};
 use std::marker::Model;
 
 /// A leg of a transfer: who pays, who receives, and how much. Contracts see the three, in this order.
@@ -210,10 +210,4 @@ impl Job {
         job.legs.push(leg);
         job
     }
-}
-
-fn is_printable(text: &[u8]) -> bool
-    ensures { IsTrue result ↔ All IsPrintable text.now }
-{
-    text.iter().all(|byte| matches!(*byte, 0x20..=0x7e))
 }

@@ -14,6 +14,7 @@ mod writing;
 pub use header::{COMMIT, Header, OVER, SHORT};
 pub use laws::{format_limits, log_list_laws, one_spelling, spelling_bounds};
 pub use limits::{LAST_TXN, MOST_LEGS};
+pub use note::is_printable;
 pub use reading::{read, read_into};
 pub use rec::{BadRec, Placed, Rec};
 pub use text::{LONGEST_NOTE, Text};

@@ -74,7 +74,8 @@ pub fn read_text(len: usize, units: &[u64]) -> Result<Text, BadRec>
     }
 }
 
-fn is_printable(text: &[u8]) -> bool
+/// Whether all bytes are printable ASCII.
+pub fn is_printable(text: &[u8]) -> bool
     ensures { IsTrue result ↔ All IsPrintable text.now }
 {
     text.iter().all(|byte| matches!(*byte, 0x20..=0x7e))
