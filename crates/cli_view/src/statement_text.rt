@@ -3,13 +3,12 @@ ghost use Rattle.std.specs.Prelude.{◌≡◌, ◌≤◌, ◌+◌, ◌++◌, len
 ghost use Rattle.std.specs.Io.KnownBytes.{Appends};
 ghost use Rattle.log_disk.specs.Faults.{HasCause};
 ghost use Rattle.log_disk.specs.Streams.{AppendsPart};
-ghost use Rattle.log_recovery.specs.Dump.{signed_text};
 ghost use Rattle.cli_view.specs.Reports.{entry_line, open_line, statement_lines};
 
 use ledger_view::{Entries, Entry};
 use log_disk::{OutputBlock, Sink, WriteFault};
 use log_recovery::{Line, put_end};
-use lsn_space::{Lsn, decimal};
+use lsn_space::Lsn;
 
 #[tactic(auto, unfolding(crate::specs::Reports::open_line))]
 fn first_line(balance: u32, line: &mut Line)
@@ -21,18 +20,6 @@ fn first_line(balance: u32, line: &mut Line)
     line.put_piece(b"open ");
 }
 
-/// Puts a number that may be below 0.
-fn put_signed(n: i64, line: &mut Line)
-    requires { length line.old ≤ 100 }
-    ensures text { line.new ≡ signed_text n ++ line.old }
-    ensures short { length line.new ≤ length line.old + 21 }
-{
-    line.put_piece(decimal(n.unsigned_abs()).as_slice());
-    if n < 0 {
-        line.put_byte(b'-');
-    }
-}
-
 #[tactic(auto, unfolding(crate::specs::Reports::entry_line))]
 fn line_of(entry: &Entry, line: &mut Line)
     ensures { line.new ≡ entry_line entry.now }
@@ -41,7 +28,7 @@ fn line_of(entry: &Entry, line: &mut Line)
     line.put_byte(b'\n');
     line.put_number(entry.balance);
     line.put_byte(b' ');
-    put_signed(entry.net, line);
+    line.put_signed(entry.net);
     line.put_byte(b' ');
     line.put_number(entry.txn);
     line.put_byte(b' ');

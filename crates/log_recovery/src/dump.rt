@@ -8,7 +8,7 @@ ghost use Rattle.log_record.specs.Spelling.{spelling, BeginsWith};
 ghost use Rattle.log_record.specs.declared.rec.Rec.{Rec};
 ghost use Rattle.lsn_space.specs.Number.{number_text};
 ghost use Rattle.log_recovery.specs.Dump.{dump_text, opening_lines, rec_text, record_line, row_line};
-ghost use Rattle.log_recovery.specs.Dump.{row_lines, signed_text, snapshot_line, update_text};
+ghost use Rattle.log_recovery.specs.Dump.{row_lines, snapshot_line, update_text};
 ghost use Rattle.log_disk.specs.Blocks.{PutsPiece};
 ghost use Rattle.log_recovery.specs.Recovery.{HasRecords, list_of};
 
@@ -221,21 +221,9 @@ fn put_update(txn: u32, account: u32, delta: i32, prev: Lsn, line: &mut Line)
 {
     line.put_number(prev.units());
     line.put_byte(b' ');
-    put_signed(delta, line);
+    line.put_signed(delta as i64);
     line.put_byte(b' ');
     put_pair(b"update ", txn, account, line);
-}
-
-/// Puts a number that may be below 0.
-fn put_signed(n: i32, line: &mut Line)
-    requires { length line.old ≤ 100 }
-    ensures text { line.new ≡ signed_text n ++ line.old }
-    ensures short { length line.new ≤ length line.old + 11 }
-{
-    line.put_number(n.unsigned_abs());
-    if n < 0 {
-        line.put_byte(b'-');
-    }
 }
 
 fn put_note(txn: u32, text: &[u8], line: &mut Line)

@@ -2,9 +2,11 @@
 
 ghost use Rattle.std.specs.Prelude.{◌≡◌, ◌≤◌, ◌<◌, ◌+◌, ◌++◌, ◌∷◌, [], length};
 ghost use Rattle.lsn_space.specs.Number.{number_text};
+ghost use Rattle.log_recovery.specs.Dump.{signed_text};
 ghost use Rattle.log_recovery.specs.declared.line.TheConstants.{LINE_BYTES};
 
 use itoa::write_digits;
+use lsn_space::decimal;
 use std::marker::Model;
 
 /// The most bytes of a line: a note has up to 200.
@@ -75,6 +77,18 @@ impl Line {
         ensures short { length self.new ≤ length self.old + 10 }
     {
         self.start = write_digits(n as u64, &mut self.bytes, self.start);
+    }
+
+    /// Puts the text of a number that may be below 0 before the others.
+    pub fn put_signed(&mut self, n: i64)
+        requires { length self.old + 21 ≤ LINE_BYTES }
+        ensures text { self.new ≡ signed_text n ++ self.old }
+        ensures short { length self.new ≤ length self.old + 21 }
+    {
+        self.put_piece(decimal(n.unsigned_abs()).as_slice());
+        if n < 0 {
+            self.put_byte(b'-');
+        }
     }
 
     /// The bytes.
