@@ -5,6 +5,10 @@ use Rattle.log_record.specs.declared.rec.Rec.{Rec}
 use Rattle.log_record.specs.LogList.{AreUnitsOf, units_of, end_of}
 use Rattle.log_record.specs.Spelling.{IsSpellable, BeginsWith}
 
+-- some units stand before this rest
+abbrev pub EndsWith : List ℕ → List ℕ → Type 0
+EndsWith units rest = (front : List ℕ) × (units ≡ front ++ rest)
+
 -- some records spell what stands before this rest of the units
 pub record IsFront (units rest : List ℕ) : Type 0 where
   pub records : List Rec

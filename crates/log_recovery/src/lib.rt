@@ -19,6 +19,7 @@ pub use line::{LINE_BYTES, Line};
 pub use list_result::Listed;
 pub use listing::listed;
 pub use lock_core::Why;
+pub use places::place_of;
 pub use recovery::{
     RecoverFault, Recovered, judged, one_answer, recover, recover_list, recover_owned,
     recovered_of, scan_fault, taken, taken_owned, units_fault,

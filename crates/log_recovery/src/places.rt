@@ -2,7 +2,7 @@
 
 ghost use Rattle.std.specs.Prelude.{◌≡◌, ◌+◌, ◌≤◌, length, IfSome, IfNone};
 ghost use Rattle.lsn_space.specs.declared.lsn.TheConstants.{LAST};
-ghost use Rattle.log_recovery.specs.ListedRecords.{IsFront, IsRecords, IsBadRecAt};
+ghost use Rattle.log_recovery.specs.ListedRecords.{EndsWith, IsFront, IsRecords, IsBadRecAt};
 
 use log_record::read;
 use lsn_space::{Lsn, Opening};
@@ -14,9 +14,9 @@ pub(crate) fn begin_of(opening: &Opening) -> Lsn
     opening.lsn
 }
 
-/// Where the rest of the units begins, of a list that begins at that LSN.
-pub(crate) fn place_of(begin: Lsn, units: &[u64], rest: &[u64]) -> Lsn
-    requires front { IsFront units.now rest.now }
+/// Where the rest of the units begins, of which the first stands at that LSN.
+pub fn place_of(begin: Lsn, units: &[u64], rest: &[u64]) -> Lsn
+    requires within { EndsWith units.now rest.now }
     requires fits { begin + length units.now ≤ LAST }
     ensures { result + length rest.now ≡ begin + length units.now }
 {

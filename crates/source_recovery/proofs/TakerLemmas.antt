@@ -9,12 +9,12 @@ use Rattle.log_record.specs.declared.rec.Placed.{Placed}
 use Rattle.log_record.specs.Spelling.{BeginsWith}
 use Rattle.lock_core.specs.declared.reason.Why.{Why}
 use Rattle.lock_core.specs.Sums as sums
-use Rattle.log_recovery.specs.ListedRecords.{IsFront}
+use Rattle.log_recovery.specs.ListedRecords.{EndsWith, IsFront}
 use Rattle.log_recovery.proofs.ListingLemmas.{front-IsBadRecAt}
 use Rattle.source_recovery.specs.declared.records.State.{State}
 use Rattle.source_recovery.specs.declared.records.State.TheVariants as state
 use Rattle.source_recovery.specs.declared.records.UnitsTaker.{UnitsTaker}
-use Rattle.source_recovery.specs.Passing.{EndsWith, ReadsFew}
+use Rattle.source_recovery.specs.Passing.{ReadsFew}
 use Rattle.source_recovery.specs.Taker.{IsBadFor, HasFailed, HasState, StandsAt}
 use Rattle.source_recovery.proofs.GrowthLemmas.{front-trans}
 

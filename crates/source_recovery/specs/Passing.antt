@@ -1,20 +1,17 @@
 -- How far records of units are passed.
-use Rattle.std.specs.Prelude.{◌≡◌, ◌<◌, ◌≤◌, ℕ, ◌+◌, List, ◌++◌, length}
+use Rattle.std.specs.Prelude.{◌≡◌, ◌<◌, ◌≤◌, ℕ, ◌+◌, List, length}
 use Rattle.lsn_space.specs.declared.lsn.TheConstants.{LAST}
 use Rattle.lsn_space.specs.Opening.{Opening}
 use Rattle.log_record.specs.declared.rec.Placed.{Placed}
 use Rattle.lock_core.specs.Sums as sums
 use Rattle.log_recovery.specs.JudgedUnits.{HasTakenFront, FailsBefore}
+use Rattle.log_recovery.specs.ListedRecords.{EndsWith}
 use Rattle.source_recovery.specs.declared.passing.Stop.{Stop}
 use Rattle.source_recovery.specs.declared.passing.Stop.TheVariants as stop
 use Rattle.source_recovery.specs.declared.records.State.{State}
 use Rattle.source_recovery.specs.declared.records.State.TheVariants as state
 use Rattle.source_recovery.specs.declared.records.UnitsTaker.{UnitsTaker}
 use Rattle.source_recovery.specs.Taker.{HasTakenTo, IsBadFor, StandsAt}
-
--- some units stand before this rest
-abbrev pub EndsWith : List ℕ → List ℕ → Type 0
-EndsWith units rest = (front : List ℕ) × (units ≡ front ++ rest)
 
 -- where the taker stood before these units it stands before their rest, but that a place at which no record begins may have fewer units
 -- behind it

@@ -5,11 +5,12 @@ ghost use Rattle.log_record.specs.declared.rec.Rec.{Rec};
 ghost use Rattle.log_record.specs.Spelling.{BeginsWith};
 ghost use Rattle.lsn_space.specs.Opening.{Opening};
 ghost use Rattle.lsn_space.specs.declared.lsn.TheConstants.{LAST};
-ghost use Rattle.log_recovery.specs.ListedRecords.{IsFront};
-ghost use Rattle.source_recovery.specs.Passing.{CanTake, EndsWith, IsShort, StopsAt};
+ghost use Rattle.log_recovery.specs.ListedRecords.{EndsWith, IsFront};
+ghost use Rattle.source_recovery.specs.Passing.{CanTake, IsShort, StopsAt};
 
 use lock_core::{JudgeFault, TakesRecords, Why};
 use log_record::{Rec, read_into};
+use log_recovery::place_of;
 use lsn_space::Lsn;
 
 /// Why no more records are taken.
@@ -24,15 +25,6 @@ pub(crate) enum Stop {
     Failed { lsn: Lsn, why: Why },
 
     NoMemory,
-}
-
-/// Where the rest of the units begins, of which the first stands at that LSN.
-pub(crate) fn place_of(first: Lsn, units: &[u64], rest: &[u64]) -> Lsn
-    requires within { EndsWith units.now rest.now }
-    requires fits { first + length units.now ≤ LAST }
-    ensures { result + length rest.now ≡ first + length units.now }
-{
-    Lsn::new(first.units() + (units.len() - rest.len()) as u32)
 }
 
 /// Leaves out so many units at the front.

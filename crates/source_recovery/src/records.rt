@@ -5,13 +5,14 @@ ghost use Rattle.log_record.specs.declared.units.TheConstants.{LONGEST_RECORD};
 ghost use Rattle.lsn_space.specs.Opening.{Opening, IsSnapshot};
 ghost use Rattle.lsn_space.specs.declared.lsn.TheConstants.{LAST};
 ghost use Rattle.log_recovery.specs.JudgedUnits.{HasTakenUnits, IsUnitsFaultOf};
-ghost use Rattle.source_recovery.specs.Passing.{EndsWith, PassesTo, ReadsFew, TakesFew};
+ghost use Rattle.log_recovery.specs.ListedRecords.{EndsWith};
+ghost use Rattle.source_recovery.specs.Passing.{PassesTo, ReadsFew, TakesFew};
 ghost use Rattle.source_recovery.specs.Taker.{AreNext, HasTakenTo, StandsAt};
 
-use crate::passing::{Stop, leave_out, place_of, read_records, take_records};
+use crate::passing::{Stop, leave_out, read_records, take_records};
 use lock_core::{TakesRecords, Why};
 use log_record::LONGEST_RECORD;
-use log_recovery::UnitsFault;
+use log_recovery::{UnitsFault, place_of};
 use lsn_space::{Lsn, NoMemory, Opening};
 use std::alloc::Global;
 

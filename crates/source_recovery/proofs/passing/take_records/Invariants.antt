@@ -1,7 +1,8 @@
 use Rattle.std.proofs.Common.{ℕ, List, length}
 use Rattle.lsn_space.specs.Opening.{Opening}
 use Rattle.log_recovery.specs.JudgedUnits.{HasTakenFront}
-use Rattle.source_recovery.specs.Passing.{CanTake, EndsWith}
+use Rattle.log_recovery.specs.ListedRecords.{EndsWith}
+use Rattle.source_recovery.specs.Passing.{CanTake}
 use Rattle.source_recovery.proofs.passing.take_records.Given as goal
 
 abbrev pub invariant-records : goal.invariant-records
