@@ -1,3 +1,4 @@
 pub mod InTurn
+pub mod RunPromise
 pub mod RunWitness
 pub mod Told

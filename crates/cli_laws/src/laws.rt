@@ -1,22 +1,15 @@
 //! Laws of the definitions. The functions do nothing.
 
-ghost use Rattle.std.specs.Prelude.{◌≡◌, ◌≢◌, ◌⊎◌, ◌++◌, ℕ, List, Option, None, ◌≤◌, ◌<◌, ◌+◌, ◌*◌, ◌/◌, [], Some, length, true};
+ghost use Rattle.std.specs.Prelude.{◌≡◌, ◌≢◌, ◌⊎◌, ◌++◌, ℕ, List, Option, ◌≤◌, ◌<◌, ◌+◌, ◌*◌, ◌/◌, [], Some, length, true};
 ghost use Rattle.std.specs.Io.KnownBytes.{Appends};
 ghost use Rattle.std.specs.List.{AllByRecursion};
-ghost use mathlib.Core.Option.{some};
-ghost use lib.ListN.{get_elem?};
 ghost use Rattle.log_record.specs.declared.rec.Rec.{Rec};
 ghost use Rattle.log_rule.specs.declared.start.Start.{Start};
 ghost use Rattle.log_rule.specs.declared.view.View.{View};
-ghost use Rattle.log_rule.specs.ClosedLog.{records_of};
 ghost use Rattle.log_table.specs.Seats.{IsOf};
 ghost use Rattle.commit_pipeline.specs.declared.daemon.Daemon.{Daemon};
-ghost use Rattle.commit_pipeline.specs.Later.{HasReason};
-ghost use Rattle.commit_pipeline.specs.Turning.{IsSameDaemon};
 ghost use Rattle.job_queue.specs.Takings.{times};
 ghost use Rattle.txn_jobs.specs.Places.{NumberedJobs, number_at};
-ghost use Rattle.txn_jobs.specs.declared.cause.Cause.{Cause};
-ghost use Rattle.txn_jobs.specs.declared.cause.Worked.{Worked};
 ghost use Rattle.commit_pipeline.specs.EndLines.{done_in, done_line, refused_in};
 ghost use Rattle.lock_core.specs.History.{history_from};
 ghost use Rattle.lock_core.specs.Serial.{numbered, IsSerialAfter};
@@ -33,13 +26,14 @@ ghost use Rattle.txn_script.specs.Generator.{generated_balance, generated_transf
 ghost use Rattle.cli_reports.specs.Answers.{AnswersRecover};
 ghost use Rattle.cli_shared.specs.Answers.{status_of};
 ghost use Rattle.cli_shared.specs.Creation.{new_list};
-ghost use Rattle.cli_threads.specs.Run.{GoesOn, HoldsRun, RunKeepsLog, RunIsDrained, RunsWhole};
+ghost use Rattle.cli_threads.specs.Run.{GoesOn, HoldsRun};
 ghost use Rattle.cli_run.specs.RunAnswers.{HoldsTold, run_text};
 ghost use Rattle.cli_shared.specs.Outside.{Outside};
-ghost use Rattle.cli_threads.specs.RunStops.{EndsAs, IsTotalAmong, StopsAtLogEnd};
+ghost use Rattle.cli_threads.specs.RunStops.{EndsAs, IsTotalAmong};
 ghost use Rattle.cli_laws.specs.InTurn.{IsUnended};
+ghost use Rattle.cli_laws.specs.RunPromise.{KeepsPromise};
 ghost use Rattle.cli_laws.specs.RunWitness.{HasMadePayment, HasHitLogEnd, file_at, plain_disk, plain_sink};
-ghost use Rattle.cli_threads.specs.Shares.{Share, sharing_of};
+ghost use Rattle.cli_threads.specs.Shares.{Share};
 ghost use Rattle.cli_threads.specs.Sharing.{IsSharedOut, Sharing};
 ghost use Rattle.cli_laws.specs.Told.{HasLine, HasCommitAt, HasToldPayment};
 ghost use Rattle.cli_threads.specs.Transferred.{HasTransferred};
@@ -67,48 +61,12 @@ pub fn run_is_recovered()
         → Appends old new (accounts_text (with_records opened held.front)) }
 {}
 
-/// A law: what is known of a run once all seats are gathered gives what it promises. Of the records that it inserted, in order,
-/// each image holds a prefix behind the opened list, and all of them where the log was drained. A stop word cut a worker
-/// off only where there is a fault, and a fault has its reason.
+/// A law: what is known of a run once all seats are gathered gives what it promises.
 pub fn run_keeps_log<D: LogDisk, K: Sink>()
     ensures keeps { (opened : OpenedList) (jobs : NumberedJobs) (front : ℕ) (shares : List Share) (key : Start)
         (old new : Daemon D K D.LogDisk K.Sink) (view : View) (lsn : ℕ) (rows : List (ℕ × ℕ))
         → HasTransferred D.LogDisk K.Sink opened jobs front shares key old new view lsn rows
-        → RunKeepsLog D.LogDisk old.voice opened jobs (sharing_of front shares) (records_of view.entries) old.flusher.tail.at key.ring
-        old.flusher.disk.now new.flusher.disk.now
-        (K.held_bytes old.sink.now) (K.held_bytes new.sink.now) }
-    ensures drained { (opened : OpenedList) (jobs : NumberedJobs) (front : ℕ) (shares : List Share) (key : Start)
-        (old new : Daemon D K D.LogDisk K.Sink) (view : View) (lsn : ℕ) (rows : List (ℕ × ℕ))
-        → HasTransferred D.LogDisk K.Sink opened jobs front shares key old new view lsn rows
-        → new.fault ≡ None
-        → RunIsDrained D.LogDisk old.voice opened (records_of view.entries) old.flusher.tail.at key.ring
-        old.flusher.disk.now new.flusher.disk.now
-        (K.held_bytes old.sink.now) (K.held_bytes new.sink.now) lsn rows }
-    ensures whole { (opened : OpenedList) (jobs : NumberedJobs) (front : ℕ) (shares : List Share) (key : Start)
-        (old new : Daemon D K D.LogDisk K.Sink) (view : View) (lsn : ℕ) (rows : List (ℕ × ℕ))
-        → HasTransferred D.LogDisk K.Sink opened jobs front shares key old new view lsn rows
-        → AllByRecursion (λ (share : Share). share.worked ≡ Worked.All) shares → RunsWhole opened jobs (records_of view.entries) }
-    ensures log_end { (opened : OpenedList) (jobs : NumberedJobs) (front : ℕ) (shares : List Share) (key : Start)
-        (old new : Daemon D K D.LogDisk K.Sink) (view : View) (lsn : ℕ) (rows : List (ℕ × ℕ))
-        → HasTransferred D.LogDisk K.Sink opened jobs front shares key old new view lsn rows
-        → new.fault ≡ None
-        → (worker : ℕ) (taken : List ℕ) (tail total : ℕ)
-        → get_elem? shares worker ≡ some (record { taken = taken; worked = Worked.Cut (Cause.LogEnd tail total) })
-        → StopsAtLogEnd opened jobs (sharing_of front shares) (records_of view.entries) key.ring key.slots tail total }
-    ensures stop { (opened : OpenedList) (jobs : NumberedJobs) (front : ℕ) (shares : List Share) (key : Start)
-        (old new : Daemon D K D.LogDisk K.Sink) (view : View) (lsn : ℕ) (rows : List (ℕ × ℕ))
-        → HasTransferred D.LogDisk K.Sink opened jobs front shares key old new view lsn rows
-        → new.fault ≡ None
-        → (worker : ℕ) (taken : List ℕ) (word : ℕ)
-        → get_elem? shares worker ≡ some (record { taken = taken; worked = Worked.Cut (Cause.Stop word) }) → ⊥ }
-    ensures reason { (opened : OpenedList) (jobs : NumberedJobs) (front : ℕ) (shares : List Share) (key : Start)
-        (old new : Daemon D K D.LogDisk K.Sink) (view : View) (lsn : ℕ) (rows : List (ℕ × ℕ))
-        → HasTransferred D.LogDisk K.Sink opened jobs front shares key old new view lsn rows
-        → HasReason D.LogDisk K.Sink old new }
-    ensures same { (opened : OpenedList) (jobs : NumberedJobs) (front : ℕ) (shares : List Share) (key : Start)
-        (old new : Daemon D K D.LogDisk K.Sink) (view : View) (lsn : ℕ) (rows : List (ℕ × ℕ))
-        → HasTransferred D.LogDisk K.Sink opened jobs front shares key old new view lsn rows
-        → IsSameDaemon D.LogDisk old new }
+        → KeepsPromise D.LogDisk K.Sink opened jobs front shares key old new view lsn rows }
 {}
 
 /// A law: of transfers that were shared out among so many workers at most as many have records and no end record in any list that the
