@@ -58,7 +58,7 @@ pub fn is_idle(stage: Stage) -> bool
 }
 
 /// Whether this is a mark just made.
-pub fn is_mark(stage: Stage) -> bool
+pub fn is_marked(stage: Stage) -> bool
     ensures { IsTrue result ↔ stage ≡ Marked }
 {
     match stage {
@@ -68,7 +68,7 @@ pub fn is_mark(stage: Stage) -> bool
 }
 
 /// The base that an actor works on which has this in hand.
-pub fn base_worked_on(stage: Stage) -> Option<Lsn>
+pub fn base_in(stage: Stage) -> Option<Lsn>
     ensures { result ≡ base_in stage }
 {
     match stage {
@@ -78,7 +78,7 @@ pub fn base_worked_on(stage: Stage) -> Option<Lsn>
 }
 
 /// The LSN at whose mark an actor is about to look which has this in hand.
-pub fn lsn_to_look_at(stage: Stage) -> Option<Lsn>
+pub fn looks_at(stage: Stage) -> Option<Lsn>
     ensures { result ≡ looks_at stage }
 {
     match stage {
@@ -88,7 +88,7 @@ pub fn lsn_to_look_at(stage: Stage) -> Option<Lsn>
 }
 
 /// The LSN from which an actor is about to raise exposed which has this in hand.
-pub fn lsn_to_raise_from(stage: Stage) -> Option<Lsn>
+pub fn raises_from(stage: Stage) -> Option<Lsn>
     ensures { result ≡ raises_from stage }
 {
     match stage {

@@ -12,6 +12,7 @@ mod run;
 mod stage;
 
 pub use event::RingEvent;
+pub use hand::{base_in, is_idle, is_marked, looks_at, raises_from, stage_after_look};
 pub use laws::ring_laws;
 pub use ring_log::RingLog;
 pub use run::RingRun;

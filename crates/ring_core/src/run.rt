@@ -7,8 +7,8 @@ ghost use Rattle.ring_core.specs.declared.event.RingEvent.TheVariants.{Reserve, 
 
 use crate::event::RingEvent;
 use crate::hand::{
-    Hand, base_worked_on, is_idle, is_mark, lsn_to_look_at, lsn_to_raise_from, stage_after_look,
-    stage_in_hand, take_up, turn_to,
+    Hand, base_in, is_idle, is_marked, looks_at, raises_from, stage_after_look, stage_in_hand,
+    take_up, turn_to,
 };
 use crate::ring_log::RingLog;
 use crate::stage::Stage;
@@ -89,7 +89,7 @@ impl RingRun {
     fn fill(&mut self, by: u32) -> bool
         ensures { RingStep self.old (Fill by) result self.new }
     {
-        let Some(base) = base_worked_on(stage_in_hand(&self.hands, by)) else {
+        let Some(base) = base_in(stage_in_hand(&self.hands, by)) else {
             return false;
         };
         self.log.fill(base)
@@ -98,7 +98,7 @@ impl RingRun {
     fn mark(&mut self, by: u32) -> bool
         ensures { RingStep self.old (Mark by) result self.new }
     {
-        let Some(base) = base_worked_on(stage_in_hand(&self.hands, by)) else {
+        let Some(base) = base_in(stage_in_hand(&self.hands, by)) else {
             return false;
         };
         if !self.log.mark(base) {
@@ -111,7 +111,7 @@ impl RingRun {
     fn look_exposed(&mut self, by: u32) -> bool
         ensures { RingStep self.old (LookExposed by) result self.new }
     {
-        if !is_mark(stage_in_hand(&self.hands, by)) {
+        if !is_marked(stage_in_hand(&self.hands, by)) {
             return false;
         }
         let at = self.log.exposed();
@@ -122,7 +122,7 @@ impl RingRun {
     fn look_mark(&mut self, by: u32) -> bool
         ensures { RingStep self.old (LookMark by) result self.new }
     {
-        let Some(at) = lsn_to_look_at(stage_in_hand(&self.hands, by)) else {
+        let Some(at) = looks_at(stage_in_hand(&self.hands, by)) else {
             return false;
         };
         let stage = stage_after_look(at, self.log.is_marked(at));
@@ -134,7 +134,7 @@ impl RingRun {
     fn raise(&mut self, by: u32) -> bool
         ensures { RingStep self.old (Raise by) result self.new }
     {
-        let Some(from) = lsn_to_raise_from(stage_in_hand(&self.hands, by)) else {
+        let Some(from) = raises_from(stage_in_hand(&self.hands, by)) else {
             return false;
         };
         self.log.raise(from);

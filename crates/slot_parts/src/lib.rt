@@ -6,7 +6,4 @@ mod phase;
 mod task;
 
 pub use phase::{GroupPhase, Outcome};
-pub use task::{
-    LONGEST_PIECE, MemberStage, Membership, Task, base_in, is_idle, is_marked, looks_at,
-    piece_numbers, raises_from,
-};
+pub use task::{LONGEST_PIECE, MemberStage, Membership, Task, piece_numbers};

@@ -1,11 +1,9 @@
 //! What an actor of the group machine does next.
 ghost use Rattle.std.specs.Prelude.{◌≡◌, ◌↔◌, IsTrue, Some};
-ghost use Rattle.ring_core.specs.State.{base_in, looks_at, raises_from};
 ghost use Rattle.slot_parts.specs.declared.task.TheConstants.{LONGEST_PIECE};
-ghost use Rattle.slot_parts.specs.Tasks.{Idle, Marked, nothing, membership, ring_stage, reopening, HasUnfilledPiece, HasDone, next_stage, stage_filled, stage_heard, at_stage, in_ring, task_emptying};
+ghost use Rattle.slot_parts.specs.Tasks.{nothing, membership, ring_stage, reopening, HasUnfilledPiece, HasDone, next_stage, stage_filled, stage_heard, at_stage, in_ring, task_emptying};
 
 use crate::phase::Outcome;
-use lsn_space::Lsn;
 use ring_core::Stage;
 
 /// The most units that a member brings into its group: those of the longest record.
@@ -192,61 +190,5 @@ impl Task {
             reopens: Some(slot),
             stage,
         }
-    }
-}
-
-/// Whether an actor at this stage has nothing to do in the ring.
-pub fn is_idle(stage: Stage) -> bool
-    ensures { IsTrue result ↔ (stage ≡ Idle) }
-{
-    match stage {
-        Stage::Idle => true,
-        Stage::Works { .. } => false,
-        Stage::Marked => false,
-        Stage::Holds { .. } => false,
-        Stage::Raises { .. } => false,
-    }
-}
-
-/// Whether an actor at this stage has just made a mark.
-pub fn is_marked(stage: Stage) -> bool
-    ensures { IsTrue result ↔ (stage ≡ Marked) }
-{
-    match stage {
-        Stage::Idle => false,
-        Stage::Works { .. } => false,
-        Stage::Marked => true,
-        Stage::Holds { .. } => false,
-        Stage::Raises { .. } => false,
-    }
-}
-
-/// The base of the range that an actor at this stage works on.
-pub fn base_in(stage: Stage) -> Option<Lsn>
-    ensures { result ≡ base_in stage }
-{
-    match stage {
-        Stage::Works { base } => Some(base),
-        _ => None,
-    }
-}
-
-/// The LSN at whose mark an actor at this stage is about to look.
-pub fn looks_at(stage: Stage) -> Option<Lsn>
-    ensures { result ≡ looks_at stage }
-{
-    match stage {
-        Stage::Holds { at } => Some(at),
-        _ => None,
-    }
-}
-
-/// The LSN from which an actor at this stage is about to raise exposed.
-pub fn raises_from(stage: Stage) -> Option<Lsn>
-    ensures { result ≡ raises_from stage }
-{
-    match stage {
-        Stage::Raises { at } => Some(at),
-        _ => None,
     }
 }

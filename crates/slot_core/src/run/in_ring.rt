@@ -1,6 +1,5 @@
 //! The events of the ring machine.
 ghost use Rattle.std.specs.Prelude.{◌≡◌, ◌↔◌, IsTrue, IfOk, OnErr};
-ghost use Rattle.ring_core.specs.State.{after_look};
 ghost use Rattle.slot_core.specs.Machine.{Ring, IsRingEnabled, GroupStep};
 ghost use Rattle.slot_core.specs.Run.{MayNeedMemoryInRing};
 ghost use Rattle.ring_core.specs.declared.event.RingEvent.TheVariants.{Reserve, Mark, LookExposed, LookMark, Raise, Flushed};
@@ -8,8 +7,8 @@ ghost use Rattle.ring_core.specs.declared.event.RingEvent.TheVariants.{Reserve, 
 use crate::hand::{take_up, turn};
 use crate::run::SlotRun;
 use lsn_space::{Lsn, NoMemory};
-use ring_core::{RingEvent, Stage};
-use slot_parts::{Task, base_in, is_marked, looks_at, raises_from};
+use ring_core::{RingEvent, Stage, base_in, is_marked, looks_at, raises_from, stage_after_look};
+use slot_parts::Task;
 
 impl SlotRun {
     pub(super) fn apply_ring(&mut self, event: RingEvent) -> Result<bool, NoMemory>
@@ -103,16 +102,5 @@ impl SlotRun {
         let at = self.log.exposed();
         turn(&mut self.hands, by, task.in_ring(Stage::Holds { at }));
         true
-    }
-}
-
-/// What an actor has in hand that has looked whether the range at `at` is marked: where it is, exposed is to be raised from there.
-fn stage_after_look(at: Lsn, is_marked: bool) -> Stage
-    ensures { result ≡ after_look at is_marked }
-{
-    if is_marked {
-        Stage::Raises { at }
-    } else {
-        Stage::Idle
     }
 }

@@ -6,7 +6,8 @@ ghost use Rattle.ring_core.specs.declared.event.RingEvent.TheVariants.{Fill};
 
 use crate::hand::turn;
 use crate::run::SlotRun;
-use slot_parts::{MemberStage, Membership, Task, base_in, is_idle};
+use ring_core::{base_in, is_idle};
+use slot_parts::{MemberStage, Membership, Task};
 
 impl SlotRun {
     pub(super) fn hear(&mut self, by: u32) -> bool

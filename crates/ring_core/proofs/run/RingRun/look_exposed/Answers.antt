@@ -11,7 +11,7 @@ use Rattle.ring_core.proofs.run.RingRun.look_exposed.Goals as goal
 
 pub returns : goal.returns
 returns c = look_exposed-step c.args.self.now (state_of c.self.inside) c.self.view_is c.args.by c.exposed-at.result
-    (sym (c.stage_in_hand.ensures ∙ ap (stage_of c.args.by) c.deref.ensures.value) ∙ c.if-not-is_mark.ensures.0 refl)
+    (sym (c.stage_in_hand.ensures ∙ ap (stage_of c.args.by) c.deref.ensures.value) ∙ c.if-not-is_marked.ensures.0 refl)
     c.exposed-at.ensures (with_items c.self.inside.hands c.turn_to.new.hands).items
     (with_items_is c.self.inside.hands c.turn_to.new.hands (c.turn_to.auto.hands ∙ c.deref_mut.ensures.len)
     ∙ c.turn_to.ensures ∙ ap (with_stage c.args.by (Holds c.exposed-at.result)) c.deref_mut.ensures.value)
