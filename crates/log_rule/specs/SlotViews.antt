@@ -119,6 +119,17 @@ slot_in (Holding at after) = 0
 slot_in (Raising from to after) = 0
 slot_in (Reopening slot) = slot
 
+-- the call, where it is a member's with its step changed so
+abbrev pub map_step : (MemberStep → MemberStep) → Call → Call
+map_step change Idle = Idle
+map_step change (Filling entry) = Filling entry
+map_step change (Joined slot piece step) = Joined slot piece (change step)
+map_step change (Emptying slot base total) = Emptying slot base total
+map_step change (Marked after) = Marked after
+map_step change (Holding at after) = Holding at after
+map_step change (Raising from to after) = Raising from to after
+map_step change (Reopening slot) = Reopening slot
+
 -- the step of a leader that closes its group of this total at that one of its steps
 abbrev pub step_closed : ℕ → ℕ → MemberStep → MemberStep
 step_closed total closed Closes = Places total closed
@@ -131,14 +142,7 @@ step_closed total closed (Fills base units) = Fills base units
 step_closed total closed (Leaves tail durable) = Leaves tail durable
 
 abbrev pub call_closed : ℕ → ℕ → Call → Call
-call_closed total closed Idle = Idle
-call_closed total closed (Filling entry) = Filling entry
-call_closed total closed (Joined slot piece step) = Joined slot piece (step_closed total closed step)
-call_closed total closed (Emptying slot base units) = Emptying slot base units
-call_closed total closed (Marked after) = Marked after
-call_closed total closed (Holding at after) = Holding at after
-call_closed total closed (Raising from to after) = Raising from to after
-call_closed total closed (Reopening slot) = Reopening slot
+call_closed total closed call = map_step (step_closed total closed) call
 
 -- after a swap of the slot's state that closed the group there, and found this word
 abbrev pub closed_slot : ℕ → View → View
@@ -166,14 +170,7 @@ step_reserved base (Fills old units) = Fills old units
 step_reserved base (Leaves tail durable) = Leaves tail durable
 
 abbrev pub call_reserved : ℕ → Call → Call
-call_reserved base Idle = Idle
-call_reserved base (Filling entry) = Filling entry
-call_reserved base (Joined slot piece step) = Joined slot piece (step_reserved base step)
-call_reserved base (Emptying slot old total) = Emptying slot old total
-call_reserved base (Marked after) = Marked after
-call_reserved base (Holding at after) = Holding at after
-call_reserved base (Raising from to after) = Raising from to after
-call_reserved base (Reopening slot) = Reopening slot
+call_reserved base call = map_step (step_reserved base) call
 
 -- after an exchange of the tail by which a leader reserved for its group; the new tail counts as seen
 abbrev pub reserved_group : ℕ → ℕ → View → View
@@ -221,14 +218,7 @@ step_stored tail durable (Fills base units) = Fills base units
 step_stored tail durable (Leaves old seen) = Leaves old seen
 
 abbrev pub call_stored : ℕ → ℕ → Call → Call
-call_stored tail durable Idle = Idle
-call_stored tail durable (Filling entry) = Filling entry
-call_stored tail durable (Joined slot piece step) = Joined slot piece (step_stored tail durable step)
-call_stored tail durable (Emptying slot base total) = Emptying slot base total
-call_stored tail durable (Marked after) = Marked after
-call_stored tail durable (Holding at after) = Holding at after
-call_stored tail durable (Raising from to after) = Raising from to after
-call_stored tail durable (Reopening slot) = Reopening slot
+call_stored tail durable call = map_step (step_stored tail durable) call
 
 -- after a store of the slot's base
 abbrev pub stored_base : View → View
@@ -246,14 +236,7 @@ step_published (Fills base units) = Fills base units
 step_published (Leaves tail durable) = Leaves tail durable
 
 abbrev pub call_published : Call → Call
-call_published Idle = Idle
-call_published (Filling entry) = Filling entry
-call_published (Joined slot piece step) = Joined slot piece (step_published step)
-call_published (Emptying slot base total) = Emptying slot base total
-call_published (Marked after) = Marked after
-call_published (Holding at after) = Holding at after
-call_published (Raising from to after) = Raising from to after
-call_published (Reopening slot) = Reopening slot
+call_published call = map_step step_published call
 
 -- after a store of the slot's state that told the group
 abbrev pub published : View → View
