@@ -1,4 +1,4 @@
-use Rattle.std.proofs.Common.{true, false, ◌∙◌, sym, refl}
+use Rattle.std.proofs.Common.{rules, true, false, ◌∙◌, sym, refl}
 use Rattle.std.proofs.lemmas.Bool.{false≢true, true≢false}
 use Rattle.consol_array.proofs.Freed.{LetsGo-freed}
 use Rattle.consol_array.proofs.releasing.release.Goals as goal
@@ -12,6 +12,9 @@ returns-then-remaining-filled-clause-released c = record {
   emptied = λ is. absurd (false≢true is);
   rest = λ _. refl;
 }
+
+pub empty-requires-clause-emptying : goal.empty-requires-clause-emptying
+empty-requires-clause-emptying c = search rules steps 3000000
 
 pub returns-clause-released : goal.returns-clause-released
 returns-clause-released c = record {
