@@ -1,5 +1,5 @@
 -- Where nothing stands in its way, `run` succeeds, or comes to the end of the log.
-use Rattle.std.proofs.Common.{◌≡◌, ◌≤◌, refl, ap, subst, ℕ, ◌+◌, List, length, Option, Some, None, IfSome, arith}
+use Rattle.std.proofs.Common.{◌≡◌, ◌≤◌, ap, subst, ℕ, ◌+◌, List, length, Option, Some, None, arith}
 use Rattle.command_line.specs.declared.options.RunOptions.{RunOptions}
 use Rattle.log_disk.specs.declared.disk.LogDisk.{Ghosts}
 use Rattle.log_record.specs.declared.limits.TheConstants.{LAST_TXN}
@@ -16,6 +16,7 @@ use Rattle.cli_shared.specs.declared.report.Detail.TheVariants.{Fine, NoMemory, 
 use Rattle.cli_run.specs.RunAnswers.{AnswersRun, IsFirstOutside, IsRunDone, RunsOutOfNumbers, accounts_of, next_txn}
 use Rattle.cli_shared.specs.Outside.{Outside, outside}
 use Rattle.log_recovery.proofs.OpenedLemmas.{held-accounts_le_most}
+use Rattle.cli_top.specs.Commands.{IsFaultless, ShowsList}
 use Rattle.cli_top.proofs.Faultless.{IsMemory, HoldsLawful-fault_is_memory}
 
 module _ {D : Type 0} (g : Ghosts D) (options : RunOptions) (disk disk_new : D) (bytes : List ℕ) (left_new text text_new : Option (List ℕ))
@@ -53,32 +54,27 @@ module _ {D : Type 0} (g : Ghosts D) (options : RunOptions) (disk disk_new : D) 
   lawful : (f : RecoverFault) → IsFaultOf (g.reads disk) f → IsMemory f
   lawful f = HoldsLawful-fault_is_memory (g.reads disk) opened f held
 
-  run-done : (detail : Detail) → AnswersRun g options old new detail → (detail ≡ Read → ⊥) → (detail ≡ Write → ⊥) → (detail ≡ Disk → ⊥)
-      → IsRunDone detail
-  run-done Fine answers read write failed = tt
-  run-done NoMemory answers read write failed = tt
-  run-done (LogEnd tail total) answers read write failed = tt
-  run-done Read answers read write failed = read refl
-  run-done Write answers read write failed = write refl
-  run-done Disk answers read write failed = failed refl
-  run-done (Script line) answers read write failed = script-whole line answers.1
-  run-done (TxnEnd first count) answers read write failed = numbers-left first count answers.1
-  run-done NotALog answers read write failed = lawful fault.NotALog answers.1
-  run-done BadSnapshot answers read write failed = lawful fault.BadSnapshot answers.1
-  run-done (BadBatch offset) answers read write failed = lawful (fault.BadBatch offset) answers.1
-  run-done (BadRec lsn) answers read write failed = lawful (fault.BadRec lsn) answers.1
-  run-done (Unlawful lsn why) answers read write failed = lawful (fault.Unlawful lsn why) answers.1
-  run-done detail answers read write failed = answers
+  run-done : (detail : Detail) → AnswersRun g options old new detail → IsFaultless detail → IsRunDone detail
+  run-done Fine answers faultless = tt
+  run-done NoMemory answers faultless = tt
+  run-done (LogEnd tail total) answers faultless = tt
+  run-done Read answers faultless = faultless
+  run-done Write answers faultless = faultless
+  run-done Disk answers faultless = faultless
+  run-done (Script line) answers faultless = script-whole line answers.1
+  run-done (TxnEnd first count) answers faultless = numbers-left first count answers.1
+  run-done NotALog answers faultless = lawful fault.NotALog answers.1
+  run-done BadSnapshot answers faultless = lawful fault.BadSnapshot answers.1
+  run-done (BadBatch offset) answers faultless = lawful (fault.BadBatch offset) answers.1
+  run-done (BadRec lsn) answers faultless = lawful (fault.BadRec lsn) answers.1
+  run-done (Unlawful lsn why) answers faultless = lawful (fault.Unlawful lsn why) answers.1
+  run-done detail answers faultless = answers
 
 pub run-complete : {D : Type 0} (g : Ghosts D) (options : RunOptions) (disk disk_new : D) (left left_new text text_new : Option (List ℕ))
-    (ReadFails WriteFails DiskFails : Type 0) (detail : Detail)
-    → AnswersRun g options (outside disk left text) (outside disk_new left_new text_new) detail
-    → (detail ≡ Read → ReadFails) → (detail ≡ Write → WriteFails) → (detail ≡ Disk → DiskFails)
-    → IfSome left (λ bytes. (opened : OpenedList) (jobs : List Job) → HoldsLawful (g.reads disk) opened
-    → IsScriptText (accounts_of opened) bytes jobs → next_txn opened + length jobs ≤ LAST_TXN
-    → (ReadFails → ⊥) → (WriteFails → ⊥) → (DiskFails → ⊥) → IsRunDone detail)
-run-complete g options disk disk_new None left_new text text_new R W F detail answers reads writes disks = tt
-run-complete g options disk disk_new (Some bytes) left_new text text_new R W F detail answers reads writes disks =
-    λ opened jobs held script numbers r w d.
-    run-done g options disk disk_new bytes left_new text text_new opened held jobs script numbers detail answers
-    (λ is. r (reads is)) (λ is. w (writes is)) (λ is. d (disks is))
+    (detail : Detail) → AnswersRun g options (outside disk left text) (outside disk_new left_new text_new) detail
+    → ShowsList left (λ bytes list. HoldsLawful (g.reads disk) list
+    × (jobs : List Job) × IsScriptText (accounts_of list) bytes jobs × (next_txn list + length jobs ≤ LAST_TXN))
+    → IsFaultless detail → IsRunDone detail
+run-complete g options disk disk_new None left_new text text_new detail answers found faultless = absurd found
+run-complete g options disk disk_new (Some bytes) left_new text text_new detail answers found faultless =
+    run-done g options disk disk_new bytes left_new text text_new found.0 found.1.0 found.1.1 found.1.2 found.1.3 detail answers faultless
