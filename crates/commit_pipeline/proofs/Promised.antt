@@ -141,7 +141,7 @@ module _ {D : Type 0} {K : Type 0} (g : Ghosts D) (h : SinkGhosts K) (old new : 
   Ran-appends_prefix = prefix-certain (h.held_bytes old.sink.now) (h.held_bytes new.sink.now) (text_of old.voice (durable old) ran.more)
       (∥∥₁_elim new.told squash₁ (λ has. ∣ told-prefix has ∣₁))
 
-  -- and all of them where nothing befell the daemon
+  -- and all of them where the daemon has no fault
   pub Ran-appends_all : new.fault ≡ None
       → Appends (h.held_bytes old.sink.now) (h.held_bytes new.sink.now) (text_of old.voice (durable old) ran.more)
   Ran-appends_all fine =

@@ -248,7 +248,7 @@ pub Later-same_daemon : {D : Type 0} {K : Type 0} (g : Ghosts D) (h : SinkGhosts
 Later-same_daemon g h a b (inl same) = subst (IsSameDaemon g a) (sym same) (IsSameDaemon-refl g a)
 Later-same_daemon g h a b (inr ran) = ran.same
 
--- what befell it since nothing had, has its reason
+-- its fault since it had none has its reason
 pub Later-reason : {D : Type 0} {K : Type 0} (g : Ghosts D) (h : SinkGhosts K) (a b : Daemon D K g h) → Later g h a b → a.fault ≡ None
     → HasReason g h a b
 Later-reason g h a b (inl same) was_fine = subst (λ d. HasReason g h a d) (sym same) (record {

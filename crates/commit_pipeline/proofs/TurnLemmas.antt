@@ -23,7 +23,7 @@ MayTurn-may_go_on g d ready = record { flusher = ready.flusher; running = ready.
 
 module _ {D : Type 0} {K : Type 0} (g : Ghosts D) (h : SinkGhosts K) (old : Daemon D K g h) (f : Flusher D g) (sink : K) (tally : Tally)
     (told : ∥ HasTold h old.first.value sink old.voice (view_of old.begun.value) (view_of f.seat) ∥₁) where
-  -- the daemon with these parts, and what befell it
+  -- the daemon with these parts, and this fault
   abbrev pub next : Option DaemonFault → Daemon D K g h
   next fault = record old { flusher = f; sink = record old.sink { now = sink }; tally = tally; fault = fault; told = told }
 

@@ -39,7 +39,7 @@ StopTells old new None = (view_of new.flusher.seat).sending.stop ≡ (view_of ol
 StopTells old new (Some DiskFault) = (view_of new.flusher.seat).sending.stop ≡ stop_word DiskFault
 StopTells old new (Some WriteFault) = ((view_of new.flusher.seat).sending.stop ≡ stop_word WriteFault) × (old.voice ≡ Lines)
 
--- What befell the daemon has its reason: the stop word tells it, and the object that it names counted one fault. No other fault was
+-- The daemon's fault has its reason: the stop word tells it, and the object that it names counted one fault. No other fault was
 -- counted.
 pub record HasReason {D : Type 0} {K : Type 0} (g : Ghosts D) (h : SinkGhosts K) (old new : Daemon D K g h) : Type 0 where
   pub stop : StopTells old new new.fault
@@ -59,7 +59,7 @@ place_of d = d.flusher.tail.at
 abbrev pub ring_of : {D : Type 0} → {K : Type 0} → {g : Ghosts D} → {h : SinkGhosts K} → Daemon D K g h → ℕ
 ring_of d = (view_of d.flusher.seat).constants.ring
 
--- Turns of a daemon to which nothing had befallen. `more` are the records that they sent, and `cut` those in flight at a fault of the
+-- Turns of a daemon that had no fault. `more` are the records that they sent, and `cut` those in flight at a fault of the
 -- disk. At each moment an image holds the log that stood at the tail and a prefix of them. At a fault of the sink the end records of a
 -- prefix of them were counted, and a part of the lines is written, not all. No call that failed was made again. The tail moved, and the
 -- file grew, by at most 13 bytes for each unit sent, and the file by one batch in flight more.

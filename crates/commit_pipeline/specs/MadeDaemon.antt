@@ -9,7 +9,7 @@ use Rattle.flusher.specs.declared.flusher.Flusher.{Flusher}
 use Rattle.commit_pipeline.specs.declared.daemon.Daemon.{Daemon}
 use Rattle.commit_pipeline.specs.Told.{HasToldAll}
 
--- It has these parts, and the sink was so when it was made. Nothing has befallen it, and it has counted and written nothing.
+-- It has these parts, and the sink was so when it was made. It has no fault, and has counted and written nothing.
 pub record IsDaemonOf {D K : Type 0} {g : Ghosts D} (h : SinkGhosts K) (own : Flusher D g) (lent : MutBor K) (speaks : Voice) (before : K)
     (made : Daemon D K g h) : Type 0 where
   pub flusher : made.flusher ≡ own

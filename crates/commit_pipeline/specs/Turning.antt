@@ -39,7 +39,7 @@ GoesOn (Behind exposed durable) = ⊤
 abbrev pub HasCounted : {D : Type 0} → {K : Type 0} → {g : Ghosts D} → {h : SinkGhosts K} → Daemon D K g h → Type 0
 HasCounted d = d.tally.done + d.tally.refused ≤ length (sent_of d.flusher)
 
--- a turn may be made: a flush may be, nothing has befallen the daemon, it has not stopped the log, it has counted no more end records
+-- a turn may be made: a flush may be, the daemon has no fault, it has not stopped the log, it has counted no more end records
 -- than units were sent, and the lines of all that was sent are written
 pub record MayTurn {D : Type 0} {K : Type 0} {h : SinkGhosts K} (g : Ghosts D) (d : Daemon D K g h) : Type 0 where
   pub flusher : MayFlush g d.flusher
@@ -63,7 +63,7 @@ pub record IsSameDaemon {D : Type 0} {K : Type 0} {h : SinkGhosts K} (g : Ghosts
   pub first : new.first.value ≡ old.first.value
   pub begun : new.begun.value ≡ old.begun.value
 
--- the flusher, and what befell the daemon, may be others, and nothing else is
+-- the flusher and the daemon's fault may be others, and nothing else is
 abbrev pub ChangesFlusher : {D : Type 0} → {K : Type 0} → {g : Ghosts D} → {h : SinkGhosts K} → Option DaemonFault → Daemon D K g h
     → Daemon D K g h → Type 0
 ChangesFlusher fault old new = (told : _) × (new ≡ record old { flusher = new.flusher; fault = fault; told = told })

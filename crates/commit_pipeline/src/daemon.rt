@@ -36,7 +36,7 @@ impl<'a, D: LogDisk, K: Sink> Daemon<'a, D, K> {
     ghost use Rattle.commit_pipeline.specs.MadeDaemon.{IsDaemonOf};
     ghost use Rattle.commit_pipeline.specs.Turning.{ChangesFlusher, HasCounted, durable};
 
-    /// A daemon to which nothing has befallen, and which has counted and written nothing.
+    /// A daemon that has no fault, and has counted and written nothing.
     pub fn make(flusher: Flusher<'a, D>, sink: &'a mut K, voice: Voice) -> Daemon<'a, D, K>
         ensures { IsDaemonOf K.Sink flusher.entry sink.entry voice sink.old result }
     {
@@ -98,7 +98,7 @@ impl<'a, D: LogDisk, K: Sink> Daemon<'a, D, K> {
         self.tally.refused
     }
 
-    /// What befell the daemon.
+    /// The daemon's fault, if it has one.
     pub fn fault(&self) -> Option<DaemonFault>
         ensures { result ≡ self.now.fault }
     {

@@ -3,7 +3,7 @@ use commit_pipeline::Daemon;
 use log_disk::{LogDisk, Sink};
 use txn_runner::Relief;
 
-/// A daemon that makes a turn at each rest, until something befalls it. The daemon keeps what befell it.
+/// A daemon that makes a turn at each rest, until it has a fault, which it keeps.
 #[derive(Drop)]
 pub struct FlushingRelief<'a, D: LogDisk, K: Sink> {
     pub daemon: Daemon<'a, D, K>,

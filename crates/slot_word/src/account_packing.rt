@@ -7,13 +7,13 @@ use crate::account_word::AccountWord;
 /// Where the held bit stands in the word.
 const HELD_AT: u64 = 63;
 
-/// Where the balance begins in the word. The mark stands below it.
+/// Where the balance begins in the word. The last commit is below it.
 const BALANCE_AT: u64 = 32;
 
 /// The bits of a balance.
 const BALANCE_BITS: u64 = 0x7fff_ffff;
 
-/// The bits of a mark.
+/// The bits of a last commit.
 const MARK_BITS: u64 = 0xffff_ffff;
 
 impl AccountWord {
