@@ -1,5 +1,5 @@
 -- The steps on an account's word, and the load of stop with which a seat takes a job.
-use Rattle.std.proofs.Common.{◌≡◌, inr, ℕ, ◌+◌, ◌≤◌, ◌<◌, cond, eqb, ◌||◌, ◌^◌, Bool, false, true≢false, List, [], ◌∷◌, length, map, set, Result, Ok, Err, OnOk, IfErr, sym, refl, ap, ◌∙◌, subst, eq-eqb, ne_eqb}
+use Rattle.std.proofs.Common.{◌≡◌, inr, ℕ, ◌+◌, ◌≤◌, ◌<◌, cond, eqb, ◌||◌, ◌^◌, Bool, false, true≢false, List, [], ◌∷◌, length, map, set, sym, refl, ap, ◌∙◌, subst, eq-eqb, ne_eqb}
 use Rattle.std.specs.List.{AllByRecursion}
 use mathlib.Core.Logic.{dite}
 use mathlib.Core.Option.{some}
@@ -180,12 +180,3 @@ module _ (key : Start) (me : ℕ) (v : View) where
         (given_as account v) record { balance = refl; committed = refl; tail = sees-front words views log s at }
         (word_of word) (held_back word.held word.balance word.mark word-fits.0 word-fits.1 ∙ may.free) may.gives s.accounts);
   }
-
--- what holds whatever the answer is
-pub on_ok-if_holds : {A : Type 0} {E : Type 0} (answer : Result A E) (P : Type 0) → P → OnOk answer P
-on_ok-if_holds (Ok x) P holds = holds
-on_ok-if_holds (Err e) P holds = tt
-
-pub if_err-if_all_hold : {A : Type 0} {E : Type 0} (answer : Result A E) (P : E → Type 0) → ((e : E) → P e) → IfErr answer P
-if_err-if_all_hold (Ok x) P holds = tt
-if_err-if_all_hold (Err e) P holds = holds e

@@ -1,5 +1,5 @@
 -- Lists of books, the accounts that they hold and the jobs that they took.
-use Rattle.std.proofs.Common.{◌≡◌, ◌≢◌, ℕ, zero, suc, ◌==◌, ◌+◌, ◌≤◌, cond, Bool, true, false, List, [], ◌∷◌, ◌++◌, length, map, set, sym, refl, ap, ◌∙◌, subst, ⊎_elim, arith, eq-eqb, ne_eqb}
+use Rattle.std.proofs.Common.{◌≡◌, ◌≢◌, ℕ, zero, suc, ◌==◌, ◌+◌, ◌≤◌, cond, Bool, true, false, List, [], ◌∷◌, ◌++◌, map, set, sym, refl, ap, ◌∙◌, subst, ⊎_elim, arith, eq-eqb, ne_eqb}
 use Rattle.std.specs.List.{AllByRecursion}
 use mathlib.Core.Logic.{dite}
 use mathlib.Core.Option.{some, some-injective}
@@ -128,29 +128,6 @@ times_held-without_other account other (x ∷ xs) differ = dite (ℕ_discrete x.
     ap (λ b. times_held other (cond b xs (x ∷ without account xs))) (eq-eqb x.account account same) in omega arith)
     (λ apart. ap (λ b. times_held other (cond b xs (x ∷ without account xs))) (ne_eqb x.account account apart)
     ∙ ap (λ n. cond (x.account == other) 1 0 + n) (times_held-without_other account other xs differ))
-
-pub balance_taken-without_other : (account other : ℕ) (list : List Taken) → other ≢ account → balance_taken (without account list) other ≡ balance_taken list other
-balance_taken-without_other account other [] differ = refl
-balance_taken-without_other account other (x ∷ xs) differ = dite (ℕ_discrete x.account account)
-    (λ same. ap (λ b. balance_taken (cond b xs (x ∷ without account xs)) other) (eq-eqb x.account account same)
-    ∙ sym (ap (λ b. cond b x.balance (balance_taken xs other)) (ne_eqb x.account other (λ e. differ (sym e ∙ same)))))
-    (λ apart. ap (λ b. balance_taken (cond b xs (x ∷ without account xs)) other) (ne_eqb x.account account apart)
-    ∙ ap (λ n. cond (x.account == other) x.balance n) (balance_taken-without_other account other xs differ))
-
-pub last_commit_taken-without_other : (account other : ℕ) (list : List Taken) → other ≢ account → last_commit_taken (without account list) other ≡ last_commit_taken list other
-last_commit_taken-without_other account other [] differ = refl
-last_commit_taken-without_other account other (x ∷ xs) differ = dite (ℕ_discrete x.account account)
-    (λ same. ap (λ b. last_commit_taken (cond b xs (x ∷ without account xs)) other) (eq-eqb x.account account same)
-    ∙ sym (ap (λ b. cond b x.last_commit (last_commit_taken xs other)) (ne_eqb x.account other (λ e. differ (sym e ∙ same)))))
-    (λ apart. ap (λ b. last_commit_taken (cond b xs (x ∷ without account xs)) other) (ne_eqb x.account account apart)
-    ∙ ap (λ n. cond (x.account == other) x.last_commit n) (last_commit_taken-without_other account other xs differ))
-
-pub length-without : (account : ℕ) (list : List Taken) → 1 ≤ times_held account list → length (without account list) + 1 ≡ length list
-length-without account [] has = absurd (omega arith)
-length-without account (x ∷ xs) has = dite (ℕ_discrete x.account account)
-    (λ same. let gone = ap (λ b. length (cond b xs (x ∷ without account xs))) (eq-eqb x.account account same) in omega arith)
-    (λ apart. let none = cond-zero_if_unequal x.account account apart in let more = length-without account xs (omega arith) in
-    let kept = ap (λ b. length (cond b xs (x ∷ without account xs))) (ne_eqb x.account account apart) in omega arith)
 
 pub all-without : (P : Taken → Type 0) (account : ℕ) (list : List Taken) → AllByRecursion P list → AllByRecursion P (without account list)
 all-without P account [] all = tt

@@ -1,5 +1,5 @@
 -- What makes a seat contended, and by what it is so no more.
-use Rattle.std.proofs.Common.{◌≡◌, ℕ, ◌+◌, ◌/◌, ◌^◌, ◌<◌, ◌==◌, ◌&&◌, nat_eq, nat_le, nat_lt, cond, Bool, true, false, length, refl, ap, ◌∙◌, arith, eq-eqb, lt-ltb, leb-true}
+use Rattle.std.proofs.Common.{◌≡◌, ℕ, ◌+◌, ◌/◌, ◌^◌, ◌<◌, ◌==◌, ◌&&◌, nat_eq, nat_le, cond, Bool, true, false, length, refl, ap, ◌∙◌, arith, eq-eqb, leb-true}
 use Rattle.std.proofs.Math.Bool.{and-false}
 use Rattle.slot_word.specs.declared.phase.Phase.{Phase}
 use Rattle.slot_word.specs.declared.phase.Phase.TheVariants.{Gathering}
@@ -8,14 +8,6 @@ use Rattle.log_record.specs.Spelling.{spelling}
 use Rattle.log_rule.specs.declared.view.View.{View}
 use Rattle.log_rule.specs.Books.{next_of}
 use Rattle.log_rule.specs.SlotViews.{own_slot_of, is_joinable, contended_seeing}
-use Rattle.log_rule.specs.Views.{contended_alone}
-
--- an exchange that was lost, without slots and with them
-pub contended_alone-slotless : (view : View) → view.constants.slots ≡ 0 → contended_alone view ≡ view.contended
-contended_alone-slotless view none = ap (λ n. cond (nat_lt 0 n) true view.contended) none
-
-pub contended_alone-slotted : (view : View) → 0 < view.constants.slots → contended_alone view ≡ true
-contended_alone-slotted view some = ap (λ b. cond b true view.contended) (lt-ltb 0 view.constants.slots some)
 
 -- a seat that isn't contended becomes so by no look at a slot
 pub contended_seeing-uncontended : (slot word : ℕ) (view : View) → view.contended ≡ false → contended_seeing slot word view ≡ false

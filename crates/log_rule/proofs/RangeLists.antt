@@ -18,12 +18,6 @@ pub tiles-split : (most from to : ℕ) (ls rs : List LogRange) (r : LogRange) �
 tiles-split most from to [] rs r t = (sym t.0, t.1, t.2, subst (λ z. Tiles most (z + r.size) rs to) (sym t.0) t.3)
 tiles-split most from to (l ∷ ls) rs r t = let h = tiles-split most (from + l.size) to ls rs r t.3 in ((t.0, t.1, t.2, h.0), h.1, h.2, h.3)
 
--- the range that starts where the tiling does is the first
-pub tiles-none_before_start : (most from to : ℕ) (ls rs : List LogRange) (r : LogRange) → Tiles most from (ls ++ r ∷ rs) to → r.base ≡ from → ls ≡ []
-tiles-none_before_start most from to [] rs r t e = refl
-tiles-none_before_start most from to (l ∷ ls) rs r t e = let h =
-    tiles-split most (from + l.size) to ls rs r t.3 in absurd (omega (arith, tiles-le most (from + l.size) r.base ls h.0, t.1, e))
-
 -- each range of a tiling lies between its ends
 pub tiles-within : (P Q : LogRange → Type 0) (most from to : ℕ) (ranges : List LogRange) → Tiles most from ranges to → AllByRecursion P ranges
     → ((q : LogRange) → P q → 1 ≤ q.size → from ≤ q.base → q.base + q.size ≤ to → Q q) → AllByRecursion Q ranges

@@ -12,9 +12,9 @@ use Rattle.lsn_space.proofs.UnitLemmas.{length-unit_bytes}
 use Rattle.log_record.specs.declared.rec.Rec.{Rec}
 use Rattle.log_record.specs.LogList.{units_of, end_of, AreUnitsOf}
 use Rattle.log_record.proofs.LogListLemmas.{end_of-append}
-use Rattle.ship_stream.specs.Came.{Came, HasCome, IsBegun, count_begun, units_begun, IsBadBehind, IsWhole}
+use Rattle.ship_stream.specs.Came.{Came, HasCome, IsBegun, count_begun, units_begun, IsBadBehind}
 use Rattle.ship_stream.specs.Came.Came.{NoHead, Open, Whole}
-use Rattle.ship_stream.specs.Stream.{stream_magic, head_bytes, counted_bytes, frame_bytes, end_bytes, records_of, frames_end, IsFrame, HasFrames, HasNoFrame}
+use Rattle.ship_stream.specs.Stream.{stream_magic, head_bytes, counted_bytes, frame_bytes, records_of, frames_end, IsFrame, HasFrames, HasNoFrame}
 use Rattle.ship_stream.specs.declared.layout.TheConstants.{MOST_FRAME_UNITS}
 use Rattle.ship_stream.proofs.FrameLemmas.{same_number, same_units, units_of-below_64_bits, length-head, length-frame}
 use Rattle.ship_stream.proofs.StreamLemmas.{begun-no_frame, begun-no_end}
@@ -148,25 +148,6 @@ module _ (at next room : ℕ) (units begun past : List ℕ) where
   unfinished-bad_behind (Units count) (Whole first frames) going r = absurd r.stage_is
   unfinished-bad_behind End (Whole first frames) going r = absurd (going refl)
 
-  pub stage_end-whole : (came : Came) → ReadsAt End at next room units begun past came → IsWhole came
-  stage_end-whole NoHead r = absurd r.stage_is
-  stage_end-whole (Open first frames) r = absurd r.stage_is
-  stage_end-whole (Whole first frames) r = tt
-
--- behind the end nothing may follow
-pub stage_end-more_bad : (at next room : ℕ) (units begun past piece after : List ℕ) (came : Came)
-    → ReadsAt End at next room units begun past came → 0 < length piece
-    → IsBadBehind came (past ++ piece ++ after) (at + 4)
-stage_end-more_bad at next room units begun past piece after NoHead r some = absurd r.stage_is
-stage_end-more_bad at next room units begun past piece after (Open first frames) r some = absurd r.stage_is
-stage_end-more_bad at next room units begun past piece after (Whole first frames) r some = (
-  piece ++ after,
-  subst (λ list. HasFrames list first frames (end_bytes ++ (piece ++ after))) (sym (append_assoc past piece after))
-      (has_frames-more past first frames end_bytes (piece ++ after) r.reads),
-  omega (arith, some, length-append piece after),
-  omega (arith, r.place, length-append past (piece ++ after), ap length (append_assoc past piece after)),
-)
-
 -- ---- more bytes
 
 -- a head alone
@@ -217,17 +198,6 @@ count-none lsn count tail fits none records other frame room whole =
     none (omega (arith, frame.most, number.0)) (omega (arith, room, number.0))
 
 module _ (at next room : ℕ) (units begun past more : List ℕ) where
-  pub head-more : (came : Came) → ReadsAt Head at next room units begun past came → length (begun ++ more) < 11
-      → ReadsAt Head at next room units (begun ++ more) (past ++ more) came
-  head-more NoHead r short = record {
-    stage_is = short;
-    reads = ap (λ list. list ++ more) r.reads;
-    place = omega (arith, r.place, length-append begun more, length-append past more);
-    room_is = r.room_is;
-  }
-  head-more (Open first frames) r short = absurd r.stage_is
-  head-more (Whole first frames) r short = absurd r.stage_is
-
   pub head-whole : (came : Came) (first : ℕ) → ReadsAt Head at next room units begun past came → first ≤ LAST
       → begun ++ more ≡ stream_magic ++ to_be_bytes w32 first
       → (came ≡ NoHead) × ReadsAt Count 11 first room units [] (past ++ more) (Open first [])
@@ -265,35 +235,6 @@ module _ (at next room : ℕ) (units begun past more : List ℕ) where
   head-begun_short NoHead r = r.stage_is
   head-begun_short (Open first frames) r = absurd r.stage_is
   head-begun_short (Whole first frames) r = absurd r.stage_is
-
-  pub count-more : (came : Came) → ReadsAt Count at next room units begun past came → length (begun ++ more) < 4
-      → ReadsAt Count at next room units (begun ++ more) (past ++ more) came
-  count-more NoHead r short = absurd r.stage_is
-  count-more (Open first frames) r short = record {
-    stage_is = (r.stage_is.0, short);
-    reads = has_frames-more past first frames begun more r.reads;
-    place = omega (arith, r.place, length-append begun more, length-append past more);
-    room_is = r.room_is;
-  }
-  count-more (Whole first frames) r short = absurd r.stage_is
-
-  -- the end has come
-  pub count-reads_at_end : (came : Came) (other : List ℕ) → ReadsAt Count at next room units begun past came → begun ++ more ≡ end_bytes
-      → (first : ℕ) × (frames : List (List Rec)) × (came ≡ Open first frames)
-      × ReadsAt End at next room units other (past ++ more) (Whole first frames)
-  count-reads_at_end NoHead other r is = absurd r.stage_is
-  count-reads_at_end (Open first frames) other r is = (
-    first,
-    frames,
-    refl,
-    record {
-      stage_is = tt;
-      reads = frames-same (past ++ more) first frames (begun ++ more) end_bytes is (has_frames-more past first frames begun more r.reads);
-      place = omega (arith, r.place, ap length is, length-append begun more, length-append past more);
-      room_is = r.room_is;
-    },
-  )
-  count-reads_at_end (Whole first frames) other r is = absurd r.stage_is
 
   -- the count of a frame has come
   pub count-reads_at_units : (came : Came) (count : ℕ) → ReadsAt Count at next room units begun past came → begun ++ more ≡ to_be_bytes w32 count

@@ -1,8 +1,8 @@
 -- How the records of a frame are read from its units.
-use Rattle.std.proofs.Common.{◌≡◌, ◌<◌, ◌≤◌, ◌∙◌, sym, ap, refl, ℕ, zero, suc, ◌+◌, ◌^◌, List, [], ◌∷◌, ◌++◌, length, take, drop, get_or, arith, length-append, append_assoc, append-nil}
+use Rattle.std.proofs.Common.{◌≡◌, ◌<◌, ◌≤◌, ◌∙◌, sym, ap, ℕ, zero, suc, ◌+◌, ◌^◌, List, [], ◌∷◌, ◌++◌, length, take, drop, get_or, arith, length-append, append_assoc, append-nil}
 use Rattle.std.specs.List.{AllByRecursion}
 use Rattle.std.proofs.Math.Seq.{take-append_seam, drop-append_seam, drop-cons}
-use Rattle.std.proofs.lemmas.List.{take-append-drop, take_more, get_or-drop, length-drop, drop_all}
+use Rattle.std.proofs.lemmas.List.{take-append-drop, length-drop, drop_all}
 use Rattle.lsn_space.proofs.TilingLemmas.{all-push}
 use Rattle.log_record.specs.declared.rec.Rec.{Rec}
 use Rattle.log_record.specs.LogList.{units_of, size_of, AreUnitsOf}
@@ -58,9 +58,6 @@ pub record IsPassed (units : List ℕ) (at : ℕ) : Type 0 where
   pub whole : units ≡ units_of front ++ drop at units
   pub within : at ≤ length units
 
-pub passed-none : (units : List ℕ) → IsPassed units 0
-passed-none units = record { front = []; each = tt; whole = refl; within = omega arith }
-
 pub passed-more : (units : List ℕ) (at size : ℕ) (rec : Rec) → IsPassed units at → BeginsWith (drop at units) rec → size ≡ size_of rec
     → IsPassed units (at + size)
 passed-more units at size rec passed begins sized =
@@ -77,16 +74,6 @@ passed-more units at size rec passed begins sized =
           (ap (λ list. units_of passed.front ++ list) (sym (append-nil (spelling rec))) ∙ sym (units_of-append passed.front (rec ∷ [])));
       within = omega (arith, passed.within, sized, bounds.2, length-drop at units);
     }
-
--- all units are passed
-pub passed-all : (units : List ℕ) (at : ℕ) → IsPassed units at → length units ≤ at → (records : List Rec) × AreUnitsOf units records
-passed-all units at passed all = (
-  passed.front,
-  record {
-    spellable = passed.each;
-    units_are = passed.whole ∙ ap (λ list. units_of passed.front ++ list) (drop_all at units all) ∙ append-nil (units_of passed.front);
-  },
-)
 
 -- behind a front of records the rest begins with another
 next-begins : (front records : List Rec) (rest : List ℕ) → AllByRecursion IsSpellable front → AllByRecursion IsSpellable records
@@ -115,13 +102,6 @@ passed_bad-no_records units at passed some none records are =
     none next.0 next.1
 
 -- ---- a record of the batch
-
-pub taken_units-push : (units taken new : List ℕ) (at index unit : ℕ) → taken ≡ take index (drop at units) → new ≡ taken ++ unit ∷ []
-    → unit ≡ get_or units (at + index) 0
-    → at + index < length units → new ≡ take (index + 1) (drop at units)
-taken_units-push units taken new at index unit before pushed is inside =
-    pushed ∙ (λ i. before i ++ (is ∙ sym (get_or-drop at units index 0)) i ∷ [])
-    ∙ sym (take_more (drop at units) index 0 (omega (arith, inside, length-drop at units)))
 
 -- what begins at this index, by its first unit
 pub size_of-header_at : (units : List ℕ) (at kind count field txn : ℕ) (rec : Rec) → at < length units

@@ -1,5 +1,5 @@
 -- How the units of a frame are taken from bytes.
-use Rattle.std.proofs.Common.{◌≡◌, ◌<◌, ◌≤◌, ◌∙◌, sym, ap, subst, refl, ℕ, ◌+◌, ◌-◌, ◌^◌, List, [], ◌∷◌, ◌++◌, length, take, drop, arith, length-append, append_assoc, append-nil}
+use Rattle.std.proofs.Common.{◌≡◌, ◌<◌, ◌≤◌, ◌∙◌, sym, ap, subst, ℕ, ◌+◌, ◌-◌, ◌^◌, List, [], ◌∷◌, ◌++◌, length, take, drop, arith, length-append, append_assoc, append-nil}
 use Rattle.std.specs.List.{flat_map}
 use Rattle.std.proofs.lemmas.List.{length-drop}
 use Rattle.std.proofs.Math.Seq.{take-add, take-append_seam}
@@ -29,9 +29,6 @@ pub record IsPushing (old new piece rest : List ℕ) : Type 0 where
   pub bytes : flat_map unit_bytes new ≡ flat_map unit_bytes old ++ taken
   pub fit : AreUnits old → AreUnits new
 
-pub pushing-none : (units piece : List ℕ) → IsPushing units units piece piece
-pushing-none units piece = record { taken = []; split = refl; bytes = sym (append-nil (flat_map unit_bytes units)); fit = λ fit. fit }
-
 pub pushing-more : (old new piece rest after after_units : List ℕ) (unit : ℕ) → IsPushing old new piece rest → unit < 2 ^ 64
     → rest ≡ unit_bytes unit ++ after
     → after_units ≡ new ++ unit ∷ [] → IsPushing old after_units piece after
@@ -49,9 +46,6 @@ pushing-bytes old new piece rest pushing =
     append-nil (flat_map unit_bytes new) ∙ pushing.bytes
     ∙ ap (λ list. flat_map unit_bytes old ++ list) (sym (take_minus_rest-taken piece pushing.taken rest pushing.split))
     ∙ ap (λ list. list ++ take (length piece - length rest) piece) (sym (append-nil (flat_map unit_bytes old)))
-
-pushing-length : (old new piece rest : List ℕ) → IsPushing old new piece rest → length rest ≤ length piece
-pushing-length old new piece rest pushing = omega (arith, ap length pushing.split, length-append pushing.taken rest)
 
 pub IsPushing-PushesBytes : (old new : BatchState) (piece rest : List ℕ) → IsPushing old.units new.units piece rest → new.room ≡ old.room
     → PushesBytes old new [] [] piece (length piece - length rest)

@@ -1,5 +1,5 @@
 -- Transfers at places of the script, as a seat takes them, and room for their rows.
-use Rattle.std.proofs.Common.{◌≡◌, ℕ, ◌+◌, ◌-◌, ◌<◌, ◌≤◌, List, [], ◌∷◌, ◌++◌, length, All, None, refl, sym, ap, ◌∙◌, arith, append-nil, append_assoc, length-append}
+use Rattle.std.proofs.Common.{◌≡◌, ℕ, ◌+◌, ◌-◌, ◌<◌, ◌≤◌, List, [], ◌∷◌, ◌++◌, length, All, None, refl, ap, arith, length-append}
 use Rattle.std.proofs.lemmas.List.Elements.{All-get_or}
 use Rattle.std.specs.List.{AllByRecursion}
 use Rattle.lock_core.specs.declared.job.Job.{Job}
@@ -20,11 +20,6 @@ module _ (jobs : NumberedJobs) where
   jobs_taken-push [] place = refl
   jobs_taken-push (first ∷ places) place = ap (λ l. l ++ taken_at jobs first ∷ []) (jobs_taken-push places place)
 
-  pub jobs_taken-append : (xs ys : List ℕ) → jobs_taken jobs (xs ++ ys) ≡ jobs_taken jobs ys ++ jobs_taken jobs xs
-  jobs_taken-append [] ys = sym (append-nil (jobs_taken jobs ys))
-  jobs_taken-append (x ∷ xs) ys = ap (λ l. l ++ taken_at jobs x ∷ []) (jobs_taken-append xs ys)
-      ∙ append_assoc (jobs_taken jobs ys) (jobs_taken jobs xs) (taken_at jobs x ∷ [])
-
   -- at places below another they have numbers below its
   pub jobs_taken-below : (places : List ℕ) (place : ℕ) → AllByRecursion (λ before. before < place) places
       → AllByRecursion (λ (taken : TakenJob). taken.number < number_at jobs place) (jobs_taken jobs places)
@@ -42,10 +37,6 @@ taken_at-allowed queue accounts place all within = record {
 }
 
 module _ (jobs : NumberedJobs) where
-  -- where no place was taken, room for a row of each transfer is enough
-  pub HasRoomForRows-none : (rows : Rows) → rows_in rows ≡ [] → places_in rows ≡ [] → length jobs.script ≤ room_of rows → HasRoomForRows jobs rows
-  HasRoomForRows-none rows empty none enough = omega (arith, ap length empty, ap length none, enough)
-
   -- one more was taken, and its row put
   pub HasRoomForRows-push : (old new : Rows) (place : ℕ) → HasRoomForRows jobs old → places_in new ≡ places_in old ++ place ∷ []
       → length (rows_in new) ≤ length (rows_in old) + 1 → room_of new ≡ room_of old → HasRoomForRows jobs new

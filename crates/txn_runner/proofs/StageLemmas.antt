@@ -17,7 +17,6 @@ use Rattle.log_rule.specs.May.{HasBegunNothing, MayTakeJob}
 use Rattle.log_table.specs.Seats.{Becomes, view_of}
 use Rattle.ring_buffer.specs.Calls.{IsReady, IsSameWorker, HasEntries}
 use Rattle.ring_buffer.proofs.TwoCalls.{IsSameWorker-trans}
-use Rattle.ring_buffer.proofs.SameWorkers.{IsSameWorker-refl}
 use Rattle.txn_jobs.specs.declared.cause.Cause.{Cause}
 use Rattle.txn_parts.specs.declared.taken_account.TakenAccount.{TakenAccount}
 use Rattle.txn_jobs.specs.declared.rows.Row.{Row}
@@ -94,15 +93,6 @@ module _ (accounts number : ℕ) (job : Job) (first : Seat) (next : HasNextJob a
   begins-nothing = record {
     some_job = omega (arith, ap (λ (taken : TakenJob). taken.number) next.last, next.allowed.number.0);
     only_note = subst (AllByRecursion (λ (entry : Placed). IsNote entry.rec)) (sym next.none) tt;
-  }
-
-  pub LetsGo-refl : IsReady (view_of first) → LetsGo first first
-  LetsGo-refl ready = record {
-    same = IsSameWorker-refl first;
-    idle = ready.rests.idle;
-    contended = refl;
-    none_held = next.none_held;
-    given = KeepsGiven-same (view_of first) (view_of first) refl;
   }
 
   pub StopsFor-has_cut_taken : (cause : Cause) → StopsFor cause [] (view_of first) → (wait : Bool)
