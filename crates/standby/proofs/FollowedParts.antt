@@ -10,16 +10,16 @@ use Rattle.ship_stream.specs.Stream.{end_bytes, HasFrames}
 use Rattle.ship_stream.specs.Came.{Came, HasCome, IsBadBehind, IsWhole}
 use Rattle.ship_stream.specs.Came.Came.{NoHead, Open, Whole}
 use Rattle.ship_stream.proofs.StreamLemmas.{one_stream-come}
-use Rattle.stream_reader.specs.Advance.{AddsFrame, AddsEnd}
+use Rattle.stream_reader.specs.Advance.{AddsFrame}
 use Rattle.stream_reader.specs.Reader.{HasRead}
 use Rattle.stream_reader.specs.declared.reader.StreamReader.{StreamReader}
 use Rattle.stream_reader.proofs.ReaderLemmas.{has_frames-more}
-use Rattle.standby.specs.declared.standby.Fed.TheVariants.{More, Ended}
+use Rattle.standby.specs.declared.standby.Fed.TheVariants.{More}
 use Rattle.standby.specs.declared.standby.Standby.{Standby}
 use Rattle.standby.specs.declared.fault.StandbyFault.{StandbyFault}
 use Rattle.standby.specs.declared.fault.StandbyFault.TheVariants.{BadStream, Gap, StreamUnlawful, DiskFault, NoMemory}
 use Rattle.standby.specs.AppliedFrames.{Base, with_frames, HoldsFront, Wrote, HasApplied}
-use Rattle.standby.specs.Following.{BeginsWithFrames, Follows, GoesOn, HasEnded, HasFollowed, HasFrame, HoldsFollowed, IsReason, Stops, TellsEnd, whole_frames}
+use Rattle.standby.specs.Following.{BeginsWithFrames, Follows, GoesOn, HasFollowed, HasFrame, HoldsFollowed, IsReason, Stops, TellsEnd, whole_frames}
 use Rattle.standby.proofs.FrameLists.{holds-front-none, holds-lawful}
 use Rattle.standby.proofs.JudgedFrames.{with_records-none}
 use Rattle.standby.proofs.StoppedStreams.{begins_with_frames-append_none, has_frames-front, read-come}
@@ -73,30 +73,6 @@ module _ {D : Type 0} (g : Ghosts D) (base : Base D) (fed : List ℕ) (s : Stand
   module _ (reader : StreamReader) (longer : List ℕ) where
     abbrev later : Standby D
     later = record s { reader = reader }
-
-    -- a part that isn't whole
-    pub follows-more : HasRead reader longer follows.came → Follows g base longer later
-    follows-more read = record { came = follows.came; read = read; goes_on = follows.goes_on; applied = follows.applied }
-
-    -- the head
-    pub follows-head : (first : ℕ) → follows.came ≡ NoHead → HasRead reader longer (Open first []) → first ≡ s.tail.next
-        → Follows g base longer later
-    follows-head first none read same =
-        let applied = subst (λ c. HasApplied g base (whole_frames c) s.judge s.tail s.disk.now) none follows.applied in record {
-          came = Open first [];
-          read = read;
-          goes_on = same ∙ applied.kept.next ∙ ap list_end (with_records-none base.list);
-          applied = applied;
-        }
-
-    -- the end
-    pub follows-end : AddsEnd follows.came reader longer → Follows g base longer later
-    follows-end ends = record {
-      came = Whole ends.first ends.frames;
-      read = ends.read;
-      goes_on = subst (GoesOn base.list) ends.before follows.goes_on;
-      applied = subst (λ c. HasApplied g base (whole_frames c) s.judge s.tail s.disk.now) ends.before follows.applied;
-    }
 
     -- a frame
     pub follows-has_frame : (adds : AddsFrame follows.came reader longer) → HasFrame g base longer adds.frames adds.records later
@@ -198,16 +174,6 @@ stops-leaves_followed g base fed fault disk stops = wrote-followed g base fed (s
 
 -- ---- the end
 
-whole-ended : (fed : List ℕ) (came : Came) → HasCome fed came → IsWhole came → HasEnded fed
-whole-ended fed NoHead come whole = absurd whole
-whole-ended fed (Open first frames) come whole = absurd whole
-whole-ended fed (Whole first frames) come whole = (first, frames, come)
-
-pub tells-ended : {D : Type 0} (g : Ghosts D) (base : Base D) (fed : List ℕ) (s : Standby D) (follows : Follows g base fed s)
-    → IsWhole follows.came
-    → TellsEnd fed Ended
-tells-ended g base fed s follows whole = whole-ended fed follows.came (read-come s.reader fed follows.came follows.read) whole
-
 pub tells-more : {D : Type 0} (g : Ghosts D) (base : Base D) (fed : List ℕ) (s : Standby D) (follows : Follows g base fed s)
     → (IsWhole follows.came → ⊥) → TellsEnd fed More
 tells-more g base fed s follows part ended =
@@ -241,13 +207,6 @@ pub record HasPassed {D : Type 0} (g : Ghosts D) (old new : Standby D) (bytes re
   pub front : List ℕ
   pub whole : bytes ≡ front ++ rest
   pub follows : (base : Base D) (fed : List ℕ) → Follows g base fed old → Follows g base (fed ++ front) new
-
-pub passed-none : {D : Type 0} (g : Ghosts D) (s : Standby D) (bytes : List ℕ) → HasPassed g s s bytes bytes
-passed-none g s bytes = record {
-  front = [];
-  whole = refl;
-  follows = λ base fed follows. subst (λ b. Follows g base b s) (sym (append-nil fed)) follows;
-}
 
 pub passed-more : {D : Type 0} (g : Ghosts D) (old new later : Standby D) (bytes rest after : List ℕ) (used : ℕ)
     → HasPassed g old new bytes rest

@@ -7,9 +7,9 @@ use Rattle.log_record.specs.Spelling.{IsSpellable}
 use Rattle.log_record.proofs.LogListLemmas.{units_of-append}
 use Rattle.lock_core.specs.Lawful.{IsLawful}
 use Rattle.lock_core.proofs.ListLemmas.{all-split}
-use Rattle.log_recovery.specs.Opened.{OpenedList, log_of, list_end, opening_before, placed, with_records}
+use Rattle.log_recovery.specs.Opened.{OpenedList, log_of, opening_before, placed, with_records}
 use Rattle.log_recovery.specs.Recovery.{HoldsLawful}
-use Rattle.log_recovery.proofs.OpenedLemmas.{list_end-more, log_of-with_records}
+use Rattle.log_recovery.proofs.OpenedLemmas.{log_of-with_records}
 use Rattle.segment_file.specs.Log.{with_units, HoldsLog}
 use Rattle.segment_file.specs.StandingLog.{HoldsLogOrMore}
 use Rattle.ship_stream.specs.Stream.{records_of, IsFrame}
@@ -29,10 +29,6 @@ end_of_records_of-push frames records =
     ap end_of (records_of-push frames records) ∙ ap length (units_of-append (records_of frames) records)
     ∙ length-append (units_of (records_of frames)) (units_of records)
 
-pub frames-spellable : (frames : List (List Rec)) → AllByRecursion IsFrame frames → AllByRecursion IsSpellable (records_of frames)
-frames-spellable [] each = tt
-frames-spellable (frame ∷ frames) each = all-append IsSpellable frame (records_of frames) each.0.spellable (frames-spellable frames each.1)
-
 pub all_frames-last_is_frame : (frames : List (List Rec)) (records : List Rec) → AllByRecursion IsFrame (frames ++ records ∷ []) → IsFrame records
 all_frames-last_is_frame frames records each = (all-split IsFrame frames (records ∷ []) each).1.0
 
@@ -42,10 +38,6 @@ pub with_frames-push : (list : OpenedList) (frames : List (List Rec)) (records :
     → with_records (with_frames list frames) records ≡ with_frames list (frames ++ records ∷ [])
 with_frames-push list frames records =
     with_records-append list (records_of frames) records ∙ ap (with_records list) (sym (records_of-push frames records))
-
-pub list_end-frames : (list : OpenedList) (frames : List (List Rec))
-    → list_end (with_frames list frames) ≡ list_end list + end_of (records_of frames)
-list_end-frames list frames = list_end-more list (records_of frames)
 
 pub place_behind-push : (at : ℕ) (frames : List (List Rec)) (records : List Rec)
     → place_behind at (frames ++ records ∷ []) ≡ place_behind at frames + (5 + 8 * end_of records)

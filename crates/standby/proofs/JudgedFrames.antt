@@ -4,7 +4,7 @@ use Rattle.std.specs.List.{AllByRecursion}
 use Rattle.std.proofs.Math.Seq.{drop-append_seam}
 use Rattle.std.proofs.lemmas.List.{drop-drop}
 use Rattle.log_record.specs.declared.rec.Rec.{Rec}
-use Rattle.log_record.specs.LogList.{AreUnitsOf, units_of, end_of, size_of}
+use Rattle.log_record.specs.LogList.{units_of, end_of, size_of}
 use Rattle.log_record.specs.Spelling.{spelling, IsSpellable, BeginsWith}
 use Rattle.log_record.proofs.SpellingLemmas.{spelling-append-injective, size_of-positive, begins_with-size_of_le}
 use Rattle.log_record.proofs.LogListLemmas.{end_of-append}
@@ -59,18 +59,6 @@ pub record HasTakenTo (list : OpenedList) (records : List Rec) (at : ℕ) (units
   pub left : drop at units ≡ units_of unseen
   pub place : at ≡ end_of seen
   pub taken : HasTakenList (with_records list seen) judge
-
-pub taken-none : (list : OpenedList) (records : List Rec) (units : List ℕ) (judge : Judge) → HasTakenList list judge
-    → AreUnitsOf units records
-    → HasTakenTo list records 0 units judge
-taken-none list records units judge taken spells = record {
-  seen = [];
-  unseen = records;
-  whole = refl;
-  left = spells.units_are;
-  place = refl;
-  taken = subst (λ l. HasTakenList l judge) (sym (with_records-none list)) taken;
-}
 
 module _ (list : OpenedList) (records : List Rec) (at : ℕ) (units : List ℕ) (judge : Judge) (to : HasTakenTo list records at units judge)
     (spellable : AllByRecursion IsSpellable records) where

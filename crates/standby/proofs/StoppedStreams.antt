@@ -1,10 +1,9 @@
 -- How a standby stops at a frame.
-use Rattle.std.proofs.Common.{◌≡◌, ◌≤◌, ◌∙◌, sym, ap, refl, subst, inr, ℕ, ◌+◌, List, [], ◌∷◌, ◌++◌, length, append_assoc, append-nil, arith}
+use Rattle.std.proofs.Common.{◌≡◌, ◌≤◌, ◌∙◌, sym, ap, refl, subst, inr, ℕ, ◌+◌, List, [], ◌∷◌, ◌++◌, append_assoc, append-nil, arith}
 use Rattle.std.specs.List.{flat_map}
 use Rattle.log_disk.specs.Faults.{Rose}
 use Rattle.log_disk.specs.declared.disk.LogDisk.{Ghosts}
 use Rattle.log_disk.proofs.Moments.{Leaves-images_now}
-use Rattle.lsn_space.specs.declared.lsn.TheConstants.{LAST}
 use Rattle.log_record.specs.declared.rec.Rec.{Rec}
 use Rattle.log_record.specs.LogList.{AreUnitsOf, end_of}
 use Rattle.log_record.proofs.LogListLemmas.{end_of-append}
@@ -25,7 +24,7 @@ use Rattle.standby.specs.AppliedFrames.{Base, with_frames, HoldsFront, Wrote}
 use Rattle.standby.specs.Following.{BeginsWithFrames, HasFrame, Stops}
 use Rattle.standby.specs.TakenList.{HasTakenList, IsFrameFault}
 use Rattle.standby.proofs.AppliedFrames.{WroteFrame, wrote-push, frame-leaves_holds_front}
-use Rattle.standby.proofs.FrameLists.{end_of_records_of-push, all_frames-last_is_frame, list_end-frames, with_frames-push, holds-front-none, holds-front-more, holds-lawful}
+use Rattle.standby.proofs.FrameLists.{all_frames-last_is_frame, with_frames-push, holds-front-none, holds-front-more, holds-lawful}
 
 -- ---- frames and bytes
 
@@ -78,13 +77,6 @@ module _ {D : Type 0} (g : Ghosts D) (base : Base D) (fed : List ℕ) (frames : 
 
   pub has_frame-batch_are_units_of : AreUnitsOf s.reader.batch.units records
   has_frame-batch_are_units_of = record { spellable = has_frame-is_frame.spellable; units_are = h.holds }
-
-  pub has_frame-within_log : s.tail.next + length s.reader.batch.units ≤ LAST
-  has_frame-within_log =
-      omega (arith, h.applied.kept.next, list_end-frames base.list frames, has.total, end_of_records_of-push frames records, ap length h.holds)
-
-  pub has_frame-has_taken_list : (list : OpenedList) × HasTakenList list s.judge × (s.tail.next ≡ list_end list)
-  has_frame-has_taken_list = (before, h.applied.kept.taken, h.applied.kept.next)
 
   -- each image holds what was applied
   pub has_frame-images_hold_applied : g.honest base.disk → (c : List ℕ) → g.images s.disk.now c → HoldsFront before [] c
