@@ -9,6 +9,8 @@ pub enum Place {
     Locked,
     /// It looked at the tail and at durable.
     Looked,
+    /// Another worker was faster at the tail, or holds the account that it asked for.
+    Lost,
     /// It reserved a range of the log.
     Placed,
     /// It joined a group.
