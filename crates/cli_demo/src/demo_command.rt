@@ -55,6 +55,7 @@ pub fn demo_command<R: Threads + Wait + Clock + Sync, D: LogDisk, K: Sink, G: Ga
         return Detail::NoMemory;
     };
     let Ok(tail) = create(disk, &mut batch) else {
+        prepared.let_go();
         return Detail::Disk;
     };
     let ready = ReadyRun { prepared, tail };

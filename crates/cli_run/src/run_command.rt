@@ -65,6 +65,7 @@ pub fn run_command<
         return Detail::NoMemory;
     };
     let Ok(tail) = settle(disk, tail.at, tail.next) else {
+        prepared.let_go();
         return Detail::Disk;
     };
     let ready = ReadyRun { prepared, tail };

@@ -43,6 +43,11 @@ pub struct Prepared {
     pub(crate) crew: Crew,
 }
 
+impl Prepared {
+    /// Lets all of it go, so that no crate above proves again how each thing in it is let go.
+    pub fn let_go(self) {}
+}
+
 /// A run before its first transfer: all memory is there, and the log goes on at this tail.
 #[derive(Drop)]
 pub struct ReadyRun {
