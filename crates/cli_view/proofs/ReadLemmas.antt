@@ -1,7 +1,6 @@
 -- What is known of a log that was read, and of the view that was given its list.
-use Rattle.std.proofs.Common.{◌≡◌, ◌<◌, ◌≤◌, ◌⊎◌, inl, inr, ℕ, ◌+◌, List, [], ◌∷◌, ◌++◌, length, Option, IfSome, refl, ap, ◌∙◌, arith}
+use Rattle.std.proofs.Common.{◌≡◌, ◌<◌, ◌≤◌, ◌⊎◌, inl, inr, ℕ, ◌+◌, List, [], ◌∷◌, ◌++◌, Option, IfSome, refl, ap, ◌∙◌, arith}
 use Rattle.std.specs.Io.KnownBytes.{Appends}
-use Rattle.lsn_space.specs.declared.lsn.TheConstants.{LAST}
 use Rattle.log_disk.specs.Streams.{AppendsPart}
 use Rattle.log_record.specs.declared.rec.Placed.{Placed}
 use Rattle.log_record.specs.declared.rec.Rec.{Rec}
@@ -14,7 +13,6 @@ use Rattle.lock_core.specs.Lawful.{base_with}
 use Rattle.lock_core.specs.Sums.{Opening}
 use Rattle.log_recovery.specs.declared.list_result.Listed.{Listed}
 use Rattle.log_recovery.specs.Boundaries.{GoesOnAt}
-use Rattle.log_recovery.specs.ListedRecords.{IsRecords}
 use Rattle.log_recovery.specs.Opened.{OpenedList, IsListBoundary, base_in, opening_before, placed}
 use Rattle.log_recovery.specs.Recovery.{list_of}
 use Rattle.log_recovery.specs.Text.{rows_text}
@@ -23,7 +21,7 @@ use Rattle.ledger_view.specs.declared.view.View.{View}
 use Rattle.ledger_view.specs.Entries.{entries_of, EndsAt}
 use Rattle.ledger_view.specs.ViewedAccounts.{HasViewed}
 use Rattle.cli_shared.specs.LogInput.{ReadsTaken}
-use Rattle.cli_shared.specs.declared.report.Detail.TheVariants.{Fine, Write, NoSuchLsn, NoAccount}
+use Rattle.cli_shared.specs.declared.report.Detail.TheVariants.{Fine, Write, NoSuchLsn}
 use Rattle.cli_reports.specs.Reports.{AnswersReport, OfList, RefusesLsn}
 use Rattle.cli_reports.proofs.ReportLemmas.{ReadsAll-of_list}
 use Rattle.cli_view.specs.Balances.{HasBalances}
@@ -49,12 +47,6 @@ module _ (left left_new : Option (List ℕ)) (view : View) (listed : Listed) (re
 
   pub read-has_viewed : HasViewed (opening_before list_read) view (placed list_read)
   read-has_viewed = read.2.taken
-
-  pub read-is_records : IsRecords listed.units
-  read-is_records = (read.2.records, read.2.has.list)
-
-  pub read-within_last : listed.opening.lsn + length listed.units ≤ LAST
-  read-within_last = omega (arith, read.2.held.list.holds.reads.total, ap length read.2.has.list.units_are)
 
   pub GoesOnAt-list_boundary : (lsn : ℕ) (rest : List ℕ)
       → ((records : List Rec) → AreUnitsOf listed.units records → GoesOnAt listed.opening.lsn records lsn rest) → IsListBoundary list_read lsn
@@ -111,12 +103,6 @@ module _ (left left_new : Option (List ℕ)) (view : View) (listed : Listed) (re
         list_read-of_list (λ list. (text : List ℕ) × SaysAccounts lsn list text × AppendsPart old new text) (rows_text lsn rows, says-accounts, written)
 
   module _ (account : ℕ) where
-    -- nothing is said of an account that isn't there
-    pub statement-refused : (old new : Option (List ℕ))
-        → ((opening : Opening) (h : List Placed) → HasViewed opening view h → (base_with opening h).accounts ≤ account)
-        → IfSome left (λ all. AnswersReport (SaysStatement account) (RefusesAccount account) all left_new old new (NoAccount account))
-    statement-refused old new none =
-        list_read-of_list (λ list. RefusesAccount account list (NoAccount account)) (refl, λ inside. omega (arith, inside, none _ _ read-has_viewed))
 
     module _ (balance : ℕ) (entries : List Entry)
         (first : (opening : Opening) (h : List Placed) → HasViewed opening view h
@@ -133,11 +119,6 @@ module _ (left left_new : Option (List ℕ)) (view : View) (listed : Listed) (re
             ∙ ap (λ es. statement_lines ((base_in list_read).balance account) es listed.tail.next) (each _ _ read-has_viewed).1
             ∙ ap (λ (n : ℕ). statement_lines ((base_in list_read).balance account) (entries_of (opening_before list_read) (placed list_read) account) n) read.2.has.end,
       )
-
-      pub statement-fine : (old new : Option (List ℕ)) → Appends old new text_written
-          → IfSome left (λ all. AnswersReport (SaysStatement account) (RefusesAccount account) all left_new old new Fine)
-      statement-fine old new written =
-          list_read-of_list (λ list. (text : List ℕ) × SaysStatement account list text × Appends old new text) (text_written, says-statement, written)
 
       pub statement-write : (old new : Option (List ℕ)) → AppendsPart old new text_written
           → IfSome left (λ all. AnswersReport (SaysStatement account) (RefusesAccount account) all left_new old new Write)

@@ -4,7 +4,7 @@ ghost use Rattle.slot_parts.specs.declared.task.TheConstants.{LONGEST_PIECE};
 ghost use Rattle.slot_parts.specs.Tasks.{nothing, membership, ring_stage, reopening, HasUnfilledPiece, HasDone, next_stage, stage_filled, stage_heard, at_stage, in_ring, task_emptying};
 
 use crate::phase::Outcome;
-use ring_core::Stage;
+use ring_core::{Stage, is_idle};
 
 /// The most units that a member brings into its group: those of the longest record.
 pub const LONGEST_PIECE: u32 = 26;

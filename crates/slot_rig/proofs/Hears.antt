@@ -1,5 +1,5 @@
 -- What a member sees and hears of its group, and what it is then.
-use Rattle.std.proofs.Common.{◌≡◌, ◌∙◌, ℕ, ◌+◌, ◌/◌, ◌%◌, ◌^◌, ◌<◌, ◌≤◌, cond, Bool, false, true, [], length, take, get_or, ap, sym, refl, subst, arith, eq-eqb, length-take-le}
+use Rattle.std.proofs.Common.{◌≡◌, ◌∙◌, ℕ, ◌+◌, ◌/◌, ◌^◌, ◌<◌, ◌≤◌, cond, Bool, false, true, length, take, get_or, ap, sym, refl, arith, eq-eqb, length-take-le}
 use Rattle.std.specs.Prelude.{nat_eq}
 use Rattle.std.proofs.lemmas.Bool.{le-ltb}
 use Rattle.std.proofs.lemmas.List.{take_more}
@@ -9,13 +9,12 @@ use Rattle.slot_word.specs.declared.slot_word.SlotWord.{SlotWord}
 use Rattle.slot_word.specs.SlotWord.{number_of, word_of, total_in}
 use Rattle.slot_word.proofs.SlotWordLemmas.{total_back}
 use Rattle.log_rule.specs.declared.group_view.MemberStep.{MemberStep}
-use Rattle.log_rule.specs.declared.group_view.MemberStep.TheVariants.{Waits, Hears, Fills, Leaves}
+use Rattle.log_rule.specs.declared.group_view.MemberStep.TheVariants.{Waits, Hears, Fills}
 use Rattle.log_table.specs.declared.table.LogTable.{LogTable}
 use Rattle.log_table.specs.declared.table.Seat.{Seat}
-use Rattle.log_rule.specs.declared.view.Call.{Call}
 use Rattle.log_rule.specs.declared.view.Call.TheVariants.{Joined}
 use Rattle.log_table.specs.Seats.{Becomes, view_of}
-use Rattle.log_rule.specs.SlotViews.{tells_refusal, step_seeing, call_seeing, saw_slot, heard_granted, heard_refused, heard_by, heard_base}
+use Rattle.log_rule.specs.SlotViews.{tells_refusal, step_seeing, call_seeing, saw_slot}
 use Rattle.log_rule.specs.Views.{call_with_unit, filled}
 use Rattle.log_rule.specs.May.{MayFillPiece, MayLoadBase}
 use Rattle.slot_rig.proofs.Steps.{member-step}
@@ -66,20 +65,6 @@ module _ (table : LogTable) (share : Share) (old new : Seat) where
 module _ (table : LogTable) (share : Share) (old new : Seat) (total : ℕ) where
   pub hears-may_load_base : (refused : Bool) → IsMember table share (Hears refused total) old → MayLoadBase share.slot (view_of old)
   hears-may_load_base refused member = record { piece = member.piece; refused = refused; total = total; hears = member.call }
-
-  pub heard_granted-fills : (base : ℕ) → IsMember table share (Hears false total) old → Becomes old new (heard_base base (view_of old))
-      → IsMember table share (Fills base []) new
-  heard_granted-fills base member becomes =
-      member-step table old new (heard_granted share.slot base member.piece total (view_of old))
-      (subst (Becomes old new) (ap (λ (call : Call). heard_by base call (view_of old)) member.call) becomes)
-      record { constants = refl; standing = refl; held = refl } share (Hears false total) (Fills base []) refl member refl
-
-  pub heard_refused-leaves : (word : ℕ) → IsMember table share (Hears true total) old → Becomes old new (heard_base word (view_of old))
-      → IsMember table share (Leaves (word / 2 ^ 32) (word % 2 ^ 32)) new
-  heard_refused-leaves word member becomes =
-      member-step table old new (heard_refused share.slot word member.piece total (view_of old))
-      (subst (Becomes old new) (ap (λ (call : Call). heard_by word call (view_of old)) member.call) becomes)
-      record { constants = refl; standing = refl; held = refl } share (Hears true total) (Leaves (word / 2 ^ 32) (word % 2 ^ 32)) refl member refl
 
 module _ (table : LogTable) (share : Share) (base i : ℕ) (old new : Seat) (member : IsMember table share (Fills base (take i share.units)) old)
     (within : i < length share.units)

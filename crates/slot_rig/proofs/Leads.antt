@@ -11,7 +11,7 @@ use Rattle.log_table.specs.declared.table.LogTable.{LogTable}
 use Rattle.log_table.specs.declared.table.Seat.{Seat}
 use Rattle.log_rule.specs.declared.view.Call.TheVariants.{Joined}
 use Rattle.log_rule.specs.declared.view.View.{View}
-use Rattle.log_rule.specs.Groups.{Granted, Refused}
+use Rattle.log_rule.specs.Groups.{Granted}
 use Rattle.log_rule.specs.May.{MayCloseSlot, MayStoreBase, MayStoreRefused, MayPublish, MayPlaceGroup}
 use Rattle.log_table.specs.Seats.{Becomes, view_of}
 use Rattle.log_rule.specs.SlotViews.{closed_slot, call_closed, stored_base, call_stored, published, call_published, reserved_group, call_reserved}
@@ -106,13 +106,6 @@ module _ (table : LogTable) (share : Share) (total tail durable : ℕ) (closed t
       word_is = word_is ∙ sym (λ i. tail-is i * 2 ^ 32 + durable-is i);
     }
 
-    pub stored_refused-tells : (stored : Seat) → Becomes loaded stored (stored_base (view_of loaded)) → IsMember table share (Tells total (Refused tail durable)) stored
-    stored_refused-tells stored becomes =
-        member-step table loaded stored (stored_base (view_of loaded)) becomes record { constants = refl; standing = refl; held = refl } share step
-        (Tells total (Refused tail durable)) refl member
-        (ap (call_stored (view_of loaded).seen.tail (view_of loaded).seen.durable) member.call
-        ∙ (λ i. Joined share.slot member.piece (Tells total (Refused (tail-is i) (durable-is i)))))
-
 -- the leader has reserved the range, which begins there
 module _ (table : LogTable) (share : Share) (total base : ℕ) (old new : Seat) where
   pub stores-may_store_base : IsMember table share (Stores total base) old → MayStoreBase share.slot base (view_of old)
@@ -138,20 +131,3 @@ module _ (table : LogTable) (share : Share) (total base : ℕ) (old new : Seat) 
   published_granted-waits member becomes =
       member-step table old new (published (view_of old)) becomes record { constants = refl; standing = refl; held = refl } share (Tells total (Granted base)) Waits
       refl member (ap call_published member.call)
-
--- the leader has refused the group
-module _ (table : LogTable) (share : Share) (total tail durable : ℕ) (old new : Seat) (member : IsMember table share (Tells total (Refused tail durable)) old)
-  where
-    pub tells_refused-may_publish : (word : SlotWord) → word.phase ≡ kind.Refused → word.total ≡ total → word.remaining ≡ total → MayPublish share.slot word (view_of old)
-    tells_refused-may_publish word phase total-is remaining = record {
-      piece = member.piece;
-      total = total;
-      outcome = Refused tail durable;
-      tells = member.call;
-      word_is = λ i. packed (phase i) (total-is i) (remaining i);
-    }
-
-    pub published_refused-waits : Becomes old new (published (view_of old)) → IsMember table share Waits new
-    published_refused-waits becomes =
-        member-step table old new (published (view_of old)) becomes record { constants = refl; standing = refl; held = refl } share
-        (Tells total (Refused tail durable)) Waits refl member (ap call_published member.call)

@@ -1,6 +1,5 @@
 -- What a member may do that has filled its piece, or heard a refusal, and what it is then.
-use Rattle.std.proofs.Common.{◌≡◌, ◌≢◌, ◌==◌, ◌∙◌, ◌⊎◌, inl, inr, ℕ, ◌+◌, ◌<◌, ◌≤◌, cond, true, false, ◌++◌, length, ap, sym, refl, eq-eqb, lt-ltb}
-use Rattle.std.proofs.lemmas.Bool.{le-ltb}
+use Rattle.std.proofs.Common.{◌≡◌, ◌≢◌, ◌==◌, ◌∙◌, ◌⊎◌, inl, inr, ℕ, ◌+◌, ◌<◌, cond, true, false, ◌++◌, length, ap, sym, refl, eq-eqb, lt-ltb}
 use Rattle.std.proofs.lemmas.Bool.Decides.{eqb_tells}
 use Rattle.slot_word.specs.declared.slot_word.SlotWord.{SlotWord}
 use Rattle.slot_word.specs.SlotWord.{word_of, total_in, remaining_in}
@@ -12,13 +11,12 @@ use Rattle.log_table.specs.declared.table.LogTable.{LogTable}
 use Rattle.log_table.specs.declared.table.Seat.{Seat}
 use Rattle.log_rule.specs.declared.view.Call.{Call}
 use Rattle.log_rule.specs.declared.view.Call.TheVariants.{Idle, Joined, Emptying, Marked, Holding, Raising, Reopening}
-use Rattle.log_rule.specs.GroupViews.{follow_up}
-use Rattle.log_rule.specs.MarkViews.{marked, saw_mark, call_with_mark, after_raise, call_with_exposed}
+use Rattle.log_rule.specs.MarkViews.{saw_mark, call_with_mark, after_raise, call_with_exposed}
 use Rattle.log_rule.specs.May.{MayLookMark, MayRaise, MayReleaseFilled, MayReleaseRefused, MayMarkGroup}
 use Rattle.log_table.specs.Seats.{Becomes, view_of}
-use Rattle.log_rule.specs.SlotViews.{reopened, call_emptying, call_released, piece_in, released_piece}
-use Rattle.log_rule.specs.Views.{run_in, after_look, saw_exposed}
-use Rattle.slot_rig.proofs.Steps.{worker-step, released-step, left-step}
+use Rattle.log_rule.specs.SlotViews.{call_emptying, call_released, piece_in, released_piece}
+use Rattle.log_rule.specs.Views.{after_look, saw_exposed}
+use Rattle.slot_rig.proofs.Steps.{worker-step, released-step}
 use Rattle.slot_rig.specs.Shares.{IsMember, HasReleased, HasLeft}
 use Rattle.slot_rig.specs.declared.share.Share.{Share}
 
@@ -90,24 +88,9 @@ module _ (table : LogTable) (share : Share) (tail durable : ℕ) (old : Seat) (m
     left_last-call_reopening last = left (Reopening share.slot)
         (call-last share.slot member.piece.size word (Leaves tail durable) (Reopening share.slot) (last ∙ sym member.own_piece.size_is) refl)
 
-    pub left_not_last-call_idle : word.remaining ≢ length share.units → HasLeft table share Idle new
-    left_not_last-call_idle others = left Idle
-        (call-not_last share.slot member.piece.size word (Leaves tail durable) (λ same. others (same ∙ member.own_piece.size_is)))
-
 module _ (table : LogTable) (share : Share) (base : ℕ) (old new : Seat) where
   pub emptying-may_mark_group : (total end : ℕ) → end ≡ base + total → HasReleased table share base (Emptying share.slot base total) old → MayMarkGroup base end (view_of old)
   emptying-may_mark_group total end ends released = record { slot = share.slot; total = total; emptying = released.call_is; ends = ends }
-
-  pub marked-call_marked : (total : ℕ) → HasReleased table share base (Emptying share.slot base total) old → Becomes old new (marked (view_of old))
-      → HasReleased table share base (Marked (Reopens share.slot)) new
-  marked-call_marked total released becomes = record {
-    worker = worker-step table old new (marked (view_of old)) becomes record { constants = refl; standing = refl; held = refl } share.worker released.worker;
-    slot = released.slot;
-    piece = released.piece;
-    own_piece = released.own_piece;
-    call_is = ap (λ me. me.0.call) becomes.me ∙ ap (λ (call : Call). Marked (follow_up call)) released.call_is;
-    entry = ap (λ me. me.0.entries) becomes.me ∙ (λ i. released.entry i ++ run_in (released.call_is i));
-  }
 
   pub saw_exposed-call_holding : (at : ℕ) → HasReleased table share base (Marked (Reopens share.slot)) old → Becomes old new (saw_exposed at (view_of old))
       → HasReleased table share base (Holding at (Reopens share.slot)) new
@@ -129,9 +112,6 @@ module _ (table : LogTable) (share : Share) (base : ℕ) (old new : Seat) where
       saw_mark_above-call_raising above = saw (Raising at mark (Reopens share.slot))
           (ap (λ b. cond b (Raising at mark (Reopens share.slot)) (Reopening share.slot)) (lt-ltb at mark above))
 
-      pub saw_mark_below-call_reopening : mark ≤ at → HasReleased table share base (Reopening share.slot) new
-      saw_mark_below-call_reopening below = saw (Reopening share.slot) (ap (λ b. cond b (Raising at mark (Reopens share.slot)) (Reopening share.slot)) (le-ltb at mark below))
-
   pub raising-may_raise : (from to : ℕ) → HasReleased table share base (Raising from to (Reopens share.slot)) old → MayRaise from to (view_of old)
   raising-may_raise from to released = record { after = Reopens share.slot; raising = released.call_is }
 
@@ -140,13 +120,3 @@ module _ (table : LogTable) (share : Share) (base : ℕ) (old new : Seat) where
   after_raise-call_holding from to released becomes =
       released-step table old new (after_raise to (view_of old)) becomes record { constants = refl; standing = refl; held = refl } share base
       (Raising from to (Reopens share.slot)) (Holding to (Reopens share.slot)) refl released (ap (call_with_exposed to) released.call_is)
-
-  pub reopened_released-call_idle : HasReleased table share base (Reopening share.slot) old → Becomes old new (reopened (view_of old)) → HasReleased table share base Idle new
-  reopened_released-call_idle released becomes =
-      released-step table old new (reopened (view_of old)) becomes record { constants = refl; standing = refl; held = refl } share base (Reopening share.slot) Idle
-      refl released refl
-
-  pub reopened_left-call_idle : HasLeft table share (Reopening share.slot) old → Becomes old new (reopened (view_of old)) → HasLeft table share Idle new
-  reopened_left-call_idle left becomes =
-      left-step table old new (reopened (view_of old)) becomes record { constants = refl; standing = refl; held = refl } share (Reopening share.slot) Idle refl left
-      refl

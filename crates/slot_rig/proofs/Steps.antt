@@ -9,7 +9,7 @@ use Rattle.log_rule.specs.declared.view.Constants.{Constants}
 use Rattle.log_rule.specs.declared.view.Standing.{Standing}
 use Rattle.log_rule.specs.declared.view.View.{View}
 use Rattle.log_table.specs.Seats.{Becomes, view_of}
-use Rattle.slot_rig.specs.Shares.{IsWorker, IsMember, HasReleased, HasLeft}
+use Rattle.slot_rig.specs.Shares.{IsWorker, IsMember, HasReleased}
 use Rattle.slot_rig.specs.declared.share.Share.{Share}
 
 -- constants, standing and the accounts held are as before
@@ -55,13 +55,4 @@ module _ (table : LogTable) (old new : Seat) (view : View) (becomes : Becomes ol
     own_piece = released.own_piece;
     call_is = ap (λ (v : View). v.call) is ∙ is_call;
     entry = ap (λ (v : View). v.entries) is ∙ (entries ∙ released.entry);
-  }
-
-  pub left-step : (share : Share) (call call' : Call) → view.entries ≡ (view_of old).entries → HasLeft table share call old → view.call ≡ call'
-      → HasLeft table share call' new
-  left-step share call call' entries left is_call = record {
-    worker = worker-step share.worker left.worker;
-    slot = left.slot;
-    call_is = ap (λ (v : View). v.call) is ∙ is_call;
-    no_entry = ap (λ (v : View). v.entries) is ∙ (entries ∙ left.no_entry);
   }
