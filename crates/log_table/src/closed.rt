@@ -106,6 +106,7 @@ impl LogTable {
             slots,
             accounts: _,
             mut rows,
+            bells: _,
         } = self;
         let closed = table.close_with(seat.base);
         let tail = closed.word(TAIL);

@@ -17,6 +17,7 @@ use log_rule::Start;
 use lsn_space::NoMemory;
 use std::alloc::Global;
 use std::marker::Brand;
+use table_bells::Bells;
 use table_layout::{DURABLE, EXPOSED, STOP, TAIL, account_place, put_accounts};
 
 /// The new seat's view has the worker's number, which a step can't see: it comes by the type.
@@ -69,6 +70,7 @@ impl LogTable {
             slots,
             accounts,
             rows,
+            bells: Bells::new(),
         };
         Ok((table, Seat { base, worker: 0 }))
     }

@@ -6,9 +6,11 @@ ghost use Rattle.table_layout.specs.Layout.{word_count};
 ghost use Rattle.log_rule.specs.FirstAccounts.{HasAccounts};
 
 use atomic_table::{Table, TableRule};
+use crossbeam_utils::sync::Key;
 use log_rule::{Start, View};
 use lsn_space::Balances;
 use std::alloc::Global;
+use table_bells::Bells;
 
 pub(crate) struct Rule;
 
@@ -30,6 +32,7 @@ pub struct LogTable {
     pub(crate) accounts: u32,
     /// The accounts as they were at first. `close` puts those at the end in their place.
     pub(crate) rows: Balances,
+    pub(crate) bells: Bells,
     ghost wide: { (LEAST_RING ≤ ring) × (ring ≤ GREATEST_RING) },
     ghost few_slots: { slots ≤ MOST_SLOTS },
     ghost few: { accounts ≤ MOST_ACCOUNTS },
@@ -62,6 +65,17 @@ impl LogTable {
         ensures { result ≡ self.now.accounts }
     {
         self.accounts
+    }
+
+    /// Announces a wait for durable or for the stop word. Who then looks at both, in this order, and sees neither come, may wait with the
+    /// key: a store that the looks missed is behind the announcement, and ends the wait.
+    pub fn listen(&self) -> Key<'_> {
+        self.bells.listen()
+    }
+
+    /// The same for an account that another holds, or for the stop word. Other accounts share the bell.
+    pub fn listen_account(&self, account: u32) -> Key<'_> {
+        self.bells.listen_account(account)
     }
 }
 

@@ -92,7 +92,7 @@ impl LogTable {
     }
 
     /// Gives the account back: with the balance and last commit that the seat's last job made, where
-    /// it is committed, else as they were taken.
+    /// it is committed, else as they were taken. Who listens for it is woken.
     pub fn store_account(&self, seat: &mut Seat, account: u32, word: AccountWord)
         requires seat { IsOf self.now seat.old }
         requires account { account < self.now.accounts }
@@ -100,5 +100,6 @@ impl LogTable {
         ensures { StoresAccount self.now account word seat.old seat.new }
     {
         store_account_as::<Brand>(self, seat, account, word);
+        self.bells.ring_account(account);
     }
 }

@@ -45,12 +45,13 @@ impl LogTable {
 
     /// Tells that all units read are on the disk, which are all up to exposed as the flusher's seat
     /// loaded it last. As durable is stored the rule holds of some views of all seats, this one's, as it
-    /// is then, among them.
+    /// is then, among them. Who listens for it is woken.
     pub fn store_durable(&self, seat: &mut Seat, to: Lsn)
         requires seat { IsOf self.now seat.old }
         requires next { MaySend to (view_of seat.old) }
         ensures { ChangesAtOnce self.now Durable (λ _. to) (has_sent to (view_of seat.old)) (flushes to) seat.old seat.new }
     {
         store_durable_as::<Brand>(self, seat, to);
+        self.bells.ring();
     }
 }

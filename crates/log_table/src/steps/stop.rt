@@ -18,7 +18,7 @@ impl LogTable {
         self.table.shared.load::<LoadStop>(&mut seat.base, STOP)
     }
 
-    /// Tells the workers to stop, and why. The word, once stored, stays.
+    /// Tells the workers to stop, and why. The word, once stored, stays. Who listens for any word is woken.
     pub fn store_stop(&self, seat: &mut Seat, word: u64)
         requires seat { IsOf self.now seat.old }
         requires may { MayStop word (view_of seat.old) }
@@ -27,5 +27,6 @@ impl LogTable {
         self.table
             .shared
             .store::<StoreStop>(&mut seat.base, STOP, word);
+        self.bells.ring_all();
     }
 }

@@ -12,7 +12,7 @@ overflow_cast-exposed c = let is : IsClosed _ _ c.word-tail.result c.word-expose
     omega (arith, is.small, is.released)
 
 -- what the closed table tells of its words
-closed : (c : goal.After-new-2)
+closed : (c : goal.After-array_drop-self)
     → IsClosed (key_of c.args.self) (slots_items c.close_with-closed.result.words) c.word-tail.result c.word-exposed.result (view_of c.args.seat)
 closed c = may_close-closed _ _ _ _ _ _ _ c.close_with-closed.ensures.values.2 c.requires.may c.word-tail.ensures c.word-exposed.ensures
 
