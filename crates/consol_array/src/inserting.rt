@@ -116,6 +116,7 @@ fn try_round<G: Gate>(
     if let Some(range) = try_place(table, seat, seen, n)? {
         return Ok(Some(Way::Alone(range)));
     }
+    gate.at(seat.worker(), Place::Lost);
     if table.slots() == 0 {
         return Ok(None);
     }

@@ -48,7 +48,7 @@ pub fn take_all<R: Wait, Q: Relief, G: Gate>(
 }
 
 #[inline(always)]
-fn take_one<R: Wait, Q: Relief, G>(
+fn take_one<R: Wait, Q: Relief, G: Gate>(
     desk: &mut Desk<'_, R, Q, G>,
     account: u32,
 ) -> Result<Taken, Cause>
@@ -67,6 +67,7 @@ fn take_one<R: Wait, Q: Relief, G>(
         if let Ok(taken) = try_take(desk.table, desk.seat, account) {
             return Ok(taken);
         }
+        desk.gate.at(desk.seat.worker(), Place::Lost);
         pause(desk)?;
     }
     unreachable!()
