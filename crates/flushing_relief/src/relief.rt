@@ -1,6 +1,8 @@
 //! A worker that waits keeps the daemon at work, where no other thread does.
 use commit_pipeline::Daemon;
+use crossbeam_utils::sync::Key;
 use log_disk::{LogDisk, Sink};
+use std::sync::Wait;
 use txn_runner::Relief;
 
 /// A daemon that makes a turn at each rest, until it has a fault, which it keeps.
@@ -20,6 +22,15 @@ impl<'a, D: LogDisk, K: Sink> Relief for FlushingRelief<'a, D, K> {
     ghost later = { λ old new. Later D.LogDisk K.Sink old.daemon new.daemon };
 
     fn begin(&mut self) {}
+
+    // It is the daemon: nobody would wake it.
+    fn is_tired(&self) -> bool {
+        false
+    }
+
+    fn sleep<R: Wait>(&mut self, _rt: &R, _key: Key<'_>) {
+        self.rest();
+    }
 
     // It never sleeps: what it waits for may need a flush at any moment.
     fn rest(&mut self) {

@@ -3,6 +3,8 @@
 #![tactic(auto)]
 
 #[cfg(test)]
+mod bells_tests;
+#[cfg(test)]
 mod found;
 #[cfg(test)]
 mod group;

@@ -34,7 +34,7 @@ pub fn insert_units<R: Wait, Q: Relief, G: Gate>(
             Ok(at) => return Ok(Lsn::new(at.units() + count)),
             Err(refused) => may_come(refused)?,
         }
-        pause(desk)?;
+        pause(desk, None)?;
     }
     unreachable!()
 }

@@ -11,7 +11,7 @@ use early_locks::{Taken, try_take};
 use schedule_hook::{Gate, Place};
 use std::sync::Wait;
 use txn_jobs::{Cause, MOST_PARTIES};
-use txn_parts::{Desk, Relief, TakenAccount, pause};
+use txn_parts::{Desk, Relief, TakenAccount, listen_account, pause};
 
 /// Takes the accounts, which ascend, one after another, each once no other worker holds it, into a list that the caller has, in place
 /// of what that held. After an Err none is held. It is asked only where the log had not stopped when that was seen last, and an Ok
@@ -47,6 +47,8 @@ pub fn take_all<R: Wait, Q: Relief, G: Gate>(
     Ok(())
 }
 
+/// Takes the account once no other worker holds it. Where workers wait for the disk they hold an account that long, and who waits for one
+/// sleeps until it is given back.
 #[inline(always)]
 fn take_one<R: Wait, Q: Relief, G: Gate>(
     desk: &mut Desk<'_, R, Q, G>,
@@ -64,11 +66,12 @@ fn take_one<R: Wait, Q: Relief, G: Gate>(
     ensures stopped { IfErr result (HasStopped desk.new) }
 {
     for _ in desk.rt.forever() {
+        let key = listen_account(desk, account);
         if let Ok(taken) = try_take(desk.table, desk.seat, account) {
             return Ok(taken);
         }
         desk.gate.at(desk.seat.worker(), Place::Lost);
-        pause(desk)?;
+        pause(desk, key)?;
     }
     unreachable!()
 }

@@ -1,7 +1,8 @@
 //! What a worker works with.
 use log_table::{LogTable, Seat};
 
-/// A worker's desk: the table, the worker's seat there, what it does while it waits, and the gate that it tells of its places.
+/// A worker's desk: the table, the worker's seat there, what it does while it waits, the gate that it tells of its places, and whether it
+/// waits for the disk, as then others do.
 #[derive(Drop)]
 pub struct Desk<'a, R, Q, G> {
     pub rt: &'a R,
@@ -9,4 +10,5 @@ pub struct Desk<'a, R, Q, G> {
     pub seat: &'a mut Seat,
     pub relief: &'a mut Q,
     pub gate: &'a G,
+    pub wait: bool,
 }

@@ -5,6 +5,7 @@
 mod desk;
 mod ended;
 mod leg;
+mod listening;
 mod noting;
 mod numbered;
 mod release;
@@ -15,6 +16,7 @@ mod waiting;
 pub use desk::Desk;
 pub use ended::TransferEnd;
 pub use leg::{holding_of, move_amount, refusal, spell_credit, spell_debit};
+pub use listening::listen_account;
 pub use noting::spell_job_note;
 pub use numbered::Numbered;
 pub use release::Release;

@@ -2,7 +2,9 @@
 
 ghost use Rattle.std.specs.Prelude.{◌≡◌};
 
+use crossbeam_utils::sync::Key;
 use idle_backoff::IdleBackoff;
+use std::sync::Wait;
 use std::time::Clock;
 
 /// What a worker does between two attempts.
@@ -25,12 +27,21 @@ pub trait Relief {
         ensures ready { ready self.new }
         ensures later { later self.old self.new };
 
+    /// Whether it had rather be woken now than rest again.
+    fn is_tired(&self) -> bool;
+
+    /// Waits with this key, or does what makes such a wait needless.
+    fn sleep<R: Wait>(&mut self, rt: &R, key: Key<'_>)
+        requires ready { ready self.old }
+        ensures ready { ready self.new }
+        ensures later { later self.old self.new };
+
     ghost later_refl: { (q : Self) → later q q };
 
     ghost later_trans: { (p q r : Self) → later p q → later q r → later p r };
 }
 
-/// Spins for a moment, then sleeps for nearly as long as such a wait is expected to take, so as to be awake when it ends.
+/// Stays awake for a moment, where such waits are mostly over by then, and then sleeps: until it is woken, where that can be.
 #[derive(Drop)]
 pub struct YieldRelief<'a, C> {
     clock: &'a C,
@@ -63,6 +74,14 @@ impl<'a, C: Clock> Relief for YieldRelief<'a, C> {
 
     fn rest(&mut self) {
         self.backoff.idle(self.clock);
+    }
+
+    fn is_tired(&self) -> bool {
+        self.backoff.is_tired()
+    }
+
+    fn sleep<R: Wait>(&mut self, rt: &R, key: Key<'_>) {
+        key.wait(rt);
     }
 
     ghost later_refl = { λ relief. tt };

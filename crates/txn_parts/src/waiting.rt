@@ -6,16 +6,22 @@ ghost use Rattle.txn_parts.specs.Desk.{IsAtWork, WorksOn, HasOnlyLooked, view_at
 ghost use Rattle.txn_parts.specs.Stops.{HasStopped, HasSeen, IsLogEnd, IsRingFull};
 
 use crate::desk::Desk;
+use crate::listening::listen;
 use crate::relief::Relief;
+use crossbeam_utils::sync::Key;
 use log_table::{LogTable, Seat};
 use lsn_space::Lsn;
 use ring_buffer::Refused;
 use std::sync::Wait;
 use txn_jobs::Cause;
 
-/// What a worker does between two attempts. Ok: the log had not stopped. Err: it has.
+/// What a worker does between two attempts: it looks whether the log has stopped, and rests, or waits with a key that it took before the
+/// last attempt. Ok: the log had not stopped. Err: it has.
 #[inline(always)]
-pub fn pause<R, Q: Relief, G>(desk: &mut Desk<'_, R, Q, G>) -> Result<(), Cause>
+pub fn pause<R: Wait, Q: Relief, G>(
+    desk: &mut Desk<'_, R, Q, G>,
+    key: Option<Key<'_>>,
+) -> Result<(), Cause>
     requires work { IsAtWork Q.Relief desk.old }
     ensures work { WorksOn Q.Relief desk.old desk.new }
     ensures kept { HasOnlyLooked desk.old desk.new }
@@ -26,7 +32,11 @@ pub fn pause<R, Q: Relief, G>(desk: &mut Desk<'_, R, Q, G>) -> Result<(), Cause>
     if word != 0 {
         return Err(Cause::Stop(word));
     }
-    desk.relief.rest();
+    if let Some(key) = key {
+        desk.relief.sleep(desk.rt, key);
+    } else {
+        desk.relief.rest();
+    }
     Ok(())
 }
 
@@ -44,11 +54,13 @@ pub fn see_durable<R: Wait, Q: Relief, G>(
     ensures waits { OnErr result (wait ≡ true) }
     ensures stopped { IfErr result (HasStopped desk.new) }
 {
+    desk.relief.begin();
     for _ in desk.rt.forever() {
+        let key = listen(desk);
         if let Some(seen) = look_at_durable(desk.table, desk.seat, end, wait) {
             return Ok(seen);
         }
-        pause(desk)?;
+        pause(desk, key)?;
     }
     unreachable!()
 }

@@ -44,6 +44,7 @@ pub fn work<'a, R: Wait, Q: Relief, G: Gate>(
         seat,
         relief,
         gate,
+        wait,
     };
     work_at(&mut desk, queue, rows, wait)
 }

@@ -9,6 +9,7 @@ ghost use Rattle.txn_runner.specs.Working.{EndsByMark};
 ghost use Rattle.run_rig.specs.Enlisted.{IsEnlisted};
 ghost use Rattle.test_rig.specs.NotedJobs.{IsNew};
 
+use crossbeam_utils::sync::Key;
 use log_table::{LogTable, Seat};
 use lsn_space::Lsn;
 use run_rig::{enlisted, jobs_of, work_queue};
@@ -37,6 +38,14 @@ impl<'a, R: Abort> Relief for NeverRests<'a, R> {
 
     fn rest(&mut self) {
         panic!(self.rt; "a worker alone has waited");
+    }
+
+    fn is_tired(&self) -> bool {
+        false
+    }
+
+    fn sleep<W: Wait>(&mut self, _rt: &W, _key: Key<'_>) {
+        self.rest();
     }
 
     ghost later_refl = { λ relief. tt };

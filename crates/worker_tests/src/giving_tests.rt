@@ -5,6 +5,7 @@ ghost use Rattle.log_rule.specs.May.{IsAtRest, HasBegunNothing, Ascends};
 ghost use Rattle.log_table.specs.Seats.{IsOf, view_of};
 
 use crate::alone::{Given, has_ended, has_rows, run_two, work_alone};
+use crossbeam_utils::sync::Key;
 use log_table::{LogTable, Seat};
 use lsn_space::{LAST, Lsn};
 use run_rig::{enlisted, jobs_of, work_queue};
@@ -125,6 +126,14 @@ impl<'a, R: Abort> Relief for Sending<'a, R> {
             panic!(self.rt; "no memory");
         };
         self.from = to;
+    }
+
+    fn is_tired(&self) -> bool {
+        false
+    }
+
+    fn sleep<W: Wait>(&mut self, _rt: &W, _key: Key<'_>) {
+        self.rest();
     }
 
     ghost later_refl = { λ relief. tt };

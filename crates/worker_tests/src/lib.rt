@@ -28,4 +28,6 @@ mod pipeline_tests;
 #[cfg(test)]
 mod relief_tests;
 #[cfg(test)]
+mod waking_tests;
+#[cfg(test)]
 mod worker_tests;

@@ -10,6 +10,7 @@ ghost use Rattle.test_rig.specs.NotedJobs.{IsNew};
 use cli_reports::recover_command::recover_command;
 use cli_shared::Detail;
 use commit_pipeline::{Daemon, DaemonFault, Voice};
+use crossbeam_utils::sync::Key;
 use flushing_relief::FlushingRelief;
 use log_disk::{LogDisk, OpenGate, Sink};
 use log_table::{LogTable, Seat};
@@ -50,6 +51,14 @@ impl<'a, D: LogDisk, K: Sink> Relief for Looking<'a, D, K> {
         let word = self.table.load_account(&mut self.seat, 0);
         self.held = self.held && word.held();
         self.flushing.rest();
+    }
+
+    fn is_tired(&self) -> bool {
+        self.flushing.is_tired()
+    }
+
+    fn sleep<R: Wait>(&mut self, _rt: &R, _key: Key<'_>) {
+        self.rest();
     }
 
     ghost later_refl = { λ relief. tt };
