@@ -51,7 +51,7 @@ use Rattle.cli_demo.specs.Demo.{AnswersDemo, IsAnswerToDemo, IsPreparedDemo, IsR
 use Rattle.cli_ending.specs.Conclusion.{AreWhole, Concludes, IsFirstLogEnd, NothingStopped, counted_text}
 use Rattle.cli_threads.specs.Ending.{HasEnded}
 use Rattle.cli_demo.specs.Summary.{generated_opening, generated_rows, summary_text}
-use Rattle.run_summary.specs.Summary.{summary_of}
+use Rattle.run_plan.specs.Summary.{summary_of}
 use Rattle.cli_shared.specs.Opening.{OnlyLooks}
 use Rattle.cli_threads.specs.Sharing.{IsSharedOut, Sharing}
 use Rattle.cli_threads.specs.Transferred.{IsOpened}

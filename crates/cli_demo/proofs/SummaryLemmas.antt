@@ -20,7 +20,7 @@ use Rattle.txn_script.specs.Generator.{number_after, job_from, generated_transfe
 use Rattle.lock_core.specs.Transfers.{transfer_of}
 use Rattle.txn_script.proofs.OrderLemmas.{room-generated, generated-balance, generated-end}
 use Rattle.cli_demo.specs.Summary.{generated_opening, summary_text}
-use Rattle.run_summary.specs.Summary.{balance_in, mix_below, summary_lines, summary_of}
+use Rattle.run_plan.specs.Summary.{balance_in, mix_below, summary_lines, summary_of}
 use Rattle.log_recovery.specs.Opened.{placed, base_in, base_left}
 use Rattle.cli_shared.proofs.GenesisLemmas.{opening_rows, genesis-keeps_rows}
 

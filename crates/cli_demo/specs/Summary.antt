@@ -6,7 +6,7 @@ use Rattle.txn_script.specs.Generator.{generated_balance}
 use Rattle.log_recovery.specs.Opened.{OpenedList}
 use Rattle.cli_shared.specs.Creation.{new_list}
 pub use Rattle.run_plan.specs.Generated.{generated_rows}
-pub use Rattle.run_summary.specs.Summary.{balance_in, mix_below, summary_lines, summary_of}
+pub use Rattle.run_plan.specs.Summary.{balance_in, mix_below, summary_lines, summary_of}
 
 -- the list on which generated transfers run: their accounts, each with the balance that it begins with
 abbrev pub generated_opening : OpenedList

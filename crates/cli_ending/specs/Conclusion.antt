@@ -11,7 +11,7 @@ use Rattle.txn_jobs.specs.declared.cause.Worked.{Worked}
 use Rattle.txn_jobs.specs.declared.cause.Worked.TheVariants as worked
 use Rattle.cli_shared.specs.declared.report.Detail.{Detail}
 use Rattle.cli_shared.specs.declared.report.Detail.TheVariants.{Fine, Write, Disk, LogEnd}
-use Rattle.run_summary.specs.Summary.{summary_of}
+use Rattle.run_plan.specs.Summary.{summary_of}
 use Rattle.cli_ending.specs.declared.conclusion.RunEnd.{RunEnd}
 
 -- all workers came to the end of the queue

@@ -7,7 +7,7 @@ ghost use Rattle.cli_ending.specs.Conclusion.{HasConcluded, MayConclude, counted
 use crate::conclusion::{RunEnd, stopped};
 use cli_shared::Detail;
 use log_disk::Sink;
-use run_summary::{Counts, put_summary};
+use run_plan::{Counts, put_summary};
 
 /// What the program answers once so many transfers, which were counted and not told, have ended. Where nothing befell them it writes their
 /// summary.

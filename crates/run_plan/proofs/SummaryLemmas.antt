@@ -1,6 +1,6 @@
 -- The sums of a summary.
 use Rattle.std.proofs.Common.{◌≡◌, ℕ, ◌+◌, ◌*◌, ◌∙◌, ap, sym, add-one}
-use Rattle.run_summary.specs.Summary.{mix_below}
+use Rattle.run_plan.specs.Summary.{mix_below}
 
 -- one account more is mixed in
 pub mix_below-next : (n mix balance : ℕ) (balances : ℕ → ℕ) → mix ≡ mix_below n balances → balance ≡ balances n

@@ -1,6 +1,6 @@
 use Rattle.std.proofs.Common.{◌≡◌, ◌≤◌, ◌*◌}
-use Rattle.run_summary.specs.Summary.{balance_in, mix_below}
-use Rattle.run_summary.proofs.summary.mix_of.Given as goal
+use Rattle.run_plan.specs.Summary.{balance_in, mix_below}
+use Rattle.run_plan.proofs.summary.mix_of.Given as goal
 
 abbrev pub invariant-loop-account : goal.invariant-loop-account
 invariant-loop-account l = record {

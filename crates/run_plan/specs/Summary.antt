@@ -3,7 +3,7 @@ use Rattle.std.specs.Prelude.{ℕ, ◌+◌, ◌*◌, List, ◌++◌, codes, leng
 use Rattle.lsn_space.specs.Number.{number_text}
 use Rattle.lock_core.specs.AccountRows.{row}
 use Rattle.lock_core.specs.Sums.{sum_below}
-use Rattle.run_summary.specs.declared.summary.Counts.{Counts}
+use Rattle.run_plan.specs.declared.summary.Counts.{Counts}
 
 -- the sum over so many accounts, each balance as often as the account's number and 1 say: it depends on which account has what
 abbrev pub mix_below : ℕ → (ℕ → ℕ) → ℕ

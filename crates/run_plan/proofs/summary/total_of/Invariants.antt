@@ -1,7 +1,7 @@
 use Rattle.std.proofs.Common.{◌≡◌, ◌≤◌, ◌*◌}
 use Rattle.lock_core.specs.Sums.{sum_below}
-use Rattle.run_summary.specs.Summary.{balance_in}
-use Rattle.run_summary.proofs.summary.total_of.Given as goal
+use Rattle.run_plan.specs.Summary.{balance_in}
+use Rattle.run_plan.proofs.summary.total_of.Given as goal
 
 abbrev pub invariant-loop-account : goal.invariant-loop-account
 invariant-loop-account l = record {

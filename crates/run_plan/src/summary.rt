@@ -5,7 +5,7 @@ ghost use Rattle.log_disk.specs.Faults.{HasCause};
 ghost use Rattle.log_disk.specs.Streams.{AppendsPart};
 ghost use Rattle.lock_core.specs.Sums.{sum_below};
 ghost use Rattle.lsn_space.specs.declared.opening.TheConstants.{MOST_ACCOUNTS};
-ghost use Rattle.run_summary.specs.Summary.{balance_in, count_line, mix_below, summary_of};
+ghost use Rattle.run_plan.specs.Summary.{balance_in, count_line, mix_below, summary_of};
 
 use arrayvec::ArrayVec;
 use log_disk::{Sink, WriteFault, put_all};

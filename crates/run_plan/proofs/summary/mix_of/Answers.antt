@@ -1,9 +1,9 @@
 use Rattle.std.proofs.Common.{arith, ap, sym, ℕ}
 use Rattle.std.proofs.lemmas.Grind.{common_steps}
 use Rattle.std.proofs.lemmas.Option.{get_or_from_slice_get}
-use Rattle.run_summary.specs.Summary.{balance_in}
-use Rattle.run_summary.proofs.SummaryLemmas.{mix_below-next}
-use Rattle.run_summary.proofs.summary.mix_of.Goals as goal
+use Rattle.run_plan.specs.Summary.{balance_in}
+use Rattle.run_plan.proofs.SummaryLemmas.{mix_below-next}
+use Rattle.run_plan.proofs.summary.mix_of.Goals as goal
 
 pub loop-account-preserved : goal.loop-account-preserved
 loop-account-preserved c =
