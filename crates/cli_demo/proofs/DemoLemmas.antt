@@ -32,7 +32,7 @@ use Rattle.segment_file.specs.File.{HoldsUnits}
 use Rattle.segment_file.specs.Lengths.{most_end, new_end}
 use Rattle.segment_file.specs.StandingLog.{AllStand, HoldsNoneOr, IsShut}
 use Rattle.segment_file.specs.declared.scan_result.Tail.{Tail}
-use Rattle.stop_word.specs.declared.fault.DaemonFault.TheVariants.{WriteFault}
+use Rattle.daemon_turn.specs.declared.fault.DaemonFault.TheVariants.{WriteFault}
 use Rattle.end_lines.specs.declared.voice.Voice.{Voice}
 use Rattle.end_lines.specs.declared.voice.Voice.TheVariants.{Count, Lines}
 use Rattle.job_queue.specs.Passes.{jobs_of}

@@ -38,7 +38,7 @@ use Rattle.log_rule.specs.Sound.{base_of}
 use Rattle.log_rule.specs.Views.{flusher}
 use Rattle.log_rule.proofs.Deltas.{delta-positive, delta-negated}
 use Rattle.commit_pipeline.specs.declared.daemon.Daemon.{Daemon}
-use Rattle.stop_word.specs.declared.fault.DaemonFault.TheVariants.{DiskFault, WriteFault}
+use Rattle.daemon_turn.specs.declared.fault.DaemonFault.TheVariants.{DiskFault, WriteFault}
 use Rattle.end_lines.specs.declared.voice.Voice.TheVariants.{Lines}
 use Rattle.commit_pipeline.specs.EndLines.{done_line, end_lines}
 use Rattle.commit_pipeline.specs.Later.{Ran}

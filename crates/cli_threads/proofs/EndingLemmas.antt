@@ -16,8 +16,8 @@ use Rattle.lock_core.specs.AccountRows.{KeepsRows}
 use Rattle.segment_file.specs.declared.scan_result.Tail.{Tail}
 use Rattle.log_rule.specs.ClosedLog.{records_of}
 use Rattle.log_table.specs.Seats.{key_of}
-use Rattle.stop_word.specs.declared.fault.DaemonFault.{DaemonFault}
-use Rattle.stop_word.specs.declared.fault.DaemonFault.TheVariants.{DiskFault, WriteFault}
+use Rattle.daemon_turn.specs.declared.fault.DaemonFault.{DaemonFault}
+use Rattle.daemon_turn.specs.declared.fault.DaemonFault.TheVariants.{DiskFault, WriteFault}
 use Rattle.end_lines.specs.declared.tally.Tally.{Tally}
 use Rattle.end_lines.specs.declared.voice.Voice.{Voice}
 use Rattle.end_lines.specs.declared.voice.Voice.TheVariants.{Lines}

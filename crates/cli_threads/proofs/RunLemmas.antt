@@ -42,7 +42,7 @@ use Rattle.log_rule.specs.Views.{constants_of}
 use Rattle.flusher.specs.Flushing.{sent_of}
 use Rattle.commit_pipeline.specs.declared.daemon.Daemon.{Daemon}
 use Rattle.commit_pipeline.specs.EndLines.{text_of}
-use Rattle.stop_word.specs.declared.fault.DaemonFault.TheVariants.{WriteFault}
+use Rattle.daemon_turn.specs.declared.fault.DaemonFault.TheVariants.{WriteFault}
 use Rattle.end_lines.specs.declared.tally.Tally.{Tally}
 use Rattle.commit_pipeline.specs.Later.{Later, Ran, HasReason, StopTells, place_of, ring_of}
 use Rattle.commit_pipeline.specs.Telling.{counted}

@@ -6,4 +6,4 @@ pub mod ToldSoFar
 pub mod ToldTurns
 pub mod TurnLemmas
 pub use Rattle.end_lines.proofs.LineLemmas
-pub use Rattle.batch_lines.proofs.ToldLemmas
+pub use Rattle.daemon_turn.proofs.ToldLemmas

@@ -20,8 +20,8 @@ use Rattle.segment_file.specs.Log.{Log, with_units, HoldsLog}
 use Rattle.segment_file.specs.StandingLog.{LogStands, HoldsLogOrMore}
 use Rattle.segment_file.proofs.LogLemmas.{with_units-nil}
 use Rattle.segment_file.proofs.OneReading.{one_reading-log, HoldsLog-prop}
-use Rattle.stop_word.specs.declared.fault.DaemonFault.{DaemonFault}
-use Rattle.stop_word.specs.declared.fault.DaemonFault.TheVariants.{DiskFault, WriteFault}
+use Rattle.daemon_turn.specs.declared.fault.DaemonFault.{DaemonFault}
+use Rattle.daemon_turn.specs.declared.fault.DaemonFault.TheVariants.{DiskFault, WriteFault}
 use Rattle.end_lines.specs.EndLines.{text_of}
 use Rattle.flusher.specs.Flushing.{sent_of}
 use Rattle.flusher.specs.KeptLog.{KeepsLog, sent_by, read_by}

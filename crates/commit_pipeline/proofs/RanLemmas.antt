@@ -24,8 +24,8 @@ use Rattle.flusher.specs.Flushing.{sent_of}
 use Rattle.daemon_turn.proofs.SameLemmas.{IsSame-refl, IsSame-trans}
 use Rattle.lsn_space.proofs.TilingLemmas.{all-append}
 use Rattle.commit_pipeline.specs.declared.daemon.Daemon.{Daemon}
-use Rattle.stop_word.specs.declared.fault.DaemonFault.{DaemonFault}
-use Rattle.stop_word.specs.declared.fault.DaemonFault.TheVariants.{DiskFault, WriteFault}
+use Rattle.daemon_turn.specs.declared.fault.DaemonFault.{DaemonFault}
+use Rattle.daemon_turn.specs.declared.fault.DaemonFault.TheVariants.{DiskFault, WriteFault}
 use Rattle.end_lines.specs.declared.tally.Tally.{Tally}
 use Rattle.end_lines.specs.declared.voice.Voice.{Voice}
 use Rattle.end_lines.specs.declared.voice.Voice.TheVariants.{Lines, Count}

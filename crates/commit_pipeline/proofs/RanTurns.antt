@@ -19,8 +19,8 @@ use Rattle.daemon_turn.proofs.SameLemmas.{IsSame-changes_seat}
 use Rattle.commit_pipeline.specs.declared.daemon.Daemon.{Daemon}
 use Rattle.daemon_turn.specs.declared.one_turn.Turn.{Turn}
 use Rattle.daemon_turn.specs.declared.one_turn.Turn.TheVariants.{Idle, Sent}
-use Rattle.stop_word.specs.declared.fault.DaemonFault.{DaemonFault}
-use Rattle.stop_word.specs.declared.fault.DaemonFault.TheVariants.{DiskFault, WriteFault}
+use Rattle.daemon_turn.specs.declared.fault.DaemonFault.{DaemonFault}
+use Rattle.daemon_turn.specs.declared.fault.DaemonFault.TheVariants.{DiskFault, WriteFault}
 use Rattle.commit_pipeline.specs.Told.{HasToldPart}
 use Rattle.commit_pipeline.specs.Later.{InFlight, HasReason, StopTells, extra, Ran}
 use Rattle.end_lines.specs.declared.voice.Voice.{Voice}
@@ -29,7 +29,7 @@ use Rattle.commit_pipeline.specs.Turning.{ChangesFlusher, MayTurn, IsSameDaemon,
 use Rattle.commit_pipeline.proofs.FlewLemmas.{Flew, Flew-changes_seat, Flew-sends, Flew-loses, Flew-stop}
 use Rattle.commit_pipeline.proofs.RanLemmas.{none≢some, TellsFront-proper_front, TellsFront-voice_lines}
 use Rattle.commit_pipeline.proofs.ToldSoFar.{HasToldPart-more}
-use Rattle.batch_lines.proofs.ToldLemmas.{counted-none}
+use Rattle.daemon_turn.proofs.ToldLemmas.{counted-none}
 
 module _ {D : Type 0} {K : Type 0} (g : Ghosts D) (h : SinkGhosts K) (old new : Daemon D K g h) where
   Ran-of : (more cut : List Rec) (most : ℕ) → old.fault ≡ None → AllByRecursion IsSpellable (more ++ cut)

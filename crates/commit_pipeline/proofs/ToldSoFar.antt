@@ -15,7 +15,7 @@ use Rattle.log_table.specs.Seats.{view_of}
 use Rattle.end_lines.specs.declared.voice.Voice.{Voice}
 use Rattle.end_lines.specs.EndLines.{text_of}
 use Rattle.end_lines.proofs.LineLemmas.{text_of-append}
-use Rattle.batch_lines.proofs.ToldLemmas.{text_of-none}
+use Rattle.daemon_turn.proofs.ToldLemmas.{text_of-none}
 use Rattle.lsn_space.proofs.TilingLemmas.{all-append}
 use Rattle.commit_pipeline.specs.Told.{SentSince, HasTold, HasToldAll, HasToldPart}
 

@@ -6,8 +6,8 @@ use Rattle.log_disk.specs.declared.disk.LogDisk.{Ghosts}
 use Rattle.log_disk.specs.declared.sink.Sink.{Ghosts as SinkGhosts}
 use Rattle.log_table.specs.Seats.{view_of}
 use Rattle.end_lines.specs.declared.tally.Tally.{Tally}
-use Rattle.stop_word.specs.declared.fault.DaemonFault.{DaemonFault}
-use Rattle.stop_word.specs.declared.fault.DaemonFault.TheVariants.{DiskFault, WriteFault}
+use Rattle.daemon_turn.specs.declared.fault.DaemonFault.{DaemonFault}
+use Rattle.daemon_turn.specs.declared.fault.DaemonFault.TheVariants.{DiskFault, WriteFault}
 use Rattle.flusher.specs.Flushing.{IsSame}
 use Rattle.flusher.specs.declared.flusher.Flusher.{Flusher}
 use Rattle.daemon_turn.specs.declared.one_turn.Turn.{Turn}

@@ -18,10 +18,10 @@ use Rattle.segment_file.specs.StandingLog.{LogStands}
 use Rattle.flusher.specs.KeptLog.{HoldsFront}
 use Rattle.flusher.specs.Flushing.{sent_of}
 use Rattle.commit_pipeline.specs.declared.daemon.Daemon.{Daemon}
-use Rattle.stop_word.specs.declared.fault.DaemonFault.{DaemonFault}
-use Rattle.stop_word.specs.declared.fault.DaemonFault.TheVariants.{DiskFault, WriteFault}
+use Rattle.daemon_turn.specs.declared.fault.DaemonFault.{DaemonFault}
+use Rattle.daemon_turn.specs.declared.fault.DaemonFault.TheVariants.{DiskFault, WriteFault}
 use Rattle.end_lines.specs.declared.voice.Voice.TheVariants.{Lines}
-use Rattle.stop_word.specs.StopWord.{stop_word}
+use Rattle.daemon_turn.specs.StopWord.{stop_word}
 use Rattle.end_lines.specs.Telling.{counted}
 use Rattle.commit_pipeline.specs.Told.{HasToldPart}
 use Rattle.commit_pipeline.specs.Turning.{MayTurn, IsSameDaemon}

@@ -4,4 +4,4 @@ pub mod Told
 pub mod Turning
 pub use Rattle.end_lines.specs.EndLines
 pub use Rattle.end_lines.specs.Telling
-pub use Rattle.stop_word.specs.StopWord
+pub use Rattle.daemon_turn.specs.StopWord

@@ -9,12 +9,12 @@ ghost use Rattle.commit_pipeline.specs.Told.{HasTold};
 
 mod turning;
 
+use daemon_turn::DaemonFault;
 use end_lines::{Tally, Voice};
 use flusher::Flusher;
 use log_disk::{LogDisk, Sink};
 use log_table::Seat;
 use std::snapshot::Snapshot;
-use stop_word::DaemonFault;
 
 /// A flusher, and the sink that the lines of ended transactions go to. As long as it is there nothing else reaches the sink, and of
 /// its own methods those alone that always return: what may wait stands in a module that doesn't see it.

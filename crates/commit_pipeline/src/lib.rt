@@ -5,6 +5,5 @@ mod daemon;
 mod running;
 
 pub use daemon::{Daemon, DaemonParts};
-pub use daemon_turn::Turn;
+pub use daemon_turn::{DaemonFault, Turn};
 pub use end_lines::Voice;
-pub use stop_word::DaemonFault;

@@ -7,14 +7,13 @@ ghost use Rattle.commit_pipeline.specs.Later.{Later};
 ghost use Rattle.commit_pipeline.specs.Turning.{GoesOn, KnowsWorkers, MayTurn, durable};
 
 use crate::daemon::Daemon;
-use daemon_turn::Turn;
+use daemon_turn::{DaemonFault, Turn};
 use flusher::Drained;
 use idle_backoff::doze;
 use log_disk::{LogDisk, Sink};
 use lsn_space::Lsn;
 use std::sync::Wait;
 use std::time::Clock;
-use stop_word::DaemonFault;
 
 impl<'a, D: LogDisk, K: Sink> Daemon<'a, D, K> {
     /// Makes turns until no worker is active and all that they released is on the disk, and answers the end of the log. It

@@ -13,8 +13,8 @@ use Rattle.log_table.specs.Seats.{Becomes, view_of}
 use Rattle.end_lines.specs.declared.tally.Tally.{Tally}
 use Rattle.end_lines.specs.declared.voice.Voice.{Voice}
 use Rattle.end_lines.specs.Telling.{TellsAll, TellsFront}
-use Rattle.stop_word.specs.declared.fault.DaemonFault.TheVariants.{DiskFault, WriteFault}
-use Rattle.stop_word.specs.StopWord.{stop_word}
+use Rattle.daemon_turn.specs.declared.fault.DaemonFault.TheVariants.{DiskFault, WriteFault}
+use Rattle.daemon_turn.specs.StopWord.{stop_word}
 use mathlib.Core.Logic.{∥∥₁_map}
 use Rattle.flusher.specs.declared.flusher.Flusher.{Flusher}
 use Rattle.flusher.specs.KeptLog.{KeepsLog, StandsInAll, read_by, sent_by}

@@ -1,1 +1,3 @@
 pub mod OneTurn
+pub mod StopWord
+pub mod Telling

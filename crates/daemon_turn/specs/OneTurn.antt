@@ -10,9 +10,9 @@ use Rattle.log_rule.specs.Views.{sent_to, has_stopped}
 use Rattle.end_lines.specs.declared.tally.Tally.{Tally}
 use Rattle.end_lines.specs.declared.voice.Voice.{Voice}
 use Rattle.end_lines.specs.Telling.{TellsAll, TellsFront}
-use Rattle.stop_word.specs.declared.fault.DaemonFault.{DaemonFault}
-use Rattle.stop_word.specs.declared.fault.DaemonFault.TheVariants.{DiskFault, WriteFault}
-use Rattle.stop_word.specs.StopWord.{stop_word}
+use Rattle.daemon_turn.specs.declared.fault.DaemonFault.{DaemonFault}
+use Rattle.daemon_turn.specs.declared.fault.DaemonFault.TheVariants.{DiskFault, WriteFault}
+use Rattle.daemon_turn.specs.StopWord.{stop_word}
 use Rattle.flusher.specs.declared.flusher.Flusher.{Flusher}
 use Rattle.flusher.specs.Flushing.{ChangesSeat, MayFlush, FindsNothing, Sends, Loses, sent_of}
 use Rattle.daemon_turn.specs.declared.one_turn.Turn.{Turn}

@@ -3,12 +3,13 @@ ghost use Rattle.std.specs.Prelude.{◌≤◌, ◌+◌, length, IfOk, IfErr, OnO
 ghost use Rattle.flusher.specs.Flushing.{IsSame, sent_of};
 ghost use Rattle.daemon_turn.specs.OneTurn.{MayGoOn, Made, Failed};
 
-use batch_lines::tell;
+use crate::fault::DaemonFault;
+use crate::stopping::tell_fault;
+use crate::telling::tell;
 use end_lines::{Tally, Voice};
 use flusher::{Flushed, Flusher};
 use log_disk::{LogDisk, Sink};
 use lsn_space::Lsn;
-use stop_word::{DaemonFault, tell_fault};
 
 /// What a turn did.
 #[derive(Clone, Copy, Debug, PartialEq, Eq)]

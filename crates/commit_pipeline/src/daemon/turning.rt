@@ -4,9 +4,8 @@ ghost use Rattle.commit_pipeline.specs.Later.{Later};
 ghost use Rattle.commit_pipeline.specs.Turning.{HasCounted, MayTurn, Turns, Fails};
 
 use super::Daemon;
-use daemon_turn::{Turn, make_turn};
+use daemon_turn::{DaemonFault, Turn, make_turn};
 use log_disk::{LogDisk, Sink};
-use stop_word::DaemonFault;
 
 impl<'a, D: LogDisk, K: Sink> Daemon<'a, D, K> {
     /// Flushes, and then writes a line for each end record in what was sent. A fault is told to the workers by the stop

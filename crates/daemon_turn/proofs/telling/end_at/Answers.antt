@@ -1,8 +1,8 @@
 use Rattle.std.proofs.Common.{rules, ◌≡◌, ◌∙◌, ◌∷◌, sym}
 use Rattle.log_record.specs.Spelling.{header, spelling}
 use Rattle.log_record.proofs.Fronts.{parts_of}
-use Rattle.batch_lines.proofs.HeadLemmas.{spelling-first_unit, header-tells_length}
-use Rattle.batch_lines.proofs.telling.end_at.Goals as goal
+use Rattle.daemon_turn.proofs.HeadLemmas.{spelling-first_unit, header-tells_length}
+use Rattle.daemon_turn.proofs.telling.end_at.Goals as goal
 
 pub returns : goal.returns
 returns c =

@@ -1,5 +1,5 @@
 use Rattle.std.proofs.Common.{rules, refl}
-use Rattle.stop_word.proofs.stopping.tell_fault.Goals as goal
+use Rattle.daemon_turn.proofs.stopping.tell_fault.Goals as goal
 
 pub returns-clause-stops : goal.returns-clause-stops
 returns-clause-stops c = search rules steps 400000

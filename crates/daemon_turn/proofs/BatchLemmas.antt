@@ -9,8 +9,8 @@ use Rattle.end_lines.specs.declared.tally.Tally.{Tally}
 use Rattle.end_lines.specs.declared.voice.Voice.{Voice}
 use Rattle.end_lines.specs.EndLines.{line_said, count_said, is_done, is_refused}
 use Rattle.end_lines.specs.Telling.{TellsAll, TellsFront, ended}
-use Rattle.batch_lines.proofs.HeadLemmas.{ended_none-silent, ended-same}
-use Rattle.batch_lines.proofs.ToldLemmas.{ToldUpTo, told-record_begins, told-more, told-push_silent, told-tells_front, told-all}
+use Rattle.daemon_turn.proofs.HeadLemmas.{ended_none-silent, ended-same}
+use Rattle.daemon_turn.proofs.ToldLemmas.{ToldUpTo, told-record_begins, told-more, told-push_silent, told-tells_front, told-all}
 
 -- the record that begins at an index, what of it ends a transaction, and how many units it has
 abbrev pub IsSeen : List ℕ → ℕ → Option Rec → ℕ → Type 0

@@ -1,6 +1,6 @@
 //! Why a daemon stopped, and the stop word that tells it.
 ghost use Rattle.std.specs.Prelude.{◌≡◌};
-ghost use Rattle.stop_word.specs.StopWord.{stop_word};
+ghost use Rattle.daemon_turn.specs.StopWord.{stop_word};
 
 /// Why a daemon stopped.
 #[derive(Clone, Copy, Debug, PartialEq, Eq)]

@@ -3,7 +3,7 @@ ghost use Rattle.std.specs.Prelude.{◌≡◌};
 ghost use Rattle.log_rule.specs.May.{MayStop};
 ghost use Rattle.log_table.specs.Seats.{IsOf, Becomes, view_of};
 ghost use Rattle.log_rule.specs.Views.{has_stopped};
-ghost use Rattle.stop_word.specs.StopWord.{stop_word};
+ghost use Rattle.daemon_turn.specs.StopWord.{stop_word};
 
 use crate::fault::DaemonFault;
 use log_table::{LogTable, Seat};

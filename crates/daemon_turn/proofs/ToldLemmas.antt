@@ -13,7 +13,7 @@ use Rattle.end_lines.specs.declared.voice.Voice.{Voice}
 use Rattle.end_lines.specs.declared.voice.Voice.TheVariants.{Lines, Count}
 use Rattle.end_lines.specs.EndLines.{text_of, lines_in, line_said, count_said, is_done, is_refused}
 use Rattle.end_lines.specs.Telling.{TellsAll, TellsFront, counted}
-use Rattle.batch_lines.proofs.HeadLemmas.{Silent}
+use Rattle.daemon_turn.proofs.HeadLemmas.{Silent}
 use Rattle.end_lines.proofs.LineLemmas.{text_of-append, text_of-one_record, lines_in-append, lines_in-one_record, counted-append}
 
 -- it ends at most one transaction

@@ -6,7 +6,7 @@ ghost use Rattle.log_record.specs.Spelling.{header, spelling, IsSpellable, Begin
 ghost use Rattle.log_record.specs.LogList.{AreUnitsOf};
 ghost use Rattle.end_lines.specs.Telling.{ended};
 ghost use Rattle.flusher.specs.KeptLog.{StandsInAll};
-ghost use Rattle.batch_lines.specs.Telling.{TellsBatch};
+ghost use Rattle.daemon_turn.specs.Telling.{TellsBatch};
 
 use end_lines::{Tally, Voice, tell_record};
 use flusher::Flusher;

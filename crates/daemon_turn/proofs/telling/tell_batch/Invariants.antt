@@ -1,7 +1,7 @@
 use Rattle.std.proofs.Common.{◌≡◌, ◌≤◌, ◌+◌, ◌-◌, List, ℕ, length}
 use Rattle.log_disk.specs.Streams.{AppendsBut}
-use Rattle.batch_lines.proofs.BatchLemmas.{IsToldUpTo}
-use Rattle.batch_lines.proofs.telling.tell_batch.Given as goal
+use Rattle.daemon_turn.proofs.BatchLemmas.{IsToldUpTo}
+use Rattle.daemon_turn.proofs.telling.tell_batch.Given as goal
 
 abbrev pub invariant-records : goal.invariant-records
 invariant-records g l = record {

@@ -1,7 +1,7 @@
 -- How a fault is told to the workers.
 use Rattle.std.specs.Prelude.{ℕ}
-use Rattle.stop_word.specs.declared.fault.DaemonFault.{DaemonFault}
-use Rattle.stop_word.specs.declared.fault.DaemonFault.TheVariants.{DiskFault, WriteFault}
+use Rattle.daemon_turn.specs.declared.fault.DaemonFault.{DaemonFault}
+use Rattle.daemon_turn.specs.declared.fault.DaemonFault.TheVariants.{DiskFault, WriteFault}
 
 -- the stop word
 abbrev pub stop_word : DaemonFault → ℕ

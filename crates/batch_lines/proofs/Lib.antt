@@ -1,3 +1,0 @@
-pub mod BatchLemmas
-pub mod HeadLemmas
-pub mod ToldLemmas
