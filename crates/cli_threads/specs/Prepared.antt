@@ -29,7 +29,7 @@ use Rattle.cli_threads.specs.declared.transfers.Hands.{Hands}
 use Rattle.cli_threads.specs.declared.room.Room.{Room}
 use Rattle.cli_threads.specs.declared.transfers.Prepared.{Prepared}
 use Rattle.cli_workers.specs.declared.workers.Worker.{Worker}
-use Rattle.flushing_relief.specs.declared.relief.FlushingRelief.{FlushingRelief}
+use Rattle.cli_workers.specs.declared.relief.FlushingRelief.{FlushingRelief}
 use Rattle.cli_workers.specs.Workers.{AreUnused}
 use Rattle.cli_threads.specs.declared.transfers.Served.{Served}
 use Rattle.cli_threads.specs.Gathering.{AreFront, all_marks, all_places, takes_all, view_in, worked_of}

@@ -8,9 +8,8 @@ ghost use Rattle.commit_pipeline.specs.Turning.{MayTurn};
 ghost use Rattle.cli_threads.specs.Serving.{MayServeAll, ServesAll};
 
 use crate::serving::{Started, join_all, start_all};
-use cli_workers::{Run, Worker};
+use cli_workers::{FlushingRelief, Run, Worker};
 use commit_pipeline::Daemon;
-use flushing_relief::FlushingRelief;
 use log_disk::{Gate, LogDisk, Sink};
 use std::sync::Wait;
 use std::thread;

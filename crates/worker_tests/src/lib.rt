@@ -1,6 +1,6 @@
 //! Tests of `txn_runner`: workers over a table that no daemon flushes, and the accounts that they give back; of `flusher` and
 //! `commit_pipeline`: what workers insert while a daemon sends it to a disk; of a run of sixteen workers over a table with one slot; and of
-//! `flushing_relief`: a worker that flushes while it waits.
+//! `cli_workers`: a worker that flushes while it waits.
 #![tactic(auto)]
 
 #[cfg(test)]

@@ -9,9 +9,9 @@ ghost use Rattle.test_rig.specs.NotedJobs.{IsNew};
 
 use cli_reports::recover_command::recover_command;
 use cli_shared::Detail;
+use cli_workers::FlushingRelief;
 use commit_pipeline::{Daemon, DaemonFault, Voice};
 use crossbeam_utils::sync::Key;
-use flushing_relief::FlushingRelief;
 use log_disk::{LogDisk, OpenGate, Sink};
 use log_table::{LogTable, Seat};
 use lsn_space::Lsn;

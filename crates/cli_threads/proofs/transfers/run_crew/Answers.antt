@@ -1,5 +1,5 @@
 use Rattle.std.proofs.Common.{rules, ◌≡◌, length, sym, subst, IsSomeAnd}
-use Rattle.flushing_relief.specs.declared.relief.FlushingRelief.{FlushingRelief}
+use Rattle.cli_workers.specs.declared.relief.FlushingRelief.{FlushingRelief}
 use Rattle.log_rule.specs.May.{MayClose}
 use Rattle.log_table.specs.HiredWorkers.{HasHired, KnowsHired}
 use Rattle.log_table.specs.Seats.{key_of, view_of}

@@ -1,5 +1,5 @@
 use Rattle.std.proofs.Common.{rules, tests}
-use Rattle.flushing_relief.proofs.relief.FlushingReliefRelief.rest.Goals as goal
+use Rattle.cli_workers.proofs.relief.FlushingReliefRelief.rest.Goals as goal
 
 pub turn-requires : goal.turn-requires
 turn-requires g c = record { ready = c.requires.ready (search (tests, rules) steps 300000) }
