@@ -3,7 +3,7 @@ use commit_pipeline::Daemon;
 use crossbeam_utils::sync::Key;
 use log_disk::{LogDisk, Sink};
 use std::sync::Wait;
-use txn_runner::Relief;
+use txn_runner::{Made, Relief};
 
 /// A daemon that makes a turn at each rest, until it has a fault, which it keeps.
 #[derive(Drop)]
@@ -31,6 +31,8 @@ impl<'a, D: LogDisk, K: Sink> Relief for FlushingRelief<'a, D, K> {
     fn sleep<R: Wait>(&mut self, _rt: &R, _key: Key<'_>) {
         self.rest();
     }
+
+    fn between(&mut self, _made: Made, _lost: u32) {}
 
     // It never sleeps: what it waits for may need a flush at any moment.
     fn rest(&mut self) {

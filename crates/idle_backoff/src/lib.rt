@@ -1,11 +1,13 @@
-//! How a thread passes the time while it waits for another. Who waits stays awake for a moment,
+//! How a thread passes the time while it waits for another, and how a worker rests where workers meet. Who waits stays awake for a moment,
 //! where such waits are mostly over by then; who has nothing to do dozes.
 #![tactic(auto)]
 
 mod idling;
 mod nanos;
+mod rests;
 
 pub use idling::IdleBackoff;
+pub use rests::Rests;
 use std::thread::sleep;
 use std::time::{Clock, Duration};
 

@@ -31,7 +31,11 @@ pub fn insert_units<R: Wait, Q: Relief, G: Gate>(
     let count = units.as_slice().len() as u32;
     for _ in desk.rt.forever() {
         match insert(desk.rt, desk.table, desk.seat, units, desk.gate) {
-            Ok(at) => return Ok(Lsn::new(at.units() + count)),
+            Ok(at) => {
+                let end = Lsn::new(at.units() + count);
+                desk.made.add(count, end);
+                return Ok(end);
+            }
             Err(refused) => may_come(refused)?,
         }
         pause(desk, None)?;

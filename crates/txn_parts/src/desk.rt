@@ -1,8 +1,9 @@
 //! What a worker works with.
+use crate::made::Made;
 use log_table::{LogTable, Seat};
 
-/// A worker's desk: the table, the worker's seat there, what it does while it waits, the gate that it tells of its places, and whether it
-/// waits for the disk, as then others do.
+/// A worker's desk: the table, the worker's seat there, what it does while it waits, the gate that it tells of its places, whether it
+/// waits for the disk, as then others do, and how far it has come.
 #[derive(Drop)]
 pub struct Desk<'a, R, Q, G> {
     pub rt: &'a R,
@@ -11,4 +12,5 @@ pub struct Desk<'a, R, Q, G> {
     pub relief: &'a mut Q,
     pub gate: &'a G,
     pub wait: bool,
+    pub made: Made,
 }

@@ -2,8 +2,9 @@
 
 ghost use Rattle.std.specs.Prelude.{◌≡◌};
 
+use crate::made::Made;
 use crossbeam_utils::sync::Key;
-use idle_backoff::IdleBackoff;
+use idle_backoff::{IdleBackoff, Rests};
 use std::sync::Wait;
 use std::time::Clock;
 
@@ -36,6 +37,12 @@ pub trait Relief {
         ensures ready { ready self.new }
         ensures later { later self.old self.new };
 
+    /// Rests between two transfers, where that pays, and returns. The worker has come so far, and lost so many exchanges in the last one.
+    fn between(&mut self, made: Made, lost: u32)
+        requires ready { ready self.old }
+        ensures ready { ready self.new }
+        ensures later { later self.old self.new };
+
     ghost later_refl: { (q : Self) → later q q };
 
     ghost later_trans: { (p q r : Self) → later p q → later q r → later p r };
@@ -46,6 +53,7 @@ pub trait Relief {
 pub struct YieldRelief<'a, C> {
     clock: &'a C,
     backoff: IdleBackoff,
+    rests: Rests,
 }
 
 impl<'a, C> YieldRelief<'a, C> {
@@ -56,6 +64,7 @@ impl<'a, C> YieldRelief<'a, C> {
         YieldRelief {
             clock,
             backoff: IdleBackoff::new(),
+            rests: Rests::new(),
         }
     }
 }
@@ -82,6 +91,12 @@ impl<'a, C: Clock> Relief for YieldRelief<'a, C> {
 
     fn sleep<R: Wait>(&mut self, rt: &R, key: Key<'_>) {
         key.wait(rt);
+    }
+
+    #[inline(always)]
+    fn between(&mut self, made: Made, lost: u32) {
+        self.rests
+            .behind(self.clock, made.units, made.end.units(), lost);
     }
 
     ghost later_refl = { λ relief. tt };

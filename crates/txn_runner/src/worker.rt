@@ -5,6 +5,7 @@ ghost use Rattle.txn_parts.specs.Desk.{IsAtWork, WorksOn, view_at, accounts_at};
 ghost use Rattle.txn_runner.specs.Stages.{IsWorker, MayWork};
 ghost use Rattle.txn_runner.specs.Working.{HasDone};
 
+use crate::counting::Counting;
 use crate::job::run_job;
 use crate::taking::begin_job;
 use arrayvec::ArrayVec;
@@ -15,7 +16,7 @@ use log_table::{LogTable, Seat};
 use schedule_hook::Gate;
 use std::sync::Wait;
 use txn_jobs::Worked;
-use txn_parts::{Desk, Numbered, Relief};
+use txn_parts::{Desk, Made, Numbered, Relief};
 
 /// Takes one transfer after another of the queue, each the next one, and makes it, until the rows' pass takes its mark: then no transfer is
 /// left for anyone. For each that ended there is a row, but for the last one where the worker waits and the log stops before it saw
@@ -38,13 +39,15 @@ pub fn work<'a, R: Wait, Q: Relief, G: Gate>(
     ensures later { Q.later relief.old relief.new }
     ensures done { HasDone queue.now wait result rows.old rows.new (view_of seat.old) (view_of seat.new) }
 {
+    let counting = Counting::new(gate);
     let mut desk = Desk {
         rt,
         table,
         seat,
         relief,
-        gate,
+        gate: &counting,
         wait,
+        made: Made::new(),
     };
     work_at(&mut desk, queue, rows, wait)
 }
@@ -52,7 +55,7 @@ pub fn work<'a, R: Wait, Q: Relief, G: Gate>(
 /// The work at this desk (`work`).
 #[inline(always)]
 fn work_at<R: Wait, Q: Relief, G: Gate>(
-    desk: &mut Desk<'_, R, Q, G>,
+    desk: &mut Desk<'_, R, Q, Counting<'_, G>>,
     queue: &Queue,
     rows: &mut Rows,
     wait: bool,
@@ -70,7 +73,14 @@ fn work_at<R: Wait, Q: Relief, G: Gate>(
     let mut accounts = ArrayVec::new();
     let mut holdings = ArrayVec::new();
     let mut units = Units::new();
-    'jobs: while let Some(stop) = begin_job(desk, queue, rows, &mut numbered) {
+    let counting = desk.gate;
+    'jobs: while let Some(stop) = begin_job(
+        desk,
+        queue,
+        rows,
+        &mut numbered,
+        counting.take_lost(),
+    ) {
         let made = run_job(
             desk,
             stop,

@@ -19,7 +19,7 @@ use std::process::Abort;
 use std::sync::Wait;
 use std::test::Fail;
 use test_rig::{table_of, worker};
-use txn_runner::{Answer, Queue, Relief, Row, Rows, Worked};
+use txn_runner::{Answer, Made, Queue, Relief, Row, Rows, Worked};
 
 /// The relief of a worker that has nobody to wait for: a rest ends the test.
 #[derive(Drop)]
@@ -47,6 +47,8 @@ impl<'a, R: Abort> Relief for NeverRests<'a, R> {
     fn sleep<W: Wait>(&mut self, _rt: &W, _key: Key<'_>) {
         self.rest();
     }
+
+    fn between(&mut self, _made: Made, _lost: u32) {}
 
     ghost later_refl = { λ relief. tt };
 

@@ -15,7 +15,7 @@ use std::process::Abort;
 use std::sync::Wait;
 use std::test::Fail;
 use test_rig::{job_of, send_all, table_of, values_of, worker};
-use txn_runner::{Answer, Cause, Relief, Rows, Worked};
+use txn_runner::{Answer, Cause, Made, Relief, Rows, Worked};
 
 /// Another worker, the second, which took a job and no account yet.
 fn looker(table: &LogTable, flusher_seat: &mut Seat) -> Seat
@@ -135,6 +135,8 @@ impl<'a, R: Abort> Relief for Sending<'a, R> {
     fn sleep<W: Wait>(&mut self, _rt: &W, _key: Key<'_>) {
         self.rest();
     }
+
+    fn between(&mut self, _made: Made, _lost: u32) {}
 
     ghost later_refl = { λ relief. tt };
 

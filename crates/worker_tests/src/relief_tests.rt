@@ -22,7 +22,7 @@ use std::process::Abort;
 use std::sync::Wait;
 use std::test::Fail;
 use test_rig::{table_of, worker};
-use txn_runner::{Answer, Cause, Queue, Relief, Row, Rows, Worked};
+use txn_runner::{Answer, Cause, Made, Queue, Relief, Row, Rows, Worked};
 
 /// A relief that flushes, and first looks whether account 0 is held.
 #[derive(Drop)]
@@ -60,6 +60,8 @@ impl<'a, D: LogDisk, K: Sink> Relief for Looking<'a, D, K> {
     fn sleep<R: Wait>(&mut self, _rt: &R, _key: Key<'_>) {
         self.rest();
     }
+
+    fn between(&mut self, _made: Made, _lost: u32) {}
 
     ghost later_refl = { λ relief. tt };
 

@@ -12,7 +12,7 @@ use std::process::Abort;
 use std::sync::Wait;
 use std::test::Fail;
 use test_rig::{send_all, table_of, worker};
-use txn_runner::{Answer, Relief, Worked};
+use txn_runner::{Answer, Made, Relief, Worked};
 
 /// A relief that is tired at once. Where the worker has looked, and is about to sleep, it tells that all is on the disk; and only then it
 /// sleeps.
@@ -57,6 +57,8 @@ impl<'a, R: Abort> Relief for Late<'a, R> {
         self.from = to;
         key.wait(rt);
     }
+
+    fn between(&mut self, _made: Made, _lost: u32) {}
 
     ghost later_refl = { λ relief. tt };
 

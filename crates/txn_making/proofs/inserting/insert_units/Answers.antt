@@ -17,7 +17,7 @@ insert-requires-clause-units g c = c.requires.spelled
 
 pub returns-in-Ok-clause-put : goal.returns-in-Ok-clause-put
 returns-in-Ok-clause-put g c =
-    let end : c.new.result ≡ c.in-Ok.at + length c.args.units.now = search rules in
-    placing-puts_record (length c.args.units.now) c.in-Ok.at c.new.result c.args.desk.now.seat.now c.loop.desk.seat.now
+    let end : c.new-end.result ≡ c.in-Ok.at + length c.args.units.now = search rules in
+    placing-puts_record (length c.args.units.now) c.in-Ok.at c.new-end.result c.args.desk.now.seat.now c.loop.desk.seat.now
     c.insert.new.seat (ap length c.requires.spelled) end
     c.loop.invariant.1 c.in-Ok.ensures.inserted c.in-Ok.ensures.behind c.in-Ok.ensures.seen

@@ -31,10 +31,10 @@ returns-clause-work g c = let t = taken g (goal.at.returns-clause-work g c).Afte
   at_work = record {
     seat = IsOf-same _ _ _ c.requires.work.seat t.same;
     ready = IsReady-same _ _ c.requires.work.ready t.same t.idle t.contended;
-    relief = c.requires.work.relief;
+    relief = c.rest_between.ensures.ready;
   };
   same = t.same;
-  later = g.met.Q.Relief.later_refl _;
+  later = c.rest_between.ensures.later;
 }
 
 pub returns-clause-taken : goal.returns-clause-taken
