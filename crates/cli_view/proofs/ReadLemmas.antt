@@ -103,7 +103,6 @@ module _ (left left_new : Option (List ℕ)) (view : View) (listed : Listed) (re
         list_read-of_list (λ list. (text : List ℕ) × SaysAccounts lsn list text × AppendsPart old new text) (rows_text lsn rows, says-accounts, written)
 
   module _ (account : ℕ) where
-
     module _ (balance : ℕ) (entries : List Entry)
         (first : (opening : Opening) (h : List Placed) → HasViewed opening view h
         → (account < (base_with opening h).accounts) × (balance ≡ (base_with opening h).balance account))
