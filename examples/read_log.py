@@ -31,17 +31,38 @@ def head_of(data):
     return begin, [f"snapshot {begin} {txn}\n", *lines], end
 
 
+def opening_of(data):
+    """Where the list begins, the lines that the dump has of a head, and the places of the first batch's gate and of its count."""
+    if not is_open(data, 0) or data[1:8] not in (b"AETHER1", b"AETHER2"):
+        raise Fault("not a log")
+    if data[7:8] == b"1":
+        return 0, [], 0, 8
+    begin, lines, end = head_of(data)
+    return begin, lines, end, end + 1
+
+
+def batch_end(data, at, room):
+    """Where the batch ends whose count stands here; None where it isn't whole, or has more units than there is room for."""
+    count = number(data, at, 4)
+    end = at + 4 + 8 * count
+    return end if at + 4 <= len(data) and 1 <= count <= min(MOST_UNITS, room) and end <= len(data) else None
+
+
+def units_in(data, at, end):
+    """The units of the batch whose count stands here, and that ends there."""
+    return [number(data, place, 8) for place in range(at + 4, end, 8)]
+
+
 def units_of(data, begin, gate, at):
-    """The units of all batches, joined: the first of these gates stands here, and what is behind it there."""
+    """The units of all batches, joined, and the place of the last gate: the first gate stands here, and what is behind it there."""
     units = []
     while is_open(data, gate):
-        count = number(data, at, 4)
-        end = at + 4 + 8 * count
-        if at + 4 > len(data) or not 1 <= count <= MOST_UNITS or end > len(data) or begin + len(units) + count > MOST_LSN:
+        end = batch_end(data, at, MOST_LSN - begin - len(units))
+        if end is None:
             raise Fault(f"bad batch at byte {gate}")
-        units += [number(data, place, 8) for place in range(at + 4, end, 8)]
+        units += units_in(data, at, end)
         gate, at = end, end + 1
-    return units
+    return units, gate
 
 
 def record_at(units, place):
@@ -65,26 +86,36 @@ def record_at(units, place):
     return None
 
 
-def lines_of(data):
-    if not is_open(data, 0) or data[1:8] not in (b"AETHER1", b"AETHER2"):
-        raise Fault("not a log")
-    begin, lines, place = 0, [], 0
-    if data[7:8] == b"1":
-        units = units_of(data, begin, 0, 8)
-    else:
-        begin, lines, end = head_of(data)
-        units = units_of(data, begin, end, end + 1)
+def records_of(units):
+    """Of each record where it starts and its words, up to the first unit where none starts, and the place of that unit or the end."""
+    records, place = [], 0
     while place < len(units):
         found = record_at(units, place)
         if found is None:
-            raise Fault(f"bad record at lsn {begin + place}")
-        lines.append(f"{begin + place} {found[1]}\n")
+            break
+        records.append((place, found[1]))
         place += found[0]
-    return [*lines, f"lsn {begin + place}\n"]
+    return records, place
 
 
-try:
-    sys.stdout.write("".join(lines_of(sys.stdin.buffer.read())))
-except Fault as fault:
-    print(f"aether: {fault}", file=sys.stderr)
-    sys.exit(7)
+def log_of(data):
+    """The lines of the dump but for its last, the LSN at which the list ends, and the place of the last gate."""
+    begin, lines, gate, at = opening_of(data)
+    units, gate = units_of(data, begin, gate, at)
+    records, place = records_of(units)
+    if place < len(units):
+        raise Fault(f"bad record at lsn {begin + place}")
+    return lines + [f"{begin + start} {words}\n" for start, words in records], begin + place, gate
+
+
+def main():
+    try:
+        lines, end, _ = log_of(sys.stdin.buffer.read())
+    except Fault as fault:
+        print(f"aether: {fault}", file=sys.stderr)
+        sys.exit(7)
+    sys.stdout.write("".join([*lines, f"lsn {end}\n"]))
+
+
+if __name__ == "__main__":
+    main()
