@@ -1,9 +1,9 @@
 #!/usr/bin/env python3
 """Of a log with `bad record at lsn N` or `unlawful record at lsn N`, in either format, what can be kept: salvage.py LOG N.
 
-It prints the place in the file where the whole batches end that end at N or before, the LSN there, and what is lost behind that place: how many batches and
-bytes, and the records that can still be read in these batches, as `aether dump` shows them. The first so many bytes (`head -c`) are then a log, if all before N is lawful.
-The status is 1 where no such front is a log, 7 where the bytes are none."""
+It prints the place in the file where the whole batches end that end at N or before, the LSN there, and what is lost behind that place: how many batches
+and bytes, and the records that can still be read in these batches, as `aether dump` shows them. The first so many bytes (`head -c`) are then a log, if
+all before N is lawful. The status is 1 where no such front is a log, 7 where the bytes are none."""
 import os, sys
 
 sys.dont_write_bytecode = True
