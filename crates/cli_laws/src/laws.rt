@@ -63,7 +63,7 @@ pub fn run_is_recovered()
 
 /// A law: what is known of a run once all seats are gathered gives what it promises.
 pub fn run_keeps_log<D: LogDisk, K: Sink>()
-    ensures keeps { (opened : OpenedList) (jobs : NumberedJobs) (front : ℕ) (shares : List Share) (key : Start)
+    ensures { (opened : OpenedList) (jobs : NumberedJobs) (front : ℕ) (shares : List Share) (key : Start)
         (old new : Daemon D K D.LogDisk K.Sink) (view : View) (lsn : ℕ) (rows : List (ℕ × ℕ))
         → HasTransferred D.LogDisk K.Sink opened jobs front shares key old new view lsn rows
         → KeepsPromise D.LogDisk K.Sink opened jobs front shares key old new view lsn rows }
