@@ -137,19 +137,20 @@ def between_marks(document, text):
     return f"{front}{BEGIN}\n{text}{END}{rest.partition(END)[2]}"
 
 
-# Three figures for the project's README.
+# Figures for the project's README.
 
 
 QUESTION = "**How fast is it?**"
 
 
 def figures(results):
-    demo = results[0]
+    demos = [result for result in results if result.work == "demo" and result.storage == results[0].storage]
     recovery = max((result for result in results if result.work == "recover"), key=lambda result: result.amount)
-    of_steps, of_mutex = demo.ratios("steps").median, demo.ratios("mutex").median
+    workers = ", ".join(str(demo.workers) for demo in demos)
+    by = lambda rival: ", ".join(f"{demo.ratios(rival).median:.2f}" for demo in demos)
     return (
-        f"With one worker in {demo.storage} `demo` has {of_steps:.2f} of the speed of an unproved program of the same steps. Beside one with a "
-        f"mutex it has {of_mutex:.2f}. `recover` reads {recovery.amount:,} records in {milliseconds(recovery, PROGRAM)} milliseconds "
+        f"`demo` in {demos[0].storage}, with {workers} workers, has {by('steps')} of the speed of an unproved program of the same steps. Beside a "
+        f"mutex it has {by('mutex')}. `recover` reads {recovery.amount:,} records in {milliseconds(recovery, PROGRAM)} milliseconds "
         "([how this is measured](bench/README.md))."
     )
 
