@@ -30,8 +30,8 @@ use Rattle.cli_cut.specs.Command.{DoesCut, DoesUpgrade}
 use Rattle.cli_run.specs.RunAnswers.{IsAnswerToRun}
 use Rattle.cli_demo.specs.Demo.{IsAnswerToDemo}
 use Rattle.cli_shared.specs.World.{TellsFaults, World}
-use Rattle.cli_world.specs.Alone.{AnsweredAlone, DoesAlone}
-use Rattle.cli_world.specs.declared.answer.Answer.TheVariants.{Done}
+use Rattle.cli_dispatch.specs.Alone.{AnsweredAlone, DoesAlone}
+use Rattle.cli_dispatch.specs.declared.answer.Answer.TheVariants.{Done}
 use Rattle.cli_top.specs.Answered.{Answered, Does, DoesDemo, Obeys}
 use Rattle.cli_top.specs.Asks.{AsksCut, AsksDemo, AsksFollow, AsksNew, AsksRun, AsksUpgrade}
 use Rattle.cli_top.proofs.DemoTold.{TellsSummary-stays_silent}

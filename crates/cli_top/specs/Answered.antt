@@ -16,7 +16,7 @@ use Rattle.cli_cut.specs.Command.{DoesCut, DoesUpgrade}
 use Rattle.cli_standby.specs.Command.{DoesFollow}
 use Rattle.cli_run.specs.Command.{DoesRun}
 use Rattle.cli_demo.specs.Command.{HasDemonstrated}
-use Rattle.cli_world.specs.Reports.{DoesAsOf, DoesDump, DoesRecover, DoesShip, DoesStatement}
+use Rattle.cli_dispatch.specs.Reports.{DoesAsOf, DoesDump, DoesRecover, DoesShip, DoesStatement}
 
 -- `demo` reads nothing
 pub record DoesDemo {D S K : Type 0} (g : Ghosts D) (i : SinkGhosts K) (log : List ℕ) (n seed : ℕ) (options : RunOptions)

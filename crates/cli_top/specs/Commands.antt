@@ -22,7 +22,7 @@ use Rattle.cli_standby.specs.Command.{DoesFollow}
 use Rattle.cli_standby.specs.Following.{IsFollowDone, IsLawfulStream}
 use Rattle.cli_run.specs.Command.{DoesRun}
 use Rattle.cli_run.specs.RunAnswers.{IsRunDone, accounts_of, next_txn}
-use Rattle.cli_world.specs.Reports.{DoesAsOf, DoesDump, DoesRecover, DoesShip, DoesStatement}
+use Rattle.cli_dispatch.specs.Reports.{DoesAsOf, DoesDump, DoesRecover, DoesShip, DoesStatement}
 use Rattle.cli_top.specs.Answered.{DoesDemo}
 
 -- no fault of the disk, the input or the output is answered, so none was counted

@@ -11,12 +11,12 @@ ghost use Rattle.cli_shared.specs.World.{world};
 ghost use Rattle.cli_top.specs.Answered.{Answered, Obeys};
 ghost use Rattle.cli_top.specs.Asks.{AsksNew, AsksRun, AsksDemo, AsksCut, AsksUpgrade, AsksFollow};
 ghost use Rattle.cli_top.specs.Commands.{FulfilsAsOf, FulfilsCut, FulfilsDemo, FulfilsDump, FulfilsFollow, FulfilsNew, FulfilsRecover, FulfilsRun, FulfilsShip, FulfilsStatement, FulfilsUpgrade};
-ghost use Rattle.cli_world.specs.Alone.{command_of};
+ghost use Rattle.cli_dispatch.specs.Alone.{command_of};
 
 use cli_demo::demo_command::demo_command;
 use cli_run::run_command::run_command;
 use cli_shared::{Detail, Report};
-use cli_world::{Answer, WithWorkers, answer_alone};
+use cli_dispatch::{Answer, WithWorkers, answer_alone};
 use log_disk::{Gate, LogDisk, Sink, Source};
 use lsn_space::Word;
 use std::alloc::Global;

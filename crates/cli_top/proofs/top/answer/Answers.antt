@@ -1,4 +1,4 @@
-use Rattle.cli_world.specs.Alone.{command_of}
+use Rattle.cli_dispatch.specs.Alone.{command_of}
 use Rattle.cli_shared.specs.World.{world}
 use Rattle.cli_top.proofs.AnsweredLemmas.{answered-alone, Obeys-answered}
 use Rattle.cli_top.proofs.top.answer.Goals as goal

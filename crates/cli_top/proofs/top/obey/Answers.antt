@@ -1,7 +1,7 @@
 use Rattle.std.proofs.Common.{refl, subst, sym}
 use Rattle.cli_demo.specs.Demo.{IsAnswerToDemo}
 use Rattle.command_line.specs.CommandLine.{IsCommandLine}
-use Rattle.cli_world.specs.Alone.{command_of}
+use Rattle.cli_dispatch.specs.Alone.{command_of}
 use Rattle.cli_shared.specs.World.{world}
 use Rattle.cli_top.specs.Answered.{Obeys}
 use Rattle.command_line.proofs.AskedOptions.{demo_options-in_range, run_options-in_range}

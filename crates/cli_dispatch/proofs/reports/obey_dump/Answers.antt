@@ -1,7 +1,7 @@
 use Rattle.std.proofs.Common.{refl, subst}
 use Rattle.cli_reports.specs.Answers.{IsAnswerToDump}
-use Rattle.cli_world.proofs.Untouched.{untouched-faults}
-use Rattle.cli_world.proofs.reports.obey_dump.Goals as goal
+use Rattle.cli_dispatch.proofs.Untouched.{untouched-faults}
+use Rattle.cli_dispatch.proofs.reports.obey_dump.Goals as goal
 
 pub returns : goal.returns
 returns g c =

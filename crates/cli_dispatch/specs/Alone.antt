@@ -8,15 +8,15 @@ use Rattle.log_disk.specs.declared.source.Source.{Ghosts as SourceGhosts}
 use Rattle.log_disk.specs.declared.sink.Sink.{Ghosts as SinkGhosts}
 use Rattle.cli_shared.specs.declared.report.Detail.{Detail}
 use Rattle.cli_shared.specs.declared.report.Detail.TheVariants.{NoMemory, Usage}
-use Rattle.cli_world.specs.declared.answer.Answer.{Answer}
-use Rattle.cli_world.specs.declared.answer.Answer.TheVariants.{Done, Asked}
-use Rattle.cli_world.specs.declared.answer.WithWorkers.{WithWorkers}
-use Rattle.cli_world.specs.declared.answer.WithWorkers.TheVariants as with_workers
+use Rattle.cli_dispatch.specs.declared.answer.Answer.{Answer}
+use Rattle.cli_dispatch.specs.declared.answer.Answer.TheVariants.{Done, Asked}
+use Rattle.cli_dispatch.specs.declared.answer.WithWorkers.{WithWorkers}
+use Rattle.cli_dispatch.specs.declared.answer.WithWorkers.TheVariants as with_workers
 use Rattle.cli_shared.specs.World.{TellsFaults, World}
 use Rattle.cli_new.specs.Command.{DoesNew}
 use Rattle.cli_cut.specs.Command.{DoesCut, DoesUpgrade}
 use Rattle.cli_standby.specs.Command.{DoesFollow}
-use Rattle.cli_world.specs.Reports.{DoesAsOf, DoesDump, DoesRecover, DoesShip, DoesStatement}
+use Rattle.cli_dispatch.specs.Reports.{DoesAsOf, DoesDump, DoesRecover, DoesShip, DoesStatement}
 
 -- the command is one that needs no workers, and did what it promises
 abbrev pub DoesAlone : {D S K : Type 0} → Ghosts D → SourceGhosts S → SinkGhosts K → Command → World D S K → World D S K → Detail → Type 0

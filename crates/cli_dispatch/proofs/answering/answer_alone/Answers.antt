@@ -1,7 +1,7 @@
 use Rattle.std.proofs.Common.{inl, inr, refl, subst}
 use Rattle.command_line.specs.CommandLine.{IsCommandLine, IsRefusalOf}
 use Rattle.command_line.specs.declared.command.Command.TheVariants.{New, Recover, Dump, Cut, Upgrade, Ship, Follow, AsOf, Statement}
-use Rattle.cli_world.proofs.answering.answer_alone.Goals as goal
+use Rattle.cli_dispatch.proofs.answering.answer_alone.Goals as goal
 
 pub returns-in-Ok-New : goal.returns-in-Ok-New
 returns-in-Ok-New g c = inl (record {

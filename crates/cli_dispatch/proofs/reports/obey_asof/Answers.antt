@@ -2,8 +2,8 @@ use Rattle.std.proofs.Common.{refl, subst}
 use Rattle.cli_reports.specs.Command.{HasReported}
 use Rattle.cli_reports.specs.Reports.{AnswersReport, IsAnswerAtLsn, RefusesLsn}
 use Rattle.cli_view.specs.Reports.{SaysAccounts}
-use Rattle.cli_world.proofs.Untouched.{untouched-faults}
-use Rattle.cli_world.proofs.reports.obey_asof.Goals as goal
+use Rattle.cli_dispatch.proofs.Untouched.{untouched-faults}
+use Rattle.cli_dispatch.proofs.reports.obey_asof.Goals as goal
 
 pub returns : goal.returns
 returns g c =

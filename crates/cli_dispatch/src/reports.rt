@@ -1,7 +1,7 @@
 //! The commands that read a log and write a report of it: `recover`, `dump`, `ship`, `asof` and `statement`. They leave the disk alone.
 ghost use Rattle.command_line.specs.declared.command.Command.TheVariants.{AsOf, Dump, Recover, Ship, Statement};
 ghost use Rattle.cli_shared.specs.World.{world};
-ghost use Rattle.cli_world.specs.Alone.{ObeysAlone};
+ghost use Rattle.cli_dispatch.specs.Alone.{ObeysAlone};
 
 use cli_reports::dump_command::dump_command;
 use cli_reports::recover_command::recover_command;

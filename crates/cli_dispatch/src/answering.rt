@@ -1,6 +1,6 @@
 //! The words of the command line, and the commands that they ask where no workers are needed.
 ghost use Rattle.cli_shared.specs.World.{world};
-ghost use Rattle.cli_world.specs.Alone.{AnsweredAlone};
+ghost use Rattle.cli_dispatch.specs.Alone.{AnsweredAlone};
 
 use crate::answer::{Answer, WithWorkers};
 use crate::reports::{obey_asof, obey_dump, obey_recover, obey_ship, obey_statement};
