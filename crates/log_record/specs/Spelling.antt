@@ -3,7 +3,7 @@ use Rattle.std.specs.Prelude.{◌≡◌, ◌≢◌, ℕ, zero, suc, ◌+◌, ◌
 use Rattle.std.specs.Int.{w32, cast_unsigned}
 use Rattle.lsn_space.specs.declared.lsn.TheConstants.{LAST}
 use Rattle.lsn_space.specs.Unit.{unit_value}
-use Rattle.lsn_space.specs.declared.opening.TheConstants.{MOST_ACCOUNTS, MOST_BALANCE}
+use Rattle.lsn_space.specs.declared.opening.TheConstants.{MOST_ACCOUNTS, MOST_AMOUNT, MOST_BALANCE}
 use Rattle.log_record.specs.declared.limits.TheConstants.{MOST_LEGS, LAST_TXN}
 use Rattle.log_record.specs.declared.rec.Rec.{Rec}
 use Rattle.log_record.specs.declared.text.TheConstants.{LONGEST_NOTE}
@@ -54,7 +54,7 @@ abbrev pub IsLeg : ℕ → Type 0
 IsLeg leg = (1 ≤ leg) × (leg ≤ MOST_LEGS)
 
 abbrev pub IsDelta : ℤ → Type 0
-IsDelta delta = (pos 0 ≢ delta) × (neg_ℤ (pos MOST_BALANCE) ≤ℤ delta) × (delta ≤ℤ pos MOST_BALANCE)
+IsDelta delta = (pos 0 ≢ delta) × (neg_ℤ (pos MOST_AMOUNT) ≤ℤ delta) × (delta ≤ℤ pos MOST_AMOUNT)
 
 -- a byte of printable ASCII
 abbrev pub IsPrintable : ℕ → Type 0

@@ -74,12 +74,12 @@ fn genesis(header: Header, body: &[u64], rec: &mut Rec) -> Result<(), BadRec>
         return Err(BadRec);
     };
     let account = u32::from(header.field);
-    if header.txn != 0 || account >= MOST_ACCOUNTS || *balance > u64::from(MOST_BALANCE) {
+    if header.txn != 0 || account >= MOST_ACCOUNTS || *balance > MOST_BALANCE {
         return Err(BadRec);
     }
     *rec = Rec::Genesis {
         account,
-        balance: *balance as u32,
+        balance: *balance,
     };
     Ok(())
 }
@@ -120,6 +120,7 @@ fn end(header: Header, body: &[u64], rec: &mut Rec) -> Result<(), BadRec>
 }
 
 /// The end record of this header, which has the number of legs, or of a leg, in its field.
+#[inline(always)]
 fn end_of(header: Header) -> Rec
     requires kind { IsEndKind header.kind }
     requires count { header.units ≡ 1 }

@@ -9,7 +9,7 @@ pub enum Rec {
     /// The account exists from here on, with this balance. Genesis records begin a log of the first format.
     Genesis {
         account: u32,
-        balance: u32,
+        balance: u64,
     },
 
     /// The transaction changes the account by this delta, once it commits. `prev` is the end of the

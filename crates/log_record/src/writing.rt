@@ -35,7 +35,7 @@ pub fn spell_into(rec: &Rec, units: &mut Units)
     match rec {
         Rec::Genesis { account, balance } => {
             let first = header(GENESIS, 2, *account, 0);
-            put_pair(units, first, *balance as u64);
+            put_pair(units, first, *balance);
         }
         Rec::Update {
             txn,

@@ -9,7 +9,7 @@ use std::marker::Model;
 /// Contracts see the list of these pairs, and for how many accounts room was made.
 #[derive(Debug, Drop)]
 pub struct Balances {
-    rows: Vec<(u32, u32)>,
+    rows: Vec<(u64, u32)>,
     most: u32,
 }
 
@@ -37,7 +37,7 @@ impl Balances {
     }
 
     /// Appends the next account, with the end LSN of its last commit (0 where it has none).
-    pub fn push(&mut self, balance: u32, mark: u32)
+    pub fn push(&mut self, balance: u64, mark: u32)
         requires { length self.old.rows < self.old.room }
         ensures { self.new ≡ record self.old { rows = self.old.rows ++ (balance, mark) ∷ [] } }
     {
@@ -45,7 +45,7 @@ impl Balances {
     }
 
     /// Gives the account this balance, and its last commit this end LSN. The other accounts stay.
-    pub fn set(&mut self, account: u32, balance: u32, mark: u32)
+    pub fn set(&mut self, account: u32, balance: u64, mark: u32)
         requires { account < length self.old.rows }
         ensures { self.new ≡ record self.old { rows = slice_set self.old.rows account (balance, mark) } }
     {
@@ -53,7 +53,7 @@ impl Balances {
     }
 
     /// The balance of the account, and the end LSN of its last commit.
-    pub fn at(&self, account: u32) -> (u32, u32)
+    pub fn at(&self, account: u32) -> (u64, u32)
         requires { account < length self.now.rows }
         ensures { slice_get self.now.rows account ≡ Some result }
     {

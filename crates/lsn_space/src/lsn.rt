@@ -2,7 +2,7 @@
 ghost use Rattle.std.specs.Prelude.{◌≡◌, ◌+◌, ◌%◌, ◌≤◌, ◌↔◌, IsSome, IfSome};
 ghost use Rattle.lsn_space.specs.declared.lsn.TheConstants.{LAST, LEAST_RING, GREATEST_RING, MOST_SLOTS};
 ghost use Rattle.lsn_space.specs.declared.numerals.TheConstants.{MOST_GENERATED};
-ghost use Rattle.lsn_space.specs.declared.opening.TheConstants.{MOST_ACCOUNTS, MOST_BALANCE};
+ghost use Rattle.lsn_space.specs.declared.opening.TheConstants.{MOST_ACCOUNTS, MOST_AMOUNT, MOST_BALANCE};
 
 use std::marker::Model;
 
@@ -18,7 +18,7 @@ pub const GREATEST_RING: u32 = 0x10_0000;
 /// The most slots at which workers that meet at the tail may go on as one group.
 pub const MOST_SLOTS: u32 = 16;
 
-/// A law: the numbers that the definitions take from this crate are 4294967295, 1024, 1048576, 16, 100000, 4096 and 2147483647.
+/// A law: the numbers that the definitions take from this crate are 4294967295, 1024, 1048576, 16, 100000, 4096 and, twice, 2147483647.
 pub fn format_numbers()
     ensures last { LAST ≡ 4294967295 }
     ensures least_ring { LEAST_RING ≡ 1024 }
@@ -26,6 +26,7 @@ pub fn format_numbers()
     ensures slots { MOST_SLOTS ≡ 16 }
     ensures transfers { MOST_GENERATED ≡ 100000 }
     ensures accounts { MOST_ACCOUNTS ≡ 4096 }
+    ensures amount { MOST_AMOUNT ≡ 2147483647 }
     ensures balance { MOST_BALANCE ≡ 2147483647 }
 {}
 

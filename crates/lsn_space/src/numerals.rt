@@ -21,7 +21,7 @@ pub fn decimal(n: u64) -> ArrayVec<u8, 20>
 
 /// The number from `least` to `most` of which this is the text: `0`, or decimal digits of which the first isn't `0`. A
 /// text with a sign, a space or any other byte is that of no number.
-pub fn number(text: &[u8], least: u32, most: u32) -> Option<u32>
+pub fn number(text: &[u8], least: u64, most: u64) -> Option<u64>
     ensures least { IfSome result (λ n. least ≤ n) }
     ensures most { IfSome result (λ n. n ≤ most) }
     ensures text { IfSome result (λ n. text.now ≡ number_text n) }
@@ -34,17 +34,17 @@ pub fn number(text: &[u8], least: u32, most: u32) -> Option<u32>
 }
 
 /// The number that digits write, with leading zeros too or a plus sign.
-fn digits(text: &[u8]) -> Option<u32>
-    ensures { (n : ℕ) → n < 2 ^ 32 → text.now ≡ number_text n → result ≡ Some n }
+fn digits(text: &[u8]) -> Option<u64>
+    ensures { (n : ℕ) → n < 2 ^ 64 → text.now ≡ number_text n → result ≡ Some n }
 {
     match str::from_utf8(text) {
-        Ok(text) => text.parse::<u32>().ok(),
+        Ok(text) => text.parse::<u64>().ok(),
         Err(_) => None,
     }
 }
 
-fn is_text_of(text: &[u8], n: u32) -> bool
+fn is_text_of(text: &[u8], n: u64) -> bool
     ensures { IsTrue result ↔ (text.now ≡ number_text n) }
 {
-    decimal(n as u64).as_slice() == text
+    decimal(n).as_slice() == text
 }

@@ -11,8 +11,11 @@ use std::marker::Model;
 /// The most accounts of a log, so an account is below this.
 pub const MOST_ACCOUNTS: u32 = 4096;
 
-/// The greatest balance of an account, and the most that a transfer moves in one leg.
-pub const MOST_BALANCE: u32 = 0x7FFF_FFFF;
+/// The most that a transfer moves in one leg.
+pub const MOST_AMOUNT: u32 = 0x7FFF_FFFF;
+
+/// The greatest balance of an account.
+pub const MOST_BALANCE: u64 = 0x7FFF_FFFF;
 
 /// What stands before a list of records. Before a whole log it is nothing: 0, 0 and no account. Contracts see the pairs of the
 /// accounts, and not for how many there is room.

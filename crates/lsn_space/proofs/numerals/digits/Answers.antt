@@ -7,7 +7,7 @@ use Rattle.lsn_space.proofs.numerals.digits.Goals as goal
 
 pub returns-in-Ok : goal.returns-in-Ok
 returns-in-Ok c = λ n small text.
-    let read = parse-decimal 32 n c.in-Ok.text.now c.parse.result small (omega arith) (c.in-Ok.ensures.cases.0 ∙ text) c.parse.ensures.value.0 in
+    let read = parse-decimal 64 n c.in-Ok.text.now c.parse.result small (omega arith) (c.in-Ok.ensures.cases.0 ∙ text) c.parse.ensures.value.0 in
     c.ok.ensures.value ∙ ap result_ok read
 
 pub returns-in-Err : goal.returns-in-Err
