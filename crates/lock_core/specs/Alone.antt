@@ -4,7 +4,7 @@ use Rattle.std.specs.List.{AllByRecursion}
 use Rattle.log_record.specs.declared.rec.Rec.{Rec}
 use Rattle.log_record.specs.declared.rec.Rec.TheVariants.{Update, Commit, Short, Over, Note}
 use Rattle.log_record.specs.Spelling.{IsNoteText}
-use Rattle.lsn_space.specs.declared.opening.TheConstants.{MOST_BALANCE}
+use Rattle.lsn_space.specs.declared.opening.TheConstants.{MOST_AMOUNT, MOST_BALANCE}
 use Rattle.log_record.specs.declared.limits.TheConstants.{MOST_LEGS}
 
 -- a transfer: its legs in order, each the account that pays, the account that receives and the amount, and the bytes of its note,
@@ -19,7 +19,7 @@ pub record IsAllowedLeg (accounts : ℕ) (leg : ℕ × ℕ × ℕ) : Type 0 wher
   pub payee : leg.1 < accounts
   pub two : leg.0 ≢ leg.1
   pub some : 1 ≤ leg.2
-  pub most : leg.2 ≤ MOST_BALANCE
+  pub most : leg.2 ≤ MOST_AMOUNT
 
 -- 1 to 8 legs that a log of so many accounts allows
 pub record AreAllowedLegs (accounts : ℕ) (legs : List (ℕ × ℕ × ℕ)) : Type 0 where

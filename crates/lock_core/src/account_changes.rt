@@ -57,16 +57,16 @@ fn touches(changes: &[Change], account: u32) -> bool
 }
 
 /// The account's balance after the changes, unless it leaves its range.
-fn balance_after(balance: u32, changes: &[Change], account: u32) -> Option<u32>
+fn balance_after(balance: u64, changes: &[Change], account: u32) -> Option<u64>
     requires few { length changes.now ≤ 2 * MOST_LEGS }
     requires range { IsBalance balance }
     ensures { MatchOption result (LeavesRange changes.now account balance)
         (λ after. IsBalance after × IsBalanceAfter changes.now account balance after) }
 {
     let (gains, losses) = moves(changes, account);
-    let after = (u64::from(balance) + gains).checked_sub(losses)?;
-    if after <= u64::from(MOST_BALANCE) {
-        Some(after as u32)
+    let after = (balance + gains).checked_sub(losses)?;
+    if after <= MOST_BALANCE {
+        Some(after)
     } else {
         None
     }

@@ -102,7 +102,7 @@ impl Judge {
     }
 
     /// The balance of the account.
-    pub fn balance(&self, account: u32) -> u32
+    pub fn balance(&self, account: u32) -> u64
         requires { account < count_of self.now }
         ensures { (opening : Opening) (h : List Placed) → HasJudged opening self.now h
             → result ≡ balance_of (base_with opening h) h account }

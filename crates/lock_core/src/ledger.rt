@@ -131,7 +131,7 @@ impl Ledger {
         }
     }
 
-    fn take_genesis(&mut self, account: u32, balance: u32) -> Result<(), JudgeFault>
+    fn take_genesis(&mut self, account: u32, balance: u64) -> Result<(), JudgeFault>
         requires kept { (opening : Opening) × (h : List Placed) × KeepsLedger opening self.old h }
         requires account { IsAccount account }
         requires balance { IsBalance balance }

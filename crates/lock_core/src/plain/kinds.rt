@@ -24,7 +24,7 @@ pub fn admit_genesis(
     accounts: &mut Balances,
     front: &[Placed],
     account: u32,
-    balance: u32,
+    balance: u64,
 ) -> Result<(), Why>
     requires judged { IsJudged no_opening accounts.old (reverse front.now) }
     requires account { IsAccount account }

@@ -1,5 +1,5 @@
 use Rattle.std.proofs.Common.{arith, rules}
 use Rattle.lock_core.proofs.account_changes.balance_after.Goals as goal
 
-pub returns-then-after-from : goal.returns-then-after-from
-returns-then-after-from c = (omega arith, search rules steps 300000)
+pub returns-then-after-le-MOST_BALANCE : goal.returns-then-after-le-MOST_BALANCE
+returns-then-after-le-MOST_BALANCE c = (omega arith, search rules steps 300000)
