@@ -108,10 +108,10 @@ fn put_rows(bytes: &mut Vec<u8>, accounts: &Balances) -> Result<(), NoMemory>
 }
 
 /// Adds the bytes of an account.
-fn put_row(bytes: &mut Vec<u8>, balance: u32, mark: u32) -> Result<(), NoMemory>
+fn put_row(bytes: &mut Vec<u8>, balance: u64, mark: u32) -> Result<(), NoMemory>
     ensures { OnOk result (bytes.new.items ≡ bytes.old.items ++ row_bytes (balance, mark)) }
 {
-    put(bytes, &u64::from(balance).to_be_bytes())?;
+    put(bytes, &balance.to_be_bytes())?;
     put(bytes, &mark.to_be_bytes())
 }
 

@@ -76,10 +76,10 @@ fn take_rows<'a>(accounts: &mut Balances, count: u32, lsn: u32, bytes: &'a [u8])
         let Some((balance, mark, after)) = first_row(rest) else {
             return None;
         };
-        if balance > u64::from(MOST_BALANCE) || mark > lsn {
+        if balance > MOST_BALANCE || mark > lsn {
             return None;
         }
-        accounts.push(balance as u32, mark);
+        accounts.push(balance, mark);
         rest = after;
     }
     Some(rest)
