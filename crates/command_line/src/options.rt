@@ -71,7 +71,10 @@ fn number_in(
         → IsNumberOf (first_of option.now (rows_of (found_of found.now))) default n → ⊥) }
 {
     match found.get_str(option) {
-        Some(text) => number(text.as_bytes(), least, most),
+        Some(text) => {
+            let n = number(text.as_bytes(), least as u64, most as u64)?;
+            Some(n as u32)
+        }
         None => Some(default),
     }
 }
@@ -89,8 +92,8 @@ pub(crate) fn given_in(
     let Some(text) = found.get_str(argument) else {
         return Err(RefusedWords::Usage);
     };
-    match number(text.as_bytes(), 0, most) {
-        Some(n) => Ok(n),
+    match number(text.as_bytes(), 0, most as u64) {
+        Some(n) => Ok(n as u32),
         None => Err(RefusedWords::Usage),
     }
 }
