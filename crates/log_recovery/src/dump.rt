@@ -8,7 +8,7 @@ ghost use Rattle.log_record.specs.Spelling.{spelling, BeginsWith};
 ghost use Rattle.log_record.specs.declared.rec.Rec.{Rec};
 ghost use Rattle.lsn_space.specs.Number.{number_text};
 ghost use Rattle.log_recovery.specs.Dump.{dump_text, opening_lines, rec_text, record_line, row_line};
-ghost use Rattle.log_recovery.specs.Dump.{row_lines, snapshot_line, update_text};
+ghost use Rattle.log_recovery.specs.Dump.{row_lines, snapshot_line, two_numbers_text, update_text};
 ghost use Rattle.log_disk.specs.Blocks.{PutsPiece};
 ghost use Rattle.log_recovery.specs.Recovery.{HasRecords, list_of};
 
@@ -92,7 +92,7 @@ fn put_snapshot<K: Sink>(
 /// Puts the line of an account, with its balance and its mark.
 fn put_row<K: Sink>(
     account: u32,
-    row: (u32, u32),
+    row: (u64, u32),
     line: &mut Line,
     block: &mut OutputBlock,
     sink: &mut K,
@@ -118,7 +118,7 @@ fn make_snapshot(lsn: Lsn, txn: u32, line: &mut Line)
 
 /// The line of an account, as a snapshot has it.
 #[tactic(auto, unfolding(crate::specs::Dump::row_line))]
-fn make_row(account: u32, row: (u32, u32), line: &mut Line)
+fn make_row(account: u32, row: (u64, u32), line: &mut Line)
     ensures { line.new ≡ row_line account row }
 {
     let (balance, mark) = row;
@@ -126,7 +126,7 @@ fn make_row(account: u32, row: (u32, u32), line: &mut Line)
     line.put_byte(b'\n');
     line.put_number(mark);
     line.put_byte(b' ');
-    line.put_number(balance);
+    line.put_balance(balance);
     line.put_byte(b' ');
     line.put_number(account);
     line.put_piece(b"account ");
@@ -186,7 +186,7 @@ fn put_words(rec: &Rec, line: &mut Line)
     ensures short { length line.new ≤ 230 }
 {
     match rec {
-        Rec::Genesis { account, balance } => put_pair(b"genesis ", *account, *balance, line),
+        Rec::Genesis { account, balance } => put_genesis(*account, *balance, line),
         Rec::Update {
             txn,
             account,
@@ -198,6 +198,17 @@ fn put_words(rec: &Rec, line: &mut Line)
         Rec::Over { txn, leg } => put_pair(b"over ", *txn, *leg, line),
         Rec::Note { txn, text } => put_note(*txn, text.as_slice(), line),
     }
+}
+
+fn put_genesis(account: u32, balance: u64, line: &mut Line)
+    requires { length line.old ≤ 1 }
+    ensures text { line.new ≡ (codes "genesis " ++ two_numbers_text account balance) ++ line.old }
+    ensures short { length line.new ≤ 230 }
+{
+    line.put_balance(balance);
+    line.put_byte(b' ');
+    line.put_number(account);
+    line.put_piece(b"genesis ");
 }
 
 /// Puts a word, with the space behind it, and two numbers.

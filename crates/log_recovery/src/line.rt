@@ -79,7 +79,17 @@ impl Line {
         self.start = write_digits(n as u64, &mut self.bytes, self.start);
     }
 
+    /// Puts the text of a balance before the others.
+    pub fn put_balance(&mut self, balance: u64)
+        requires { length self.old + 20 ≤ LINE_BYTES }
+        ensures text { self.new ≡ number_text balance ++ self.old }
+        ensures short { length self.new ≤ length self.old + 20 }
+    {
+        self.start = write_digits(balance, &mut self.bytes, self.start);
+    }
+
     /// Puts the text of a number that may be below 0 before the others.
+    #[inline(always)]
     pub fn put_signed(&mut self, n: i64)
         requires { length self.old + 21 ≤ LINE_BYTES }
         ensures text { self.new ≡ signed_text n ++ self.old }

@@ -28,14 +28,14 @@ fn end_line(lsn: Lsn) -> Line
 }
 
 #[tactic(auto, unfolding(crate::specs::Text::account_line))]
-fn balance_line(account: u32, balance: u32) -> Line
+fn balance_line(account: u32, balance: u64) -> Line
     ensures { result.items ≡ account_line account balance }
 {
     let mut line = ArrayVec::new();
     line.try_extend_from_slice(decimal(account as u64).as_slice())
         .unwrap();
     line.push(b' ');
-    line.try_extend_from_slice(decimal(balance as u64).as_slice())
+    line.try_extend_from_slice(decimal(balance).as_slice())
         .unwrap();
     line.push(b'\n');
     line
@@ -50,7 +50,7 @@ pub fn put_end<K: Sink>(lsn: Lsn, block: &mut OutputBlock, sink: &mut K) -> Resu
 
 fn put_balance<K: Sink>(
     account: u32,
-    balance: u32,
+    balance: u64,
     block: &mut OutputBlock,
     sink: &mut K,
 ) -> Result<(), WriteFault>
