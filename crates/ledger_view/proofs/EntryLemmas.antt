@@ -92,9 +92,3 @@ first_entry-adds_net first (entry ∷ entries) d sums some = sums.2
 pub add_up-first_in_range : (least first : ℕ) (entries : List Entry) → AddUp least first entries → IsBalance (last_balance first entries) → IsBalance first
 add_up-first_in_range least first [] sums last = last
 add_up-first_in_range least first (entry ∷ entries) sums last = sums.1
-
-pub add_up-range : (least first : ℕ) (entries : List Entry) → AddUp least first entries → IsBalance (last_balance first entries)
-    → AllByRecursion (λ (entry : Entry). IsBalance entry.balance) entries
-add_up-range least first [] sums last = tt
-add_up-range least first (entry ∷ entries) sums last =
-    (add_up-first_in_range entry.end entry.balance entries sums.3 last, add_up-range entry.end entry.balance entries sums.3 last)

@@ -1,5 +1,5 @@
 -- How a search among the marks, and then among the rows from one mark to the next, finds its place.
-use Rattle.std.proofs.Common.{◌≡◌, ◌<◌, ◌≤◌, ℕ, ◌+◌, ◌-◌, ◌*◌, min, List, length, take, drop, get_or, ap, ◌∙◌, arith, length-take, length-drop}
+use Rattle.std.proofs.Common.{◌≡◌, ◌<◌, ◌≤◌, ℕ, ◌+◌, ◌-◌, ◌*◌, min, List, length, take, drop, get_or, ap, ◌∙◌, arith, zero-le, length-take, length-drop}
 use Rattle.std.proofs.lemmas.List.{get_or-take, get_or-drop}
 use Rattle.std.specs.List.Sorted.{IsNonDecreasingBy}
 use mathlib.Core.Logic.{dite}
@@ -11,7 +11,7 @@ abbrev pub Rises : List Row → Type 0
 Rises rows = IsNonDecreasingBy (λ (row : Row). row.end) rows
 
 pub no_row : Row
-no_row = record { end = 0; txn = 0; balance = 0 }
+no_row = record { end = 0; txn = 0; balance = 0; fits = zero-le }
 
 -- the rows between two marks, from this place on
 pub record IsBlock (rows block : List Row) (from : ℕ) : Type 0 where

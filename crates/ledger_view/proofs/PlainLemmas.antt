@@ -1,27 +1,29 @@
 -- The plain program, entry by entry.
-use Rattle.std.proofs.Common.{◌≡◌, ◌≤◌, ◌<◌, ◌==◌, ◌&&◌, ◌||◌, ℕ, zero, suc, ◌+ℤ◌, Bool, true, false, true≢false, cond, List, [], ◌∷◌, ◌++◌, length, take, drop, reverse, get_or, refl, ap, ◌∙◌, sym, subst, arith, eq-eqb, ne_eqb, eqb-true, le_trans}
-use Rattle.std.proofs.lemmas.List.{reverse-append, take-append-drop}
+use Rattle.std.proofs.Common.{◌≡◌, ◌≤◌, ◌<◌, ◌==◌, ◌&&◌, ◌||◌, ℕ, zero, suc, ◌+ℤ◌, Bool, true, false, cond, List, [], ◌∷◌, ◌++◌, length, take, drop, reverse, get_or, refl, ap, ◌∙◌, sym, subst, arith, eq-eqb, ne_eqb, le_trans, lt_of_lt_of_le, zero-le}
+use Rattle.std.proofs.lemmas.List.{reverse-append, take-append-drop, get_or_past}
 use mathlib.Core.Logic.{dite}
 use native.Mathlib.Decide.{ℕ_discrete, dec_lt}
-use Rattle.std.specs.List.{AllByRecursion}
-use Rattle.log_record.specs.declared.rec.Rec.TheVariants.{Genesis, Commit}
+use Rattle.lsn_space.specs.Opening as space
+use Rattle.log_record.specs.declared.rec.Rec.{Rec}
+use Rattle.log_record.specs.declared.rec.Rec.TheVariants.{Genesis, Update, Commit, Short, Over, Note}
 use Rattle.log_record.specs.declared.rec.Placed.{Placed}
 use Rattle.log_record.specs.Spelling.{IsBalance}
 use Rattle.lock_core.specs.declared.update.Change.{Change}
 use Rattle.lock_core.specs.Records.{txn_of, commits, changes_of}
 use Rattle.lock_core.specs.Transactions.{of_transaction, recs_of, updates_of, has_commit, touches, is_committed}
 use Rattle.lock_core.specs.Sums.{Opening}
-use Rattle.lock_core.specs.Lawful.{IsLawful, base_with}
+use Rattle.lock_core.specs.Tests.{OpensLedger}
+use Rattle.lock_core.specs.Lawful.{IsLawful, base_with, with_genesis}
+use Rattle.lock_core.specs.AccountRows.{opening_of}
 use Rattle.lock_core.proofs.OneMore.{updates_of-first_own, updates_of-first_other}
-use Rattle.lock_core.proofs.Meeting.{lawful-met}
-use Rattle.lock_core.proofs.Pairing.{updates_of-fits}
-use Rattle.ledger_view.specs.declared.entries.Entry.{Entry}
+use Rattle.lock_core.proofs.Fronts.{lawful-front}
+use Rattle.lock_core.proofs.KindLemmas.{all_genesis-accounts_count}
 use Rattle.ledger_view.specs.declared.view.View.{View}
-use Rattle.ledger_view.specs.Entries.{net_of, balance_after, is_commit_on, entry_of, entries_of}
-use Rattle.ledger_view.specs.Plain.{own_changes, KeepsRange}
+use Rattle.ledger_view.specs.Entries.{net_of}
+use Rattle.ledger_view.specs.Plain.{own_changes, FrontsBeginInRange}
 use Rattle.ledger_view.specs.ViewedAccounts.{account_at, HasViewed}
-use Rattle.ledger_view.proofs.EntryLemmas.{add_up-range}
-use Rattle.ledger_view.proofs.HistoryLemmas.{accounts-grow}
+use Rattle.ledger_view.proofs.EntryLemmas.{add_up-first_in_range}
+use Rattle.ledger_view.proofs.HistoryLemmas.{accounts-grow, base_balance-one_entry_more}
 use Rattle.ledger_view.proofs.NetLemmas.{net_of-append}
 use Rattle.ledger_view.proofs.ViewLemmas.{last-in-range}
 
@@ -50,16 +52,6 @@ pub touches-entry : (txn account : ℕ) (entry : Placed) (h : List Placed)
     → touches account (updates_of txn (entry ∷ h)) ≡ (touches account (own_changes txn entry.rec) || touches account (updates_of txn h))
 touches-entry txn account entry h = ap (touches account) (updates-more txn entry h) ∙ touches-append account (own_changes txn entry.rec) (updates_of txn h)
 
--- an account that known changes touch is known
-pub touches-known : (account count : ℕ) (changes : List Change) → AllByRecursion (λ (change : Change). change.account < count) changes
-    → touches account changes ≡ true → account < count
-touches-known account count [] all on = absurd (true≢false (sym on))
-touches-known account count (change ∷ changes) all on = by_case (change.account == account) refl on (touches-known account count changes all.1)
-  where
-    by_case : (b : Bool) → (change.account == account) ≡ b → (b || touches account changes) ≡ true → (touches account changes ≡ true → account < count) → account < count
-    by_case true is on rest = subst (λ a. a < count) (eqb-true change.account account is) all.0
-    by_case false is on rest = rest on
-
 and-true : (x : Bool) → (x && true) ≡ x
 and-true true = refl
 and-true false = refl
@@ -77,75 +69,62 @@ committed-more txn entry h = by_case (txn_of entry.rec == txn)
     by_case true = ap (λ c. c || is_committed txn h) (sym (and-true (commits entry.rec)))
     by_case false = ap (λ c. c || is_committed txn h) (sym (and-false (commits entry.rec)))
 
-both-true : (x y : Bool) → (x && y) ≡ true → (x ≡ true) × (y ≡ true)
-both-true true y is = (refl, is)
-both-true false y is = absurd (true≢false (sym is))
-
--- no Commit of a lawful list is on an account that it doesn't have
-entries-unknown : (opening : Opening) (h : List Placed) (account : ℕ) → IsLawful opening h → (base_with opening h).accounts ≤ account
-    → entries_of opening h account ≡ []
-entries-unknown opening [] account lawful past = refl
-entries-unknown opening (entry ∷ h) account lawful past =
-    by_case (is_commit_on account entry h) refl (entries-unknown opening h account lawful.1 before)
+-- an account that a lawful list doesn't have begins as the opening says, which doesn't have it either
+base_balance-unknown : (opening : Opening) (h : List Placed) (account : ℕ) → IsLawful opening h → (base_with opening h).accounts ≤ account
+    → (opening.state.accounts ≤ account) × ((base_with opening h).balance account ≡ opening.state.balance account)
+base_balance-unknown opening [] account lawful past = (past, refl)
+base_balance-unknown opening (entry ∷ h) account lawful past =
+    let before = base_balance-unknown opening h account lawful.1 (le_trans (accounts-grow opening h entry.rec) past) in
+    (before.0, by_kind entry.rec lawful.0.0 past before.1)
   where
-    before : (base_with opening h).accounts ≤ account
-    before = le_trans (accounts-grow opening h entry.rec) past
+    by_kind : (rec : Rec) → OpensLedger opening h rec → (with_genesis rec (base_with opening h)).accounts ≤ account
+        → (base_with opening h).balance account ≡ opening.state.balance account
+        → (with_genesis rec (base_with opening h)).balance account ≡ opening.state.balance account
+    by_kind (Genesis own balance) opens past before =
+        let count = all_genesis-accounts_count opening h opens.1 in let none = opens.0 in let next = opens.2 in
+        ap (λ b. cond b balance ((base_with opening h).balance account)) (ne_eqb account own (λ same. absurd (omega arith))) ∙ before
+    by_kind (Update txn own delta prev) opens past before = before
+    by_kind (Commit txn legs) opens past before = before
+    by_kind (Short txn leg) opens past before = before
+    by_kind (Over txn leg) opens past before = before
+    by_kind (Note txn text) opens past before = before
 
-    by_case : (b : Bool) → is_commit_on account entry h ≡ b → entries_of opening h account ≡ []
-        → cond b (entries_of opening h account ++ entry_of opening entry h account ∷ []) (entries_of opening h account) ≡ []
-    by_case true on rest =
-        let touched = (both-true (commits entry.rec) (touches account (updates_of (txn_of entry.rec) h)) on).1 in
-        let inside = touches-known account (base_with opening h).accounts (updates_of (txn_of entry.rec) h)
-        (updates_of-fits (base_with opening h) h (txn_of entry.rec) (lawful-met opening h lawful.1)).known touched in
-        absurd (omega (arith, inside, before))
-    by_case false off rest = rest
+-- an account of a front of a lawful list is one of the whole, and begins there with the same balance
+base_balance-front : (opening : Opening) (later front : List Placed) (account : ℕ) → IsLawful opening (later ++ front) → account < (base_with opening front).accounts
+    → (account < (base_with opening (later ++ front)).accounts) × ((base_with opening front).balance account ≡ (base_with opening (later ++ front)).balance account)
+base_balance-front opening [] front account lawful inside = (inside, refl)
+base_balance-front opening (entry ∷ later) front account lawful inside =
+    let before = base_balance-front opening later front account lawful.1 inside in
+    (lt_of_lt_of_le before.0 (accounts-grow opening (later ++ front) entry.rec), before.1 ∙ base_balance-one_entry_more opening entry (later ++ front) account lawful.0 before.0)
 
-abbrev in_range : Entry → Type 0
-in_range entry = IsBalance entry.balance
+-- a list that a view was given begins, with each front of it, in range
+pub viewed-fronts_begin_in_range : (opening : space.Opening) (view : View) (h : List Placed) (account : ℕ) → HasViewed (opening_of opening) view h
+    → FrontsBeginInRange (opening_of opening) h account
+viewed-fronts_begin_in_range opening view h account viewed later front is = dite (dec_lt account (base_with before front).accounts)
+    (λ inside. let same = base_balance-front before later front account lawful inside in
+    subst IsBalance (sym (same.1 ∙ ap (λ l. (base_with before l).balance account) (sym is))) (known (subst (λ l. account < (base_with before l).accounts) (sym is) same.0)))
+    (λ outside. let none = base_balance-unknown before front account (lawful-front before later front lawful) (omega (arith, outside)) in
+    subst IsBalance (sym (none.1 ∙ ap (λ (row : ℕ × ℕ). row.0) (get_or_past opening.accounts account (0, 0) none.0))) zero-le)
+  where
+    before : Opening
+    before = opening_of opening
 
-all-parts : (xs ys : List Entry) → AllByRecursion in_range (xs ++ ys) → AllByRecursion in_range xs × AllByRecursion in_range ys
-all-parts [] ys all = (tt, all)
-all-parts (x ∷ xs) ys all = let rest = all-parts xs ys all.1 in ((all.0, rest.0), rest.1)
+    lawful : IsLawful before (later ++ front)
+    lawful = subst (IsLawful before) is viewed.judged.ledger.judged.lawful
 
-module _ (opening : Opening) (account : ℕ) where
-  -- a front of a list whose Commits keep the range is one too
-  keeps_range-less : (entry : Placed) (h : List Placed) → KeepsRange opening (entry ∷ h) account → KeepsRange opening h account
-  keeps_range-less entry h = by_case (is_commit_on account entry h)
-    where
-      by_case : (b : Bool) → AllByRecursion in_range (cond b (entries_of opening h account ++ entry_of opening entry h account ∷ []) (entries_of opening h account))
-          → AllByRecursion in_range (entries_of opening h account)
-      by_case true all = (all-parts (entries_of opening h account) (entry_of opening entry h account ∷ []) all).0
-      by_case false all = all
+    known : account < (base_with before h).accounts → IsBalance ((base_with before h).balance account)
+    known within =
+        let counted = viewed.count in
+        let inside : account < length view.accounts = omega (arith, counted, within) in
+        let kept = viewed.each account inside in
+        subst IsBalance kept.base
+        (add_up-first_in_range 0 kept.first (account_at view.accounts account).entries kept.sums (subst IsBalance (sym kept.last) (last-in-range before view h account viewed inside)))
 
-  keeps_range-later : (later h : List Placed) → KeepsRange opening (later ++ h) account → KeepsRange opening h account
-  keeps_range-later [] h all = all
-  keeps_range-later (entry ∷ later) h all = keeps_range-later later h (keeps_range-less entry (later ++ h) all)
-
-  pub keeps_range-front : (entries : List Placed) (n : ℕ) → KeepsRange opening (reverse entries) account → KeepsRange opening (reverse (take n entries)) account
-  keeps_range-front entries n all =
-      keeps_range-later (reverse (drop n entries)) (reverse (take n entries))
-      (subst (λ h. KeepsRange opening h account) (ap reverse (sym (take-append-drop n entries)) ∙ reverse-append (take n entries) (drop n entries)) all)
-
-  -- the balance behind such a Commit
-  keeps_range-own : (entry : Placed) (h : List Placed) → is_commit_on account entry h ≡ true → KeepsRange opening (entry ∷ h) account
-      → IsBalance (balance_after opening (entry ∷ h) account)
-  keeps_range-own entry h on all =
-      (all-parts (entries_of opening h account) (entry_of opening entry h account ∷ [])
-      (subst (λ b. AllByRecursion in_range (cond b (entries_of opening h account ++ entry_of opening entry h account ∷ []) (entries_of opening h account))) on all)).1.0
-
-  pub commit-in_range : (entry : Placed) (h : List Placed) (txn legs : ℕ) → entry.rec ≡ Commit txn legs → touches account (updates_of txn h) ≡ true
-      → KeepsRange opening (entry ∷ h) account → IsBalance (balance_after opening (entry ∷ h) account)
-  commit-in_range entry h txn legs is on =
-      keeps_range-own entry h (ap (λ rec. commits rec && touches account (updates_of (txn_of rec) h)) is ∙ on)
-
-  -- a list that a view was given is one
-  pub keeps_range-viewed : (view : View) (h : List Placed) → HasViewed opening view h → KeepsRange opening h account
-  keeps_range-viewed view h viewed = let counted = viewed.count in dite (dec_lt account (length view.accounts))
-      (λ inside. let kept = viewed.each account inside in
-      subst (AllByRecursion in_range) kept.entries
-      (add_up-range 0 kept.first (account_at view.accounts account).entries kept.sums
-      (subst IsBalance (sym kept.last) (last-in-range opening view h account viewed inside))))
-      (λ past. subst (AllByRecursion in_range) (sym (entries-unknown opening h account viewed.judged.ledger.judged.lawful (omega arith))) tt)
+-- what is so of each front of a list, of the entries up to a place
+pub fronts_begin-take : (opening : Opening) (account : ℕ) (entries : List Placed) (n : ℕ) → FrontsBeginInRange opening (reverse entries) account
+    → IsBalance ((base_with opening (reverse (take n entries))).balance account)
+fronts_begin-take opening account entries n begin =
+    begin (reverse (drop n entries)) (reverse (take n entries)) (ap reverse (sym (take-append-drop n entries)) ∙ reverse-append (take n entries) (drop n entries))
 
 get_or-again : (entries : List Placed) (i : ℕ) (d : Placed) → i < length entries → get_or entries i (get_or entries i d) ≡ get_or entries i d
 get_or-again [] i d inside = absurd (omega arith)

@@ -1,6 +1,5 @@
 -- What the plain program reads of one record, and of which lists it answers.
 use Rattle.std.specs.Prelude.{◌≡◌, ◌==◌, ℕ, ℤ, true, false, if◌then◌else◌, Option, MatchOption, List, [], ◌∷◌, ◌++◌}
-use Rattle.std.specs.List.{AllByRecursion}
 use Rattle.log_record.specs.declared.rec.Rec.{Rec}
 use Rattle.log_record.specs.declared.rec.Placed.{Placed}
 use Rattle.log_record.specs.Spelling.{IsBalance}
@@ -8,6 +7,7 @@ use Rattle.lock_core.specs.declared.update.Change.{Change}
 use Rattle.lock_core.specs.Records.{txn_of, changes_of}
 use Rattle.lock_core.specs.Transactions.{updates_of, touches}
 use Rattle.lock_core.specs.Sums.{Opening}
+use Rattle.lock_core.specs.Lawful.{base_with}
 use Rattle.ledger_view.specs.declared.entries.Entry.{Entry}
 use Rattle.ledger_view.specs.Entries.{net_of, entries_of}
 
@@ -25,6 +25,6 @@ abbrev pub IsEntryOf : Opening → Placed → List Placed → ℕ → Option Ent
 IsEntryOf opening entry h account found = MatchOption found (entries_of opening (entry ∷ h) account ≡ entries_of opening h account)
     (λ own. entries_of opening (entry ∷ h) account ≡ entries_of opening h account ++ own ∷ [])
 
--- each Commit on the account leaves it a balance in its range
-abbrev pub KeepsRange : Opening → List Placed → ℕ → Type 0
-KeepsRange opening h account = AllByRecursion (λ entry. IsBalance entry.balance) (entries_of opening h account)
+-- in the history and in each front of it the account begins with a balance in its range
+abbrev pub FrontsBeginInRange : Opening → List Placed → ℕ → Type 0
+FrontsBeginInRange opening h account = (later front : List Placed) → h ≡ later ++ front → IsBalance ((base_with opening front).balance account)

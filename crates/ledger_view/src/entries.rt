@@ -24,14 +24,16 @@ pub struct Entry {
     pub net: i64,
 
     /// The balance of the account behind the Commit.
-    pub balance: u32,
+    pub balance: u64,
 }
 
 /// What leads from one balance to another.
-fn net_between(before: u32, after: u32) -> i64
+fn net_between(before: u64, after: u64) -> i64
+    requires before { IsBalance before }
+    requires after { IsBalance after }
     ensures { result ≡ pos after -ℤ pos before }
 {
-    i64::from(after) - i64::from(before)
+    after as i64 - before as i64
 }
 
 /// The entries of an account, in the order of their Commits, each of which adds its net to the balance before it. Contracts see the list
@@ -39,18 +41,21 @@ fn net_between(before: u32, after: u32) -> i64
 #[derive(Debug, Drop)]
 pub struct Entries {
     /// The balance before the first entry, as soon as there is one.
-    first: u32,
+    first: u64,
     rows: Rows,
 }
 
 impl Model for Entries {
     ghost use Rattle.std.specs.Prelude.{List};
+    ghost use Rattle.log_record.specs.Spelling.{IsBalance};
     ghost use Rattle.ledger_view.specs.declared.entries.Entry.{Entry};
     ghost use Rattle.ledger_view.specs.Rows.{entries_of_rows};
 
     ghost Value = { List Entry };
 
     ghost view = { λ entries. entries_of_rows entries.first entries.rows };
+
+    ghost invariant = { λ entries. IsBalance entries.first };
 }
 
 impl Entries {
@@ -65,8 +70,9 @@ impl Entries {
     }
 
     /// Appends the first entry, before which the account has this balance.
-    pub(crate) fn push_first(&mut self, first: u32, row: Row) -> Result<(), NoMemory>
-        requires { self.old ≡ [] }
+    pub(crate) fn push_first(&mut self, first: u64, row: Row) -> Result<(), NoMemory>
+        requires none { self.old ≡ [] }
+        requires range { IsBalance first }
         ensures { OnOk result (self.new ≡ entry_of_row first row ∷ []) }
     {
         self.first = first;
@@ -92,9 +98,10 @@ impl Entries {
     }
 
     /// The balance of the account before an entry.
-    fn balance_before(&self, i: usize) -> u32
+    fn balance_before(&self, i: usize) -> u64
         requires { i < length self.now }
-        ensures { (otherwise : Entry) → (slice_index_or self.now i otherwise).net
+        ensures range { IsBalance result }
+        ensures net { (otherwise : Entry) → (slice_index_or self.now i otherwise).net
             ≡ pos (slice_index_or self.now i otherwise).balance -ℤ pos result }
     {
         if i == 0 {
@@ -121,7 +128,7 @@ impl Entries {
     }
 
     /// The balance that the entries lead to which end at or below an LSN, where all of them lead to this one.
-    pub(crate) fn balance_to(&self, lsn: Lsn, last: u32) -> u32
+    pub(crate) fn balance_to(&self, lsn: Lsn, last: u64) -> u64
         requires sums { (first : ℕ) × AddUp 0 first self.now × (last ≡ last_balance first self.now) }
         requires range { IsBalance last }
         ensures range { IsBalance result }
@@ -137,7 +144,7 @@ impl Entries {
     }
 
     /// The balance before the first entry, where all of them lead to this one.
-    pub(crate) fn first_balance(&self, last: u32) -> u32
+    pub(crate) fn first_balance(&self, last: u64) -> u64
         requires sums { (first : ℕ) × AddUp 0 first self.now × (last ≡ last_balance first self.now) }
         ensures { (first : ℕ) → AddUp 0 first self.now → last ≡ last_balance first self.now → result ≡ first }
     {

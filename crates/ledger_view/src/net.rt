@@ -33,11 +33,12 @@ pub fn net_of(changes: &[Change], account: u32) -> i64
 }
 
 /// The balance from which a net leads to this one.
-pub fn balance_before(balance: u32, net: i64) -> u32
-    requires { (before : ℕ) × IsBalance before × (pos balance ≡ pos before +ℤ net) }
+pub fn balance_before(balance: u64, net: i64) -> u64
+    requires range { IsBalance balance }
+    requires from { (before : ℕ) × IsBalance before × (pos balance ≡ pos before +ℤ net) }
     ensures { (before : ℕ) → pos balance ≡ pos before +ℤ net → result ≡ before }
 {
-    (i64::from(balance) - net) as u32
+    (balance as i64 - net) as u64
 }
 
 /// Whether one of the changes is of the account.

@@ -2,13 +2,14 @@
 ghost use Rattle.std.specs.Prelude.{◌≡◌, ◌==◌, ◌&&◌, ◌<◌, ◌≤◌, ◌+◌, ◌*◌, pos, neg_ℤ, ◌≤ℤ◌, if◌then◌else◌, length, take, reverse, slice_index_or, IfOk};
 ghost use Rattle.lsn_space.specs.declared.lsn.TheConstants.{LAST};
 ghost use Rattle.log_record.specs.declared.rec.Placed.{Placed};
+ghost use Rattle.log_record.specs.Spelling.{IsBalance};
 ghost use Rattle.lock_core.specs.Records.{txn_of, commits, gain, loss, changes_of};
 ghost use Rattle.lock_core.specs.Transactions.{touches, is_committed};
 ghost use Rattle.lock_core.specs.Sums.{BaseState, moved, total};
 ghost use Rattle.lock_core.specs.Lawful.{base_with, with_genesis};
 ghost use Rattle.lock_core.specs.AccountRows.{opening_of};
 ghost use Rattle.ledger_view.specs.Entries.{net_of, front_to, balance_after, balance_up_to, entries_if_known};
-ghost use Rattle.ledger_view.specs.Plain.{own_changes, IsNetOf, IsEntryOf, KeepsRange};
+ghost use Rattle.ledger_view.specs.Plain.{own_changes, IsNetOf, IsEntryOf, FrontsBeginInRange};
 
 use crate::entries::Entry;
 use crate::plain_list::EntryList;
@@ -143,7 +144,7 @@ fn account_count(opening: &Opening, entries: &[Placed]) -> u64
 }
 
 /// The balance that the opening gives the account, 0 where it hasn't the account.
-fn opening_balance(opening: &Opening, account: u32) -> u32
+fn opening_balance(opening: &Opening, account: u32) -> u64
     ensures { result ≡ (opening_of opening.now).state.balance account }
 {
     if account < opening.accounts.count() {
@@ -154,7 +155,7 @@ fn opening_balance(opening: &Opening, account: u32) -> u32
 }
 
 /// The balance with which the account begins: that of the record, if it is the account's Genesis, and else the one that it had before.
-fn begun_with(rec: &Rec, account: u32, before: u32) -> u32
+fn begun_with(rec: &Rec, account: u32, before: u64) -> u64
     ensures { (base : BaseState) → base.balance account ≡ before → (with_genesis rec.now base).balance account ≡ result }
 {
     match rec {
@@ -167,7 +168,7 @@ fn begun_with(rec: &Rec, account: u32, before: u32) -> u32
 }
 
 /// The balance with which the account begins: that of its Genesis, or the opening's.
-fn first_balance(opening: &Opening, entries: &[Placed], account: u32) -> u32
+fn first_balance(opening: &Opening, entries: &[Placed], account: u32) -> u64
     ensures { result ≡ (base_with (opening_of opening.now) (reverse entries.now)).balance account }
 {
     let mut balance = opening_balance(opening, account);
@@ -177,12 +178,13 @@ fn first_balance(opening: &Opening, entries: &[Placed], account: u32) -> u32
     balance
 }
 
-/// The balance that the list leaves the account.
+/// The balance that the list leaves the account, which begins with one in its range.
 fn plain_balance(opening: &Opening, entries: &[Placed], account: u32) -> u64
-    requires { length entries.now ≤ LAST }
+    requires few { length entries.now ≤ LAST }
+    requires range { IsBalance ((base_with (opening_of opening.now) (reverse entries.now)).balance account) }
     ensures { result ≡ balance_after (opening_of opening.now) (reverse entries.now) account }
 {
-    let first = u64::from(first_balance(opening, entries, account));
+    let first = first_balance(opening, entries, account);
     let (added, taken) = totals(entries, account);
     (first + added).saturating_sub(taken)
 }
@@ -201,15 +203,16 @@ fn front_len(entries: &[Placed], lsn: Lsn) -> usize
     len
 }
 
-/// What a view answers as `balance_at` behind an opening and these records, given as entries in the order of the log. It takes time in
-/// proportion to the square of their number.
+/// What a view answers as `balance_at` behind an opening and these records, given as entries in the order of the log, where the account
+/// begins with a balance in its range, as in a lawful list. It takes time in proportion to the square of their number.
 pub fn plain_balance_at(
     opening: &Opening,
     entries: &[Placed],
     account: u32,
     lsn: Lsn,
 ) -> Option<u64>
-    requires { length entries.now ≤ LAST }
+    requires few { length entries.now ≤ LAST }
+    requires range { FrontsBeginInRange (opening_of opening.now) (reverse entries.now) account }
     ensures { result ≡ balance_up_to (opening_of opening.now) (reverse entries.now) account lsn }
 {
     let front = &entries[..front_len(entries, lsn)];
@@ -224,7 +227,7 @@ pub fn plain_balance_at(
 fn plain_entry(opening: &Opening, entries: &[Placed], i: usize, account: u32) -> Option<Entry>
     requires few { length entries.now ≤ LAST }
     requires inside { i < length entries.now }
-    requires range { KeepsRange (opening_of opening.now) (reverse (take (i + 1) entries.now)) account }
+    requires range { FrontsBeginInRange (opening_of opening.now) (reverse entries.now) account }
     ensures { (entry : Placed) → entry ≡ slice_index_or entries.now i entry
         → IsEntryOf (opening_of opening.now) entry (reverse (take i entries.now)) account result }
 {
@@ -236,12 +239,12 @@ fn plain_entry(opening: &Opening, entries: &[Placed], i: usize, account: u32) ->
         end: entries[i].end,
         txn: *txn,
         net,
-        balance: plain_balance(opening, &entries[..=i], account) as u32,
+        balance: plain_balance(opening, &entries[..=i], account),
     })
 }
 
-/// What a view answers as `entries` behind an opening and these records, given as entries in the order of the log, where each Commit on
-/// the account leaves it a balance in its range, as in a lawful list. It takes time in proportion to the third power of their number.
+/// What a view answers as `entries` behind an opening and these records, given as entries in the order of the log, where the account
+/// begins with a balance in its range, as in a lawful list. It takes time in proportion to the third power of their number.
 pub fn plain_entries(
     alloc: Global,
     opening: &Opening,
@@ -249,7 +252,7 @@ pub fn plain_entries(
     account: u32,
 ) -> Result<Option<EntryList>, NoMemory>
     requires few { length entries.now ≤ LAST }
-    requires range { KeepsRange (opening_of opening.now) (reverse entries.now) account }
+    requires range { FrontsBeginInRange (opening_of opening.now) (reverse entries.now) account }
     ensures { IfOk result (λ found. found ≡ entries_if_known (opening_of opening.now) (reverse entries.now) account) }
 {
     if u64::from(account) >= account_count(opening, entries) {

@@ -1,12 +1,13 @@
 //! The rows in which the entries of one account are kept.
 ghost use Rattle.std.specs.Prelude.{◌≡◌, ◌<◌, ◌≤◌, ◌++◌, ◌∷◌, [], ℕ, length, slice_index_or, OnOk};
 ghost use Rattle.std.specs.List.Sorted.{IsNonDecreasingBy};
+ghost use Rattle.log_record.specs.Spelling.{IsBalance};
 
 use lsn_space::{Lsn, NoMemory};
 use std::alloc::Global;
 use std::marker::Model;
 
-/// An entry as it is kept, in 12 bytes: what it adds to the account is told by the balance of the row before it.
+/// An entry as it is kept, in 16 bytes: what it adds to the account is told by the balance of the row before it.
 #[derive(Clone, Copy, Debug, PartialEq, Eq)]
 pub struct Row {
     /// Where the Commit ends.
@@ -16,7 +17,8 @@ pub struct Row {
     pub txn: u32,
 
     /// The balance of the account behind the Commit.
-    pub balance: u32,
+    pub balance: u64,
+    pub ghost fits: { IsBalance balance },
 }
 
 /// How many of the rows end at or below an LSN.

@@ -99,7 +99,7 @@ impl View {
         lsn: Lsn,
         rec: &Rec,
         account: u32,
-        balance: u32,
+        balance: u64,
     ) -> Result<(), JudgeFault>
         requires can { CanAdd self.old lsn rec.now }
         requires is { rec.now ≡ Rec.Genesis account balance }
@@ -153,8 +153,7 @@ impl View {
     {
         match self.account(account) {
             Some(kept) if kept.since.units() <= lsn.units() => {
-                let balance = kept.entries.balance_to(lsn, self.judge.balance(account));
-                Some(u64::from(balance))
+                Some(kept.entries.balance_to(lsn, self.judge.balance(account)))
             }
             _ => None,
         }
@@ -162,7 +161,7 @@ impl View {
 
     /// The balance with which the account begins, that of its Genesis or the opening's, or `None` where the records and the opening have
     /// no such account.
-    pub fn first_balance(&self, account: u32) -> Option<u32>
+    pub fn first_balance(&self, account: u32) -> Option<u64>
         requires viewed { (opening : Opening) × (h : List Placed) × HasViewed opening self.now h }
         ensures some { IfSome result (λ balance. (opening : Opening) (h : List Placed) → HasViewed opening self.now h
             → (account < (base_with opening h).accounts) × (balance ≡ (base_with opening h).balance account)) }

@@ -1,16 +1,12 @@
-use Rattle.std.proofs.Common.{◌∷◌, [], ◌++◌, ◌+◌, ◌∙◌, List, None, Some, take, reverse, ap, sym, subst}
+use Rattle.std.proofs.Common.{◌∷◌, [], ◌++◌, ◌∙◌, List, None, Some, take, reverse, ap, sym, subst}
 use Rattle.log_record.specs.declared.rec.Placed.{Placed}
 use Rattle.lock_core.specs.AccountRows.{opening_of}
 use Rattle.lock_core.proofs.OwnLemmas.{reverse-take_more}
 use Rattle.ledger_view.specs.declared.entries.Entry.{Entry}
 use Rattle.ledger_view.specs.Entries.{entries_of}
 use Rattle.ledger_view.specs.Plain.{IsEntryOf}
-use Rattle.ledger_view.proofs.PlainLemmas.{placed_at-exists, keeps_range-front}
+use Rattle.ledger_view.proofs.PlainLemmas.{placed_at-exists}
 use Rattle.ledger_view.proofs.plain.plain_entries.Goals as goal
-
-pub plain_entry-requires-clause-range : goal.plain_entry-requires-clause-range
-plain_entry-requires-clause-range c =
-    keeps_range-front (opening_of c.args.opening.now) c.args.account c.args.entries.now (c.entries.i + 1) c.requires.range
 
 pub entries-preserved-in_default : goal.entries-preserved-in_default
 entries-preserved-in_default c =

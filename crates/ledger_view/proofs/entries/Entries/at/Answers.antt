@@ -18,4 +18,4 @@ returns c = λ d.
     (λ i. record { end = c.at-row.result.end; txn = c.at-row.result.txn; net = (net ∙ c.net_between.ensures) i; balance = c.at-row.result.balance })
     ∙ subst (λ l. entry_of_row before c.at-row.result ≡ get_or l c.args.i d) c.self.view_is
     (entry_of_row-at c.self.inside.first c.self.inside.rows c.args.i d c.at-row.result before (omega (arith, long, seen, c.requires)) c.at-row.ensures
-    (subst (λ l. (get_or l c.args.i d).net ≡ pos (get_or l c.args.i d).balance -ℤ pos before) (sym c.self.view_is) (c.balance_before.ensures d)))
+    (subst (λ l. (get_or l c.args.i d).net ≡ pos (get_or l c.args.i d).balance -ℤ pos before) (sym c.self.view_is) (c.balance_before.ensures.net d)))

@@ -11,16 +11,16 @@ at-requires c =
     let long = length-entries_of_rows c.self.inside.first c.self.inside.rows in let seen = ap length c.self.view_is in
     omega (arith, long, seen, c.requires, c.if-i-eq0.false)
 
-pub returns-then-i-eq0 : goal.returns-then-i-eq0
-returns-then-i-eq0 c =
+pub returns-then-i-eq0-clause-net : goal.returns-then-i-eq0-clause-net
+returns-then-i-eq0-clause-net c =
     let first = c.self.inside.first in let rows = c.self.inside.rows in
     let long = length-entries_of_rows first rows in let seen = ap length c.self.view_is in
     subst (λ l. (d : Entry) → (get_or l c.args.i d).net ≡ pos (get_or l c.args.i d).balance -ℤ pos first) c.self.view_is
     (λ d. entries_of_rows_net-at first rows c.args.i d (omega (arith, long, seen, c.requires))
     ∙ ap (λ n. pos (get_or (entries_of_rows first rows) c.args.i d).balance -ℤ pos (balance_before first rows n)) c.if-i-eq0.true)
 
-pub returns : goal.returns
-returns c =
+pub returns-clause-net : goal.returns-clause-net
+returns-clause-net c =
     let first = c.self.inside.first in let rows = c.self.inside.rows in
     let long = length-entries_of_rows first rows in let seen = ap length c.self.view_is in
     let next : c.args.i ≡ suc (c.args.i - 1) = omega (arith, c.if-i-eq0.false) in

@@ -15,7 +15,7 @@ read c first sums =
     let inside : c.count_to-next.result < length c.args.self.now = omega (arith, c.if-next-count.true, c.count.ensures) in
     let adds = first_entry_behind-adds_net 0 first c.args.self.now c.count_to-next.result c.args.lsn no_entry sums inside
     (λ k before. c.count_to-next.ensures.below k no_entry before) (c.count_to-next.ensures.behind c.count_to-next.result no_entry (omega arith) inside) in
-    let sum = adds.1 in let net = c.balance_before.ensures no_entry in
+    let sum = adds.1 in let net = c.balance_before.ensures.net no_entry in
     (adds.0, omega (arith, ints, sum, net))
 
 pub returns-then-next-count-clause-range : goal.returns-then-next-count-clause-range

@@ -8,5 +8,5 @@ use Rattle.ledger_view.proofs.entries.Entries.push_first.Goals as goal
 pub returns : goal.returns
 returns c = on_ok_weaker c.push.result
     (λ pushed. ap (entries_of_rows c.args.first)
-    (pushed ∙ ap (λ (l : List Row). l ++ c.args.row ∷ []) (entries_of_rows_none-rows_none c.self.inside.first c.self.inside.rows (c.self.view_is ∙ c.requires))))
+    (pushed ∙ ap (λ (l : List Row). l ++ c.args.row ∷ []) (entries_of_rows_none-rows_none c.self.inside.first c.self.inside.rows (c.self.view_is ∙ c.requires.none))))
     c.push.ensures
