@@ -22,7 +22,7 @@ use std::alloc::Global;
 pub const GENERATED_ACCOUNTS: u32 = 64;
 
 /// The balance with which each of them begins.
-pub const GENERATED_BALANCE: u32 = 1_000_000;
+pub const GENERATED_BALANCE: u64 = 1_000_000;
 
 /// So many transfers, generated from a seed.
 pub fn make(alloc: Global, n: u32, seed: u32) -> Result<Script, NoMemory>

@@ -32,7 +32,7 @@ pub fn balances(alloc: Global, bytes: &[u8]) -> Result<Balances, ParseFault>
 }
 
 /// The balance that a line adds, if there is room for one more account.
-fn next_balance(balances: &Balances, line: &[u8]) -> Option<u32>
+fn next_balance(balances: &Balances, line: &[u8]) -> Option<u64>
     ensures room { IfSome result (λ _. length balances.now.rows < MOST_ACCOUNTS) }
     ensures balance { IfSome result IsBalance }
     ensures text { IfSome result (λ n. line.now ≡ number_text n) }

@@ -8,7 +8,7 @@ ghost use Rattle.lock_core.specs.declared.job.Job.{Job};
 
 use lock_core::{Job, Leg, Legs, Remark};
 use log_record::MOST_LEGS;
-use lsn_space::{MOST_BALANCE, number};
+use lsn_space::{MOST_AMOUNT, number};
 
 /// What stands between the parts of a line.
 pub const SPACE: u8 = b' ';
@@ -92,7 +92,7 @@ fn is_allowed(leg: Leg, accounts: u32) -> bool
         && leg.payee < accounts
         && leg.payer != leg.payee
         && leg.amount >= 1
-        && leg.amount <= MOST_BALANCE
+        && leg.amount <= MOST_AMOUNT
 }
 
 /// The number that the bytes begin with, behind a space, and what follows it.
@@ -106,8 +106,8 @@ fn take_number(bytes: &[u8]) -> Option<(u32, &[u8])>
         return None;
     };
     let (digits, rest) = after.split_at(digits_len(after));
-    let n = number(digits, 0, u32::MAX)?;
-    Some((n, rest))
+    let n = number(digits, 0, u32::MAX as u64)?;
+    Some((n as u32, rest))
 }
 
 /// How many digits the bytes begin with.
