@@ -5,5 +5,5 @@ use Rattle.run_plan.proofs.summary.mix_of.Given as goal
 abbrev pub invariant-loop-account : goal.invariant-loop-account
 invariant-loop-account l = record {
   mix : l.mix ≡ mix_below l.account (balance_in l.accounts.rows);
-  small : l.mix ≤ l.account * (4096 * 4294967295);
+  small : l.mix ≤ l.account * (4096 * 18446744073709551615);
 }

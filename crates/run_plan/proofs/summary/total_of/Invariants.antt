@@ -6,5 +6,5 @@ use Rattle.run_plan.proofs.summary.total_of.Given as goal
 abbrev pub invariant-loop-account : goal.invariant-loop-account
 invariant-loop-account l = record {
   total : l.total ≡ sum_below l.account (balance_in l.accounts.rows);
-  small : l.total ≤ l.account * 4294967295;
+  small : l.total ≤ l.account * 18446744073709551615;
 }
