@@ -26,7 +26,7 @@ pub fn genesis(alloc: Global, balances: &Balances) -> Result<Batch, NoMemory>
 }
 
 /// Adds the units of one Genesis.
-fn push_genesis(batch: &mut Batch, account: u32, balance: u32)
+fn push_genesis(batch: &mut Batch, account: u32, balance: u64)
     requires account { account < MOST_ACCOUNTS }
     requires balance { IsBalance balance }
     requires room { length batch.old.units + 2 ≤ batch.old.room }
