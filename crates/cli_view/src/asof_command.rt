@@ -60,7 +60,7 @@ fn accounts_at(alloc: Global, view: &View, lsn: Lsn) -> Result<Balances, NoMemor
     let mut rows = Balances::make(alloc, view.accounts())?;
     let mut account = 0;
     'accounts: while let Some(balance) = view.balance_at(account, lsn) {
-        rows.push(balance as u32, 0);
+        rows.push(balance, 0);
         account += 1;
     }
     Ok(rows)

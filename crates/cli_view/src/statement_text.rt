@@ -11,12 +11,12 @@ use log_recovery::{Line, put_end};
 use lsn_space::Lsn;
 
 #[tactic(auto, unfolding(crate::specs::Reports::open_line))]
-fn first_line(balance: u32, line: &mut Line)
+fn first_line(balance: u64, line: &mut Line)
     ensures { line.new ≡ open_line balance }
 {
     line.clear();
     line.put_byte(b'\n');
-    line.put_number(balance);
+    line.put_balance(balance);
     line.put_piece(b"open ");
 }
 
@@ -26,7 +26,7 @@ fn line_of(entry: &Entry, line: &mut Line)
 {
     line.clear();
     line.put_byte(b'\n');
-    line.put_number(entry.balance);
+    line.put_balance(entry.balance);
     line.put_byte(b' ');
     line.put_signed(entry.net);
     line.put_byte(b' ');
@@ -37,7 +37,7 @@ fn line_of(entry: &Entry, line: &mut Line)
 
 /// Writes the statement of an account that begins with this balance, of a list that ends here, or a part of it at a fault.
 pub fn put_statement<K: Sink>(
-    balance: u32,
+    balance: u64,
     entries: &Entries,
     end: Lsn,
     sink: &mut K,
