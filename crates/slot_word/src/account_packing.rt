@@ -23,7 +23,7 @@ impl AccountWord {
         ensures balance { result.balance ≡ balance_in word }
         ensures mark { result.mark ≡ last_commit_in word }
     {
-        let balance = (word >> BALANCE_AT & BALANCE_BITS) as u32;
+        let balance = word >> BALANCE_AT & BALANCE_BITS;
         let mark = (word & MARK_BITS) as u32;
         if word >> HELD_AT == 1 {
             AccountWord::taken(balance, mark)
@@ -37,7 +37,7 @@ impl AccountWord {
         ensures { result ≡ word_of self }
     {
         let held_part = (self.held() as u64) << HELD_AT;
-        let balance_part = (self.balance() as u64) << BALANCE_AT;
+        let balance_part = self.balance() << BALANCE_AT;
         held_part + balance_part + self.mark() as u64
     }
 }

@@ -8,14 +8,14 @@ ghost use Rattle.std.specs.Prelude.{◌≡◌, ◌<◌, ◌^◌, true, false};
 #[derive(Clone, Copy, Debug, PartialEq, Eq)]
 pub struct AccountWord {
     held: bool,
-    balance: u32,
+    balance: u64,
     mark: u32,
     ghost fits: { balance < 2 ^ 31 },
 }
 
 impl AccountWord {
     /// No worker holds the account.
-    pub fn free(balance: u32, mark: u32) -> AccountWord
+    pub fn free(balance: u64, mark: u32) -> AccountWord
         requires { balance < 2 ^ 31 }
         ensures held { result.held ≡ false }
         ensures balance { result.balance ≡ balance }
@@ -29,7 +29,7 @@ impl AccountWord {
     }
 
     /// A worker holds the account.
-    pub fn taken(balance: u32, mark: u32) -> AccountWord
+    pub fn taken(balance: u64, mark: u32) -> AccountWord
         requires { balance < 2 ^ 31 }
         ensures held { result.held ≡ true }
         ensures balance { result.balance ≡ balance }
@@ -48,7 +48,7 @@ impl AccountWord {
         self.held
     }
 
-    pub fn balance(self) -> u32
+    pub fn balance(self) -> u64
         ensures balance { result ≡ self.balance }
         ensures fits { result < 2 ^ 31 }
     {
