@@ -5,7 +5,7 @@ use Rattle.std.specs.List.{AllByRecursion}
 use Rattle.log_record.specs.declared.rec.Rec.{Rec}
 use Rattle.log_record.specs.declared.rec.Rec.TheVariants.{Genesis, Update, Commit, Short, Over, Note}
 use Rattle.log_record.specs.Spelling.{IsTxn, IsNoteText, IsSpellable}
-use Rattle.lsn_space.specs.declared.opening.TheConstants.{MOST_ACCOUNTS, MOST_BALANCE}
+use Rattle.lsn_space.specs.declared.opening.TheConstants.{MOST_ACCOUNTS, MOST_AMOUNT}
 use Rattle.lsn_space.specs.declared.lsn.TheConstants.{LAST}
 use Rattle.lock_core.specs.Transactions.{has_end, in_order}
 use Rattle.lock_core.specs.Alone.{lacks, overfills, after_leg, with_note, leg_updates, planned_from, planned_records}
@@ -31,7 +31,7 @@ pub record IsSmallLeg (leg : ℕ × ℕ × ℕ) : Type 0 where
   pub payer : leg.0 < MOST_ACCOUNTS
   pub payee : leg.1 < MOST_ACCOUNTS
   pub least : 1 ≤ leg.2
-  pub most : leg.2 ≤ MOST_BALANCE
+  pub most : leg.2 ≤ MOST_AMOUNT
 
 module _ (task : NumberedTransfer) (last_commit : ℕ → ℕ) (txn-fits : IsTxn task.number) (marks : (account : ℕ) → last_commit account ≤ LAST) where
   abbrev txn : ℕ

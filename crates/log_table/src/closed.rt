@@ -53,7 +53,7 @@ impl Closed {
     }
 
     /// The account's balance.
-    pub fn balance(&self, account: u32) -> u32
+    pub fn balance(&self, account: u32) -> u64
         requires { account < length self.now.accounts.rows }
         ensures { result ≡ (row self.now.accounts.rows account).0 }
     {
