@@ -11,7 +11,7 @@ use slot_word::AccountWord;
 
 /// Gives the account back: where the seat's last job is committed, with the balance and last commit
 /// that it made, else as it was taken. The commit need not be durable.
-pub fn give(table: &LogTable, seat: &mut Seat, taken: Taken, balance: u32, mark: u32)
+pub fn give(table: &LogTable, seat: &mut Seat, taken: Taken, balance: u64, mark: u32)
     requires seat { IsOf table.now seat.old }
     requires account { taken.account < table.now.accounts }
     requires rests { IsAtRest (view_of seat.old) }
@@ -24,7 +24,7 @@ pub fn give(table: &LogTable, seat: &mut Seat, taken: Taken, balance: u32, mark:
 }
 
 /// Gives the account back once the seat has seen that the end record of its last job is on the disk.
-pub fn give_durable(table: &LogTable, seat: &mut Seat, taken: Taken, balance: u32, mark: u32)
+pub fn give_durable(table: &LogTable, seat: &mut Seat, taken: Taken, balance: u64, mark: u32)
     requires seat { IsOf table.now seat.old }
     requires account { taken.account < table.now.accounts }
     requires rests { IsAtRest (view_of seat.old) }

@@ -12,7 +12,7 @@ use slot_word::AccountWord;
 #[derive(Drop)]
 pub struct Taken {
     pub account: u32,
-    pub balance: u32,
+    pub balance: u64,
     pub mark: u32,
 }
 

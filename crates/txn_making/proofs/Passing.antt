@@ -7,7 +7,7 @@ use Rattle.std.proofs.lemmas.List.Elements.{All-contains, All-from_recursion, re
 use Rattle.log_record.specs.declared.rec.Rec.{Rec}
 use Rattle.log_record.specs.declared.rec.Rec.TheVariants.{Update, Commit}
 use Rattle.log_record.specs.Spelling.{IsLeg}
-use Rattle.lsn_space.specs.declared.opening.TheConstants.{MOST_BALANCE}
+use Rattle.lsn_space.specs.declared.opening.TheConstants.{MOST_AMOUNT, MOST_BALANCE}
 use Rattle.lock_core.specs.declared.update.Change.{Change}
 use Rattle.lock_core.specs.Alone.{outcome_from, outcome_alone, after_leg, planned_from, lacks, overfills, IsAllowedLeg}
 use Rattle.lock_core.specs.Records.{gain, loss}
@@ -192,7 +192,7 @@ module _ (accounts number : ℕ) (job : Job) (holdings : List TakenAccount) (boo
     leg-has_accounts_of = subst (HasAccountsOf (map account_of holdings)) (sym is)
         (subst (All (HasAccountsOf (map account_of holdings))) (sym same) holds.all i leg within)
 
-    pub leg_amount-le_most : leg.2 ≤ MOST_BALANCE
+    pub leg_amount-le_most : leg.2 ≤ MOST_AMOUNT
     leg_amount-le_most = leg-allowed.most
 
     balance-of : (account : ℕ) (Such : ℕ → Type 0) → HasBalance holdings account Such → Such (balances account)

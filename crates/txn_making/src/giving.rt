@@ -52,7 +52,7 @@ pub fn give_unchanged(
     give_all(table, seat, holdings, Release::Unchanged, false);
 }
 
-fn give_one(table: &LogTable, seat: &mut Seat, taken: Taken, balance: u32, mark: u32, durable: bool)
+fn give_one(table: &LogTable, seat: &mut Seat, taken: Taken, balance: u64, mark: u32, durable: bool)
     requires seat { IsOf table.now seat.old }
     requires ready { IsReady (view_of seat.old) }
     requires holds { HoldsTaken taken (view_of seat.old).books }

@@ -17,7 +17,7 @@ pub enum Release {
 
 impl Release {
     /// The balance and the last commit with which this account goes back.
-    pub fn values(&self, holding: &TakenAccount) -> (u32, u32)
+    pub fn values(&self, holding: &TakenAccount) -> (u64, u32)
         ensures values { result ≡ back_of self.now holding.now }
         ensures fits { result.0 ≤ MOST_BALANCE }
     {

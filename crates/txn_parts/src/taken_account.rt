@@ -8,7 +8,7 @@ use early_locks::Taken;
 #[derive(Drop)]
 pub struct TakenAccount {
     pub taken: Taken,
-    pub balance: u32,
+    pub balance: u64,
     ghost fits: { balance ≤ MOST_BALANCE },
     ghost taken_fits: { taken.balance ≤ MOST_BALANCE },
 }
