@@ -9,7 +9,7 @@ use log_recovery::{RecoverFault, recover};
 use std::alloc::Global;
 
 /// The account's balance in the log that these bytes are; None where the log hasn't this account.
-pub fn balance_in(alloc: Global, log: &[u8], account: u32) -> Result<Option<u32>, RecoverFault>
+pub fn balance_in(alloc: Global, log: &[u8], account: u32) -> Result<Option<u64>, RecoverFault>
     ensures found { IfOk result (HasBalance log.now account) }
     ensures fault { IfErr result (IsFaultOf log.now) }
 {

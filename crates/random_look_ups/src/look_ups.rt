@@ -12,7 +12,7 @@ use lsn_space::Lsn;
 #[derive(Drop)]
 pub struct Found {
     /// The sum of the balances.
-    pub sum: u64,
+    pub sum: u128,
 
     /// How often there was no such account at that LSN.
     pub unknown: u32,
@@ -29,7 +29,7 @@ pub fn look_ups(view: &View, end: Lsn, count: u32) -> Found
         let account = lot.draw(accounts) as u32;
         let lsn = Lsn::new(lot.draw(u64::from(end.units()) + 1) as u32);
         match view.balance_at(account, lsn) {
-            Some(balance) => found.sum += balance,
+            Some(balance) => found.sum += balance as u128,
             None => found.unknown += 1,
         }
     }

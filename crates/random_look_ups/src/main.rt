@@ -18,7 +18,10 @@ fn count_asked(rt: &HostRuntime) -> Option<u32> {
     let args = env::args(rt).ok()?;
     let words = Word::each(rt.alloc(), args).ok()?;
     match words.as_slice() {
-        [_, count] => number(count.text().as_bytes(), 0, LAST),
+        [_, count] => {
+            let count = number(count.text().as_bytes(), 0, u64::from(LAST))?;
+            Some(count as u32)
+        }
         _ => None,
     }
 }
