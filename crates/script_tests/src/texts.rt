@@ -6,7 +6,7 @@ use std::test::Fail;
 use txn_script::{Job, Leg, ParseFault, Script, balances, parse};
 
 /// This is the balance, and no commit, of the account at this place of the text.
-fn is_balance(rt: &impl Abort, text: &[u8], found: (u32, u32), balance: u32) {
+fn is_balance(rt: &impl Abort, text: &[u8], found: (u64, u32), balance: u64) {
     assert_eq!(rt; found, (balance, 0), "{text:?}");
 }
 
@@ -16,7 +16,7 @@ fn is_count(rt: &impl Abort, text: &[u8], found: u64, count: u64) {
 }
 
 /// The text is read as these balances.
-fn reads<R: AllocGlobal + Abort>(rt: &R, text: &[u8], want: &[u32]) -> Result<(), Fail> {
+fn reads<R: AllocGlobal + Abort>(rt: &R, text: &[u8], want: &[u64]) -> Result<(), Fail> {
     let Ok(found) = balances(rt.alloc(), text) else {
         return Err(Fail::new("no balances"));
     };
@@ -29,7 +29,7 @@ fn reads<R: AllocGlobal + Abort>(rt: &R, text: &[u8], want: &[u32]) -> Result<()
     Ok(())
 }
 
-const BALANCES: &[(&[u8], &[u32])] = &[
+const BALANCES: &[(&[u8], &[u64])] = &[
     (b"100\n0\n", &[100, 0]),
     (b"100\n0", &[100, 0]),
     (b"0", &[0]),
