@@ -62,11 +62,11 @@ fn writes_digits(rt: HostRuntime) {
 }
 
 /// The text is read as this number from `least` to `most`, or as none.
-fn is_read(rt: &impl Abort, text: &[u8], least: u32, most: u32, want: Option<u32>) {
+fn is_read(rt: &impl Abort, text: &[u8], least: u64, most: u64, want: Option<u64>) {
     assert_eq!(rt; number(text, least, most), want, "{text:?}");
 }
 
-const NUMBERS: &[(&[u8], Option<u32>)] = &[
+const NUMBERS: &[(&[u8], Option<u64>)] = &[
     (b"1", Some(1)),
     (b"16", Some(16)),
     (b"0", None),
@@ -77,6 +77,7 @@ const NUMBERS: &[(&[u8], Option<u32>)] = &[
     (b"-1", None),
     (b"1 ", None),
     (b"4294967297", None),
+    (b"18446744073709551617", None),
 ];
 
 #[test]
@@ -84,7 +85,9 @@ fn reads_numbers_in_a_range(rt: HostRuntime) {
     for (text, want) in NUMBERS {
         is_read(&rt, text, 1, 16, *want);
     }
-    is_read(&rt, b"4294967295", 0, u32::MAX, Some(u32::MAX));
+    let most = u64::MAX;
+    is_read(&rt, b"18446744073709551615", 0, most, Some(most));
+    is_read(&rt, b"18446744073709551616", 0, most, None);
 }
 
 #[test]
@@ -96,7 +99,7 @@ fn keeps_the_text(rt: HostRuntime) {
 }
 
 /// Two accounts have these balances and last Commits.
-fn has_rows(rt: &impl Abort, balances: &Balances, first: (u32, u32), second: (u32, u32)) {
+fn has_rows(rt: &impl Abort, balances: &Balances, first: (u64, u32), second: (u64, u32)) {
     assert!(rt; balances.count() == 2);
     assert_eq!(rt; (balances.at(0), balances.at(1)), (first, second));
 }
