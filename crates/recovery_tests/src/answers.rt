@@ -82,7 +82,7 @@ fn is_list_to<R: AllocGlobal + Abort>(rt: &R, name: &str, bytes: &[u8], end: u32
 }
 
 /// These rows, each an account's balance and last Commit, were recovered.
-fn are_rows(rt: &impl Abort, name: &str, found: &[(u32, u32)], rows: &[(u32, u32)]) {
+fn are_rows(rt: &impl Abort, name: &str, found: &[(u64, u32)], rows: &[(u64, u32)]) {
     assert_eq!(rt; found, rows, "{name}");
 }
 
@@ -97,7 +97,7 @@ pub(crate) fn is_recovered<R: AllocGlobal + Abort>(
     name: &str,
     bytes: &[u8],
     end: (u32, u64),
-    rows: &[(u32, u32)],
+    rows: &[(u64, u32)],
 ) -> Result<(), Fail> {
     let Ok(recovered) = recover(rt.alloc(), bytes) else {
         return Err(Fail::new("not recovered"));

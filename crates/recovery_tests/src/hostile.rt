@@ -208,7 +208,7 @@ type Lawful = (
     &'static str,
     &'static [&'static [u8]],
     (u32, u64),
-    &'static [(u32, u32)],
+    &'static [(u64, u32)],
     &'static [u8],
 );
 
@@ -247,7 +247,7 @@ fn recovers<R: AllocGlobal + Abort>(
     name: &str,
     parts: &[&[u8]],
     end: (u32, u64),
-    rows: &[(u32, u32)],
+    rows: &[(u64, u32)],
 ) -> Result<(), Fail> {
     let bytes = joined(rt.alloc(), parts)?;
     is_recovered(rt, name, bytes.as_slice(), end, rows)?;

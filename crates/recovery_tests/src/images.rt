@@ -44,7 +44,7 @@ pub(crate) fn image(alloc: Global, batches: &[&[u64]]) -> Result<Vec<u8>, AllocE
 }
 
 /// A lawful image: its batches, the end of its list with the next transaction number, and the rows of its accounts.
-type Lawful = (&'static [&'static [u64]], (u32, u64), &'static [(u32, u32)]);
+type Lawful = (&'static [&'static [u64]], (u32, u64), &'static [(u64, u32)]);
 
 const LAWFUL: &[Lawful] = &[
     (&[&GENESIS], (4, 1), &[(100, 0), (0, 0)]),
@@ -87,7 +87,7 @@ fn recovers<R: AllocGlobal + Abort>(
     rt: &R,
     batches: &[&[u64]],
     end: (u32, u64),
-    rows: &[(u32, u32)],
+    rows: &[(u64, u32)],
 ) -> Result<(), Fail> {
     let bytes = image(rt.alloc(), batches)?;
     is_recovered(rt, "image", bytes.as_slice(), end, rows)?;

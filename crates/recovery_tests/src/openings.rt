@@ -38,7 +38,7 @@ fn judge_behind(alloc: Global) -> Result<Judge, NoMemory>
 }
 
 /// The accounts and the greatest transaction number.
-fn has(rt: &impl Abort, judge: &Judge, first: (u32, u32), second: (u32, u32), greatest: u32) {
+fn has(rt: &impl Abort, judge: &Judge, first: (u64, u32), second: (u64, u32), greatest: u32) {
     assert_eq!(rt; judge.accounts(), 2);
     assert_eq!(rt; (judge.balance(0), judge.last(0)), first);
     assert_eq!(rt; (judge.balance(1), judge.last(1)), second);

@@ -17,13 +17,13 @@ use std::process::Abort;
 use std::test::Fail;
 
 /// Where a Commit ends, its transaction, its net and the balance behind it.
-type Line = (u32, u32, i64, u32);
+type Line = (u32, u32, i64, u64);
 
 /// A log's batches; an account; its first balance and its entries, if it is known; and what it held at some LSNs.
 type Row = (
     &'static [&'static [u64]],
     u32,
-    Option<(u32, &'static [Line])>,
+    Option<(u64, &'static [Line])>,
     &'static [(u32, Option<u64>)],
 );
 
