@@ -23,18 +23,24 @@ fn cut(text: &[u8], at: u8) -> Option<(&[u8], &[u8])> {
     }
 }
 
+/// The transaction number or the LSN, at least this, of which this is the text.
+fn number_in(text: &[u8], least: u32) -> Option<u32> {
+    let n = number(text, u64::from(least), u64::from(u32::MAX))?;
+    Some(n as u32)
+}
+
 /// What a line `done N END` of a run tells.
 fn told(line: &[u8]) -> Option<Ended> {
     let (txn, end) = cut(line.strip_prefix(b"done ")?, b' ')?;
-    Some((number(txn, 1, u32::MAX)?, number(end, 1, u32::MAX)?))
+    Some((number_in(txn, 1)?, number_in(end, 1)?))
 }
 
 /// What a line `LSN commit N LEGS` of a dump shows.
 fn shown(line: &[u8]) -> Option<Ended> {
     let (lsn, rest) = cut(line, b' ')?;
     let (txn, _) = cut(rest.strip_prefix(b"commit ")?, b' ')?;
-    let end = number(lsn, 0, u32::MAX)?.checked_add(1)?;
-    Some((number(txn, 1, u32::MAX)?, end))
+    let end = number_in(lsn, 0)?.checked_add(1)?;
+    Some((number_in(txn, 1)?, end))
 }
 
 /// What the lines of a text tell or show, in their order.

@@ -132,22 +132,22 @@ fn are_among(
 }
 
 /// The balance in a line of an account; 0 in any other line.
-fn balance_in(line: &[u8]) -> u32 {
+fn balance_in(line: &[u8]) -> u64 {
     let place = line.iter().position(|byte| *byte == b' ');
     let Some((account, [_, balance @ ..])) = line.split_at_checked(place.unwrap_or(0)) else {
         return 0;
     };
-    if number(account, 0, u32::MAX).is_none() {
+    if number(account, 0, u64::MAX).is_none() {
         return 0;
     }
-    number(balance, 0, u32::MAX).unwrap_or(0)
+    number(balance, 0, u64::MAX).unwrap_or(0)
 }
 
 /// The sum of all balances in the text of accounts.
 fn total_of(accounts: &[u8]) -> u64 {
     let mut total = 0u64;
     for line in accounts.split(|byte| *byte == b'\n') {
-        total = total.saturating_add(u64::from(balance_in(line)));
+        total = total.saturating_add(balance_in(line));
     }
     total
 }

@@ -57,7 +57,8 @@ fn ships_in<R: AllocGlobal>(
 
 /// The LSN that is the last of these words.
 fn lsn_in(words: &[&str]) -> Option<u32> {
-    number(words.last()?.as_bytes(), 0, u32::MAX)
+    let lsn = number(words.last()?.as_bytes(), 0, u64::from(u32::MAX))?;
+    Some(lsn as u32)
 }
 
 /// By these words, of which the last is an LSN, the log is shipped from there on: it ends so, and writes this.
