@@ -2,7 +2,7 @@ use Rattle.std.proofs.Common.{rules, ◌≡◌, All, List, [], ◌∷◌, ◌++�
 use Rattle.std.proofs.lemmas.List.Elements.{All-push}
 use Rattle.lock_core.specs.declared.job.Job.{Job}
 use Rattle.lock_core.specs.Transfers.{IsAllowedJob}
-use Rattle.worker_tests.proofs.group_script.noted_thirties.Goals as goal
+use Rattle.daemon_tests.proofs.group_script.noted_thirties.Goals as goal
 
 pub loop-preserved : goal.loop-preserved
 loop-preserved g c =

@@ -1,4 +1,4 @@
-use Rattle.worker_tests.proofs.pipeline_tests.insert.Goals as goal
+use Rattle.daemon_tests.proofs.pipeline_tests.insert.Goals as goal
 
 pub leave-requires-clause-seat : goal.leave-requires-clause-seat
 leave-requires-clause-seat c = c.insert_all-inserted.ensures.worker.own

@@ -1,4 +1,4 @@
-use Rattle.worker_tests.proofs.relief_tests.works.Goals as goal
+use Rattle.daemon_tests.proofs.relief_tests.works.Goals as goal
 
 pub leave-requires-clause-seat : goal.leave-requires-clause-seat
 leave-requires-clause-seat g c = c.work_queue-worked.ensures.seat
