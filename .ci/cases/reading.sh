@@ -123,7 +123,7 @@ reader_cases() {
     expect_as_read 'a log with a note as another reader shows it' "$work/noted.log"
 }
 
-# A text of many lines goes out in blocks of up to 4096 bytes, and not in a write for each line.
+# A text of many lines goes out in blocks of up to 64 KB, and not in a write for each line.
 block_cases() {
     local log=$work/blocks.log lines writes
     rm -f "$log"
@@ -134,7 +134,7 @@ block_cases() {
     fi
     lines=$(wc -l < "$work/dump")
     writes=$(awk '$NF == "write" { print $4 }' "$work/calls")
-    if [ "$lines" = 30065 ] && [ "${writes:-301}" -le 300 ]; then
+    if [ "$lines" = 30065 ] && [ "${writes:-31}" -le 30 ]; then
         passed=$((passed + 1))
     else
         failed=$((failed + 1))

@@ -6,7 +6,7 @@ ghost use Rattle.log_disk.specs.Streams.{ReadsAll};
 ghost use Rattle.cli_shared.specs.Answers.{IsReadingFault};
 
 use crate::report::Detail;
-use log_disk::{ReadFault, Source};
+use log_disk::{BLOCK_BYTES, ReadFault, Source};
 use std::alloc::Global;
 
 /// All bytes that the source has left.
@@ -15,7 +15,7 @@ pub fn read_all<S: Source>(alloc: Global, source: &mut S) -> Result<Vec<u8>, Rea
     ensures faults { CountsWhere (IsErrOf result ReadFault.Failed) (S.faults source.old) (S.faults source.new) }
 {
     let mut bytes = Vec::new(alloc);
-    let mut buf = [0; 4096];
+    let mut buf = [0; BLOCK_BYTES];
     'reads: loop {
         match source.read(&mut buf) {
             Ok(0) => return Ok(bytes),

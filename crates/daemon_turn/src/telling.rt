@@ -10,7 +10,7 @@ ghost use Rattle.daemon_turn.specs.Telling.{TellsBatch};
 
 use end_lines::{Tally, Voice, tell_record};
 use flusher::Flusher;
-use log_disk::{LogDisk, OutputBlock, Sink, WriteFault};
+use log_disk::{LogDisk, LinesBlock, Sink, WriteFault};
 use log_record::{COMMIT, Header, OVER, Rec, SHORT};
 use lsn_space::Lsn;
 use segment_file::Batch;
@@ -47,7 +47,7 @@ fn tell_batch<K: Sink>(
     requires few { tally.old.done + tally.old.refused + length batch.now.units ≤ LAST }
     ensures { TellsBatch K.Sink voice from batch.now.units sink.old sink.new tally.old tally.new result }
 {
-    let mut block = OutputBlock::new();
+    let mut block = LinesBlock::new();
     let mut at = 0;
     let mut lines = 0;
     'records: while at < batch.count() {

@@ -6,7 +6,7 @@ ghost use Rattle.end_lines.specs.EndLines.{line_said, count_said};
 
 use crate::end_line::line_of;
 use crate::voice::Voice;
-use log_disk::{OutputBlock, Sink, WriteFault};
+use log_disk::{LinesBlock, Sink, WriteFault};
 use log_record::Rec;
 use lsn_space::Lsn;
 
@@ -16,7 +16,7 @@ pub fn tell_record<K: Sink>(
     rec: &Rec,
     end: Lsn,
     voice: Voice,
-    block: &mut OutputBlock,
+    block: &mut LinesBlock,
     sink: &mut K,
 ) -> Result<u32, WriteFault>
     ensures all { IfOk result (λ lines.

@@ -14,7 +14,7 @@ mod source;
 pub use disk::LogDisk;
 pub use fault::Failed;
 pub use numbers::fixed_numbers;
-pub use output_block::{BLOCK_BYTES, OutputBlock};
+pub use output_block::{BLOCK_BYTES, Block, LinesBlock, OutputBlock};
 pub use schedule_hook::{Gate, OpenGate, Place};
 pub use sink::{Sink, WriteFault, put_all};
 pub use source::{READ_ALLOWANCE, ReadFault, Source};

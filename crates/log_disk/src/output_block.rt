@@ -5,40 +5,47 @@ ghost use Rattle.std.specs.Io.KnownBytes.{Appends};
 ghost use Rattle.log_disk.specs.Faults.{HasCause};
 ghost use Rattle.log_disk.specs.Streams.{AppendsPart};
 ghost use Rattle.log_disk.specs.Blocks.{AppendsBlocks};
-ghost use Rattle.log_disk.specs.declared.output_block.TheConstants.{BLOCK_BYTES};
 
 use crate::sink::{Sink, WriteFault, put_all};
 use std::marker::Model;
 
-/// How many bytes a block holds.
-pub const BLOCK_BYTES: usize = 4096;
+/// How many bytes the block of a whole text holds, and for how many a read of a whole input asks.
+pub const BLOCK_BYTES: usize = 65536;
 
-/// Bytes of a text that wait, at most `BLOCK_BYTES` of them, until they are written in one piece. They lie in the value
+/// How many bytes a block holds that is made anew for each few lines, which is dear for a large one.
+const LINES_BYTES: usize = 4096;
+
+/// Bytes of a text that wait, at most `ROOM` of them, until they are written in one piece. They lie in the value
 /// itself, so no memory is asked for. Contracts see the bytes.
 #[derive(Drop)]
-pub struct OutputBlock {
-    bytes: [u8; BLOCK_BYTES],
+pub struct Block<const ROOM: usize> {
+    bytes: [u8; ROOM],
     len: usize,
 }
 
-impl Model for OutputBlock {
+/// The block of a whole text.
+pub type OutputBlock = Block<BLOCK_BYTES>;
+
+/// The block of a few lines.
+pub type LinesBlock = Block<LINES_BYTES>;
+
+impl<const ROOM: usize> Model for Block<ROOM> {
     ghost use Rattle.std.specs.Prelude.{◌≤◌, ℕ, List, take};
-    ghost use Rattle.log_disk.specs.declared.output_block.TheConstants.{BLOCK_BYTES};
 
     ghost Value = { List ℕ };
 
     ghost view = { λ block. take block.len block.bytes };
 
-    ghost invariant = { λ block. block.len ≤ BLOCK_BYTES };
+    ghost invariant = { λ block. block.len ≤ ROOM };
 }
 
-impl OutputBlock {
+impl<const ROOM: usize> Block<ROOM> {
     /// A block in which nothing waits.
-    pub fn new() -> OutputBlock
+    pub fn new() -> Block<ROOM>
         ensures { result ≡ [] }
     {
-        OutputBlock {
-            bytes: [0; BLOCK_BYTES],
+        Block {
+            bytes: [0; ROOM],
             len: 0,
         }
     }
@@ -46,9 +53,9 @@ impl OutputBlock {
     /// Puts a piece behind the bytes that wait. These are written out before, where the block has no room for the piece.
     /// At a fault a part of all this was written, and nothing waits.
     pub fn put<K: Sink>(&mut self, sink: &mut K, piece: &[u8]) -> Result<(), WriteFault>
-        requires { length piece.now ≤ BLOCK_BYTES }
+        requires { length piece.now ≤ ROOM }
         ensures { AppendsBlocks K.Sink sink.old sink.new (self.old ++ piece.now) self.new result
-            (length self.old + length piece.now ≤ BLOCK_BYTES) }
+            (length self.old + length piece.now ≤ ROOM) }
     {
         self.make_room(sink, piece.len())?;
         self.push(piece);
@@ -57,12 +64,12 @@ impl OutputBlock {
 
     /// Writes out what waits, unless so many bytes more have room.
     fn make_room<K: Sink>(&mut self, sink: &mut K, count: usize) -> Result<(), WriteFault>
-        requires { count ≤ BLOCK_BYTES }
-        ensures appends { AppendsBlocks K.Sink sink.old sink.new self.old self.new result (length self.old + count ≤ BLOCK_BYTES) }
-        ensures room { OnOk result (length self.new + count ≤ BLOCK_BYTES) }
-        ensures stays { length self.old + count ≤ BLOCK_BYTES → self.new ≡ self.old }
+        requires { count ≤ ROOM }
+        ensures appends { AppendsBlocks K.Sink sink.old sink.new self.old self.new result (length self.old + count ≤ ROOM) }
+        ensures room { OnOk result (length self.new + count ≤ ROOM) }
+        ensures stays { length self.old + count ≤ ROOM → self.new ≡ self.old }
     {
-        if count <= BLOCK_BYTES - self.len {
+        if count <= ROOM - self.len {
             return Ok(());
         }
         self.write_out(sink)
@@ -70,11 +77,12 @@ impl OutputBlock {
 
     /// Puts a piece that has room behind the bytes that wait.
     fn push(&mut self, piece: &[u8])
-        requires { length self.old + length piece.now ≤ BLOCK_BYTES }
+        requires { length self.old + length piece.now ≤ ROOM }
         ensures { self.new ≡ self.old ++ piece.now }
     {
         let end = self.len + piece.len();
-        self.bytes[self.len..end].copy_from_slice(piece);
+        let bytes = &mut self.bytes[..];
+        bytes[self.len..end].copy_from_slice(piece);
         self.len = end;
     }
 

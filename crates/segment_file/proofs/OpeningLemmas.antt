@@ -3,13 +3,13 @@ use Rattle.std.proofs.Common.{◌≡◌, ◌∙◌, ℕ, ◌+◌, ◌*◌, ◌-�
 use Rattle.std.proofs.Math.Seq.{take-add}
 use Rattle.log_disk.specs.Faults.{raised}
 
--- Where so many of the bytes were read: before the end each call read 4096.
+-- Where so many of the bytes were read: before the end each call read 4096 or more.
 pub record HasSpent (len read before now : ℕ) : Type 0 where
   pub whole : read < len → 4096 * now ≤ 4096 * before + read
   pub few : 4096 * now ≤ 4096 * before + read + 4095
 
--- one read more, of 4096 bytes or of all that are left
-pub HasSpent-more : (len read count before now next : ℕ) → read < len → count ≡ min 4096 (len - read) → next ≡ raised now
+-- one read more, of 64 KB or of all that are left
+pub HasSpent-more : (len read count before now next : ℕ) → read < len → count ≡ min 65536 (len - read) → next ≡ raised now
     → HasSpent len read before now → HasSpent len (read + count) before next
 HasSpent-more len read count before now next rest counted called spent =
     record { whole = λ more. omega (arith, spent.whole rest); few = omega (arith, spent.whole rest) }

@@ -8,7 +8,7 @@ ghost use Rattle.segment_file.specs.Changes.{OpensImage};
 ghost use Rattle.segment_file.specs.MostReads.{most_reads};
 ghost use Rattle.segment_file.specs.declared.opening.OpenFault.TheVariants.{DiskFault};
 
-use log_disk::{Failed, LogDisk};
+use log_disk::{BLOCK_BYTES, Failed, LogDisk};
 use std::alloc::Global;
 
 /// Why the bytes of a disk couldn't be had.
@@ -72,7 +72,7 @@ fn read_up_to<D: LogDisk>(alloc: Global, disk: &mut D, len: u64) -> Result<Vec<u
 {
     // All room at once, before a read: no memory is had for the hole of a file that tells too great a length.
     let mut bytes = with_room(alloc, len)?;
-    let mut buffer = [0; 4096];
+    let mut buffer = [0; BLOCK_BYTES];
     'reading: while (bytes.len() as u64) < len {
         let count = match disk.read_at(bytes.len() as u64, &mut buffer) {
             Ok(count) => count,

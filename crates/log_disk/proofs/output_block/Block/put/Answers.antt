@@ -1,7 +1,7 @@
 use Rattle.std.proofs.Common.{◌++◌, refl, rules}
 use Rattle.std.proofs.lemmas.Result.{err_from_is_err_and}
 use Rattle.log_disk.proofs.Blocks.{AppendsPart-append}
-use Rattle.log_disk.proofs.output_block.OutputBlock.put.Goals as goal
+use Rattle.log_disk.proofs.output_block.Block.put.Goals as goal
 
 pub returns-in_err-make_room : goal.returns-in_err-make_room
 returns-in_err-make_room g c =

@@ -2,7 +2,7 @@ use Rattle.std.proofs.Common.{subst, refl}
 use Rattle.std.specs.Result.{OnOk, OnErr}
 use Rattle.std.specs.Io.KnownBytes.{Appends}
 use Rattle.log_disk.specs.Streams.{AppendsPart}
-use Rattle.log_disk.proofs.output_block.OutputBlock.write_out.Goals as goal
+use Rattle.log_disk.proofs.output_block.Block.write_out.Goals as goal
 
 pub returns-clause-all : goal.returns-clause-all
 returns-clause-all g c =

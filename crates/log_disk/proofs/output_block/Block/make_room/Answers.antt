@@ -2,7 +2,7 @@ use Rattle.std.proofs.Common.{subst, sym, ap, length, length-take, arith}
 use Rattle.std.proofs.lemmas.Result.{on_ok_weaker}
 use Rattle.log_disk.specs.Streams.{AppendsBut}
 use Rattle.log_disk.proofs.Blocks.{AppendsBut-nothing_waits}
-use Rattle.log_disk.proofs.output_block.OutputBlock.make_room.Goals as goal
+use Rattle.log_disk.proofs.output_block.Block.make_room.Goals as goal
 
 pub returns-clause-appends : goal.returns-clause-appends
 returns-clause-appends g c =
