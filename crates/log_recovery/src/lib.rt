@@ -17,11 +17,11 @@ pub use dump::put_dump;
 pub use judging::{UnitsFault, judge_of_units, taken_units};
 pub use line::{LINE_BYTES, Line};
 pub use list_result::Listed;
-pub use listing::listed;
+pub use listing::{listed, listed_scan};
 pub use lock_core::Why;
 pub use places::place_of;
 pub use recovery::{
     RecoverFault, Recovered, judged, one_answer, recover, recover_list, recover_owned,
-    recovered_of, scan_fault, taken, taken_owned, units_fault,
+    recovered_of, scan_fault, taken, taken_owned, taken_scan, units_fault,
 };
 pub use texts::{put_accounts, put_end};

@@ -89,7 +89,7 @@ fn scanned(alloc: Global, bytes: &[u8]) -> Result<Scan, RecoverFault>
 }
 
 /// What has taken the lawful list that was scanned, and the list.
-fn taken_scan<T: TakesRecords>(alloc: Global, scan: Scan) -> Result<(T, Listed), RecoverFault>
+pub fn taken_scan<T: TakesRecords>(alloc: Global, scan: Scan) -> Result<(T, Listed), RecoverFault>
     requires scanned { (bytes : List ℕ) × Scans scan bytes }
     ensures found { (bytes : List ℕ) → Scans scan bytes → IfOk result (λ both. TakesBytes T.has_taken both.0 both.1 bytes) }
     ensures fault { (bytes : List ℕ) → Scans scan bytes → IfErr result (IsFaultOf bytes) }

@@ -4,17 +4,18 @@ use Rattle.std.proofs.lemmas.Result.{err_from_is_err_and}
 use Rattle.lsn_space.specs.Opening.{Opening}
 use Rattle.log_disk.specs.Faults.{CountsWhere}
 use Rattle.log_disk.specs.Streams.{ReadsAll}
-use Rattle.lock_core.specs.declared.judge.Judge.{Judge}
-use Rattle.lock_core.specs.Taking.{HasJudged}
+use Rattle.log_record.specs.declared.rec.Placed.{Placed}
+use Rattle.lock_core.specs.Sums as sums
+use Rattle.lock_core.specs.Lawful.{IsLawful}
 use Rattle.segment_file.specs.Log.{Log, HoldsLog}
 use Rattle.segment_file.specs.StandingLog.{LogStandsAt}
 use Rattle.segment_file.specs.declared.scan_result.Tail.{Tail}
 use Rattle.log_recovery.specs.JudgedUnits.{HasTakenUnits}
 use Rattle.log_recovery.specs.Opened.{OpenedList, log_of}
-use Rattle.log_recovery.specs.Recovery.{IsFaultOf, JudgesBytes}
+use Rattle.log_recovery.specs.Recovery.{IsFaultOf, IsListedFaultOf}
 use Rattle.log_recovery.specs.declared.recovery.RecoverFault.{RecoverFault}
 use Rattle.log_recovery.specs.declared.recovery.RecoverFault.TheVariants as fault
-use Rattle.source_recovery.specs.Recovery.{IsSourceFaultOf, TellsReading}
+use Rattle.source_recovery.specs.Recovery.{IsListedSourceFaultOf, IsSourceFaultOf, TakesSource, TellsReading}
 use Rattle.source_recovery.specs.Window.{GaveAll}
 use Rattle.source_recovery.specs.declared.batches.ReadingFault.{ReadingFault}
 use Rattle.source_recovery.specs.declared.batches.ReadingFault.TheVariants as reading
@@ -28,24 +29,41 @@ GaveAll-ReadsAll (Some all) None bytes gave = absurd gave.given
 GaveAll-ReadsAll (Some all) (Some rest) bytes gave =
     (sym (gave.given ∙ ap (λ back. bytes ++ back) gave.end ∙ append-nil bytes), ap Some gave.end)
 
--- a fault of all bytes
+-- a fault of all bytes is one of the source
+pub ReadsAll-IsSourceFaultOf : (first now : Option (List ℕ)) (bytes : List ℕ) (f : RecoverFault) → ReadsAll first now bytes → IsFaultOf bytes f
+    → IsSourceFaultOf first now (source.Log f)
+ReadsAll-IsSourceFaultOf first now bytes fault.NoMemory read is = tt
+ReadsAll-IsSourceFaultOf first now bytes f read is = (bytes, read, is)
+
+pub ReadsAll-IsListedSourceFaultOf : (first now : Option (List ℕ)) (bytes : List ℕ) (f : RecoverFault) → ReadsAll first now bytes
+    → IsListedFaultOf bytes f → IsListedSourceFaultOf first now (source.Log f)
+ReadsAll-IsListedSourceFaultOf first now bytes fault.NoMemory read is = tt
+ReadsAll-IsListedSourceFaultOf first now bytes f read is = (bytes, read, is)
+
 pub gave_all-IsSourceFaultOf : (first now : Option (List ℕ)) (bytes : List ℕ) (f : RecoverFault) → GaveAll first now bytes → IsFaultOf bytes f
     → IsSourceFaultOf first now (source.Log f)
-gave_all-IsSourceFaultOf first now bytes fault.NoMemory gave is = tt
-gave_all-IsSourceFaultOf first now bytes f gave is = (bytes, GaveAll-ReadsAll first now bytes gave, is)
+gave_all-IsSourceFaultOf first now bytes f gave is = ReadsAll-IsSourceFaultOf first now bytes f (GaveAll-ReadsAll first now bytes gave) is
+
+pub gave_all-IsListedSourceFaultOf : (first now : Option (List ℕ)) (bytes : List ℕ) (f : RecoverFault) → GaveAll first now bytes
+    → IsListedFaultOf bytes f → IsListedSourceFaultOf first now (source.Log f)
+gave_all-IsListedSourceFaultOf first now bytes f gave is = ReadsAll-IsListedSourceFaultOf first now bytes f (GaveAll-ReadsAll first now bytes gave) is
 
 -- the log stands in the bytes, and all its records are taken
-pub taken_units-JudgesBytes : (tail : Tail) (opening : Opening) (units bytes : List ℕ) (judge : Judge)
-    → LogStandsAt tail (record { opening = opening; units = units }) bytes → HasTakenUnits HasJudged opening units judge
-    → JudgesBytes judge tail bytes
-taken_units-JudgesBytes tail opening units bytes judge stands taken =
+pub taken_units-TakesSource : {T : Type 0} (HasTaken : sums.Opening → T → List Placed → Type 0) (first now : Option (List ℕ)) (tail : Tail)
+    (opening : Opening) (units bytes : List ℕ) (taker : T)
+    → ((opening : sums.Opening) (taker : T) (h : List Placed) → HasTaken opening taker h → IsLawful opening h) → GaveAll first now bytes
+    → LogStandsAt tail (record { opening = opening; units = units }) bytes → HasTakenUnits HasTaken opening units taker
+    → TakesSource HasTaken first now taker tail
+taken_units-TakesSource HasTaken first now tail opening units bytes taker lawful gave stands taken =
     let list : OpenedList = record { opening = opening; records = taken.records } in
     let same : record { opening = opening; units = units } ≡ log_of list =
     ap (λ (list : List ℕ). record { opening = opening; units = list }) taken.list.units_are in record {
+      bytes = bytes;
+      read = GaveAll-ReadsAll first now bytes gave;
       list = list;
       held = record {
         list = record { each = taken.list.spellable; holds = subst (HoldsLog bytes) same stands.held };
-        lawful = taken.taken.ledger.judged.lawful;
+        lawful = lawful _ taker _ taken.taken;
       };
       stands = subst (λ (log : Log). LogStandsAt tail log bytes) same stands;
       taken = taken.taken;

@@ -3,10 +3,13 @@ use Rattle.std.specs.Prelude.{◌≡◌, ◌≤◌, ℕ, ◌^◌, List, Option, 
 use Rattle.log_disk.specs.Faults.{CountsWhere}
 use Rattle.log_disk.specs.Streams.{ReadsAll}
 use Rattle.log_disk.specs.declared.source.Source.{Ghosts}
-use Rattle.log_recovery.specs.Recovery.{HasSourceFault, JudgesBytes, Recovers}
+use Rattle.log_recovery.specs.Recovery.{HasSourceFault, HoldsLawful, IsListedFaultOf, Recovers}
 use Rattle.log_recovery.specs.declared.recovery.Recovered.{Recovered}
 use Rattle.log_recovery.specs.declared.recovery.RecoverFault.TheVariants as fault
-use Rattle.lock_core.specs.declared.judge.Judge.{Judge}
+use Rattle.log_recovery.specs.Opened.{OpenedList, log_of, opening_before, placed}
+use Rattle.log_record.specs.declared.rec.Placed.{Placed}
+use Rattle.lock_core.specs.Sums as sums
+use Rattle.segment_file.specs.StandingLog.{LogStandsAt}
 use Rattle.segment_file.specs.declared.scan_result.Tail.{Tail}
 use Rattle.source_recovery.specs.ReadingFaults.{IsReadingFaultOf}
 use Rattle.source_recovery.specs.declared.batches.ReadingFault.{ReadingFault}
@@ -20,15 +23,28 @@ IsSourceFaultOf first now Failed = Unit {0}
 IsSourceFaultOf first now (Log fault.NoMemory) = Unit {0}
 IsSourceFaultOf first now (Log fault') = HasSourceFault first now fault'
 
+-- why no list is read: a fault of recovery, but for the test of records
+abbrev pub IsListedSourceFaultOf : Option (List ℕ) → Option (List ℕ) → SourceFault → Type 0
+IsListedSourceFaultOf first now Failed = Unit {0}
+IsListedSourceFaultOf first now (Log fault.NoMemory) = Unit {0}
+IsListedSourceFaultOf first now (Log fault') = (bytes : List ℕ) × ReadsAll first now bytes × IsListedFaultOf bytes fault'
+
 -- a reader's fault is told: it says as much of the bytes, and is a failed read where the reader's is one, and only there
 pub record TellsReading (from : ReadingFault) (told : SourceFault) : Type 0 where
   pub is : (first now : Option (List ℕ)) → IsReadingFaultOf first now from → IsSourceFaultOf first now told
+  pub listed : (first now : Option (List ℕ)) → IsReadingFaultOf first now from → IsListedSourceFaultOf first now told
   pub failed : from ≡ reading.Failed → told ≡ Failed
   pub only : told ≡ Failed → from ≡ reading.Failed
 
--- the source was read to its end, the judge has taken the lawful list that its bytes hold, and the file goes on at this tail
-abbrev pub JudgesSource : Option (List ℕ) → Option (List ℕ) → Judge → Tail → Type 0
-JudgesSource first now judge tail = (bytes : List ℕ) × ReadsAll first now bytes × JudgesBytes judge tail bytes
+-- the source was read to its end, the lawful list that its bytes hold is taken behind its opening, and the file goes on at this tail
+pub record TakesSource {T : Type 0} (HasTaken : sums.Opening → T → List Placed → Type 0) (first now : Option (List ℕ)) (taker : T)
+    (tail : Tail) : Type 0 where
+  pub bytes : List ℕ
+  pub read : ReadsAll first now bytes
+  pub list : OpenedList
+  pub held : HoldsLawful bytes list
+  pub stands : LogStandsAt tail (log_of list) bytes
+  pub taken : HasTaken (opening_before list) taker (placed list)
 
 -- what is recovered is what all bytes of the source hold, or why nothing is; one fault is counted where a read failed, and none else
 pub record RecoversSource {S : Type 0} (g : Ghosts S) (old new : S) (result : Result Recovered SourceFault) : Type 0 where

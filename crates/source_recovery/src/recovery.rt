@@ -2,13 +2,13 @@
 
 ghost use Rattle.std.specs.Prelude.{◌≡◌, IfOk, IfErr, IsErrOf};
 ghost use Rattle.log_disk.specs.Faults.{CountsWhere};
-ghost use Rattle.source_recovery.specs.Recovery.{IsSourceFaultOf, JudgesSource, RecoversSource, TellsReading};
+ghost use Rattle.source_recovery.specs.Recovery.{IsSourceFaultOf, RecoversSource, TakesSource, TellsReading};
 ghost use Rattle.source_recovery.specs.declared.recovery.SourceFault.TheVariants as fault;
 ghost use Rattle.log_recovery.specs.declared.recovery.RecoverFault.TheVariants as log_fault;
 
 use crate::batches::{LogReader, ReadingFault};
 use crate::records::UnitsTaker;
-use lock_core::Judge;
+use lock_core::{Judge, TakesRecords};
 use log_disk::Source;
 use log_recovery::{RecoverFault, Recovered, recovered_of, scan_fault, units_fault};
 use lsn_space::NoMemory;
@@ -45,14 +45,17 @@ impl From<NoMemory> for SourceFault {
     }
 }
 
-/// A judge that has taken the lawful list of the log that the source gives, and where its file goes on.
-fn judged<S: Source>(alloc: Global, source: &mut S) -> Result<(Judge, Tail), SourceFault>
-    ensures found { IfOk result (λ both. JudgesSource (S.left source.old) (S.left source.new) both.0 both.1) }
+/// What has taken the lawful list of the log that the source gives, and where its file goes on.
+pub fn take_pieces<T: TakesRecords, S: Source>(
+    alloc: Global,
+    source: &mut S,
+) -> Result<(T, Tail), SourceFault>
+    ensures found { IfOk result (λ both. TakesSource T.has_taken (S.left source.old) (S.left source.new) both.0 both.1) }
     ensures fault { IfErr result (IsSourceFaultOf (S.left source.old) (S.left source.new)) }
     ensures failed { CountsWhere (IsErrOf result SourceFault.Failed) (S.faults source.old) (S.faults source.new) }
 {
     let (mut reader, opening, mut units) = LogReader::begin(alloc, source)?;
-    let mut taker = UnitsTaker::<Judge>::new(alloc, &opening)?;
+    let mut taker = UnitsTaker::<T>::new(alloc, &opening)?;
     'batches: loop {
         taker.take(&mut units)?;
         if !reader.next_batch(source, &mut units)? {
@@ -60,7 +63,7 @@ fn judged<S: Source>(alloc: Global, source: &mut S) -> Result<(Judge, Tail), Sou
         }
     }
     match taker.finish(units.as_slice()) {
-        Ok(judge) => Ok((judge, reader.tail())),
+        Ok(taken) => Ok((taken, reader.tail())),
         Err(fault) => Err(SourceFault::Log(units_fault(fault))),
     }
 }
@@ -69,6 +72,6 @@ fn judged<S: Source>(alloc: Global, source: &mut S) -> Result<(Judge, Tail), Sou
 pub fn recover_source<S: Source>(alloc: Global, source: &mut S) -> Result<Recovered, SourceFault>
     ensures { RecoversSource S.Source source.old source.new result }
 {
-    let (judge, tail) = judged(alloc, source)?;
+    let (judge, tail) = take_pieces::<Judge, S>(alloc, source)?;
     Ok(recovered_of(judge, tail))
 }

@@ -1,15 +1,14 @@
 use Rattle.std.proofs.Common.{◌∙◌, ℕ, List, sym, subst, arith, ◌++◌}
 use Rattle.std.proofs.lemmas.Result.{err_from_is_err_and}
 use Rattle.lsn_space.specs.Opening.{Opening}
-use Rattle.lock_core.specs.Taking.{HasJudged}
 use Rattle.segment_file.specs.Log.{Log}
 use Rattle.segment_file.specs.StandingLog.{LogStandsAt, tail_at}
 use Rattle.segment_file.specs.declared.scan_result.Tail.{Tail}
 use Rattle.source_recovery.specs.Reading.{HasReadLog}
 use Rattle.source_recovery.specs.Taker.{HasTakenTo}
 use Rattle.source_recovery.proofs.GrowthLemmas.{taken_to-more}
-use Rattle.source_recovery.proofs.JudgedLemmas.{GaveAll-ReadsAll, gave_all-IsSourceFaultOf, taken_units-JudgesBytes, told-CountsWhere, no_memory-CountsWhere}
-use Rattle.source_recovery.proofs.recovery.judged.Goals as goal
+use Rattle.source_recovery.proofs.JudgedLemmas.{gave_all-IsSourceFaultOf, taken_units-TakesSource, told-CountsWhere, no_memory-CountsWhere}
+use Rattle.source_recovery.proofs.recovery.take_pieces.Goals as goal
 
 pub returns-in_err-reader-clause-failed : goal.returns-in_err-reader-clause-failed
 returns-in_err-reader-clause-failed g c =
@@ -21,7 +20,7 @@ batches-init g c =
       all = c.in_ok-reader.units.items;
       read = subst (λ (o : Opening). HasReadLog (g.S.Source.left c.args.source.now) (g.S.Source.left c.begin.new.source) c.in_ok-reader.reader
           (record { opening = o; units = c.in_ok-reader.units.items })) (sym c.opening.view_is) found;
-      taken = subst (λ (o : Opening). HasTakenTo HasJudged o c.in_ok-reader.units.items c.in_ok-reader.units.items c.in_ok-taker.taker)
+      taken = subst (λ (o : Opening). HasTakenTo g.T.TakesRecords.has_taken o c.in_ok-reader.units.items c.in_ok-reader.units.items c.in_ok-taker.taker)
           (sym c.opening.view_is) (c.in_ok-taker.ensures c.in_ok-reader.units.items found.reads.total);
       no_fault = c.in_ok-reader.ensures.failed.fine (λ is. cc);
     }
@@ -58,8 +57,8 @@ batches-preserved g c =
     let opening : Opening = record { lsn = c.opening.inside.lsn; txn = c.opening.inside.txn; accounts = c.opening.inside.accounts.rows } in record {
       all = before.all ++ batch.more;
       read = read;
-      taken = subst (λ units. HasTakenTo HasJudged opening (before.all ++ batch.more) units c.take.new.self) (sym batch.added)
-          (taken_to-more HasJudged opening before.all _ batch.more c.take.new.self (c.in_ok-take.ensures.taken _ _ before.taken) read.reads.total);
+      taken = subst (λ units. HasTakenTo g.T.TakesRecords.has_taken opening (before.all ++ batch.more) units c.take.new.self) (sym batch.added)
+          (taken_to-more g.T.TakesRecords.has_taken opening before.all _ batch.more c.take.new.self (c.in_ok-take.ensures.taken _ _ before.taken) read.reads.total);
       no_fault = c.in_ok-next_batch.ensures.failed.fine (λ is. cc) ∙ before.no_fault;
     }
 
@@ -70,7 +69,7 @@ finish-requires g c =
     let opening : Opening = record { lsn = c.opening.inside.lsn; txn = c.opening.inside.txn; accounts = c.opening.inside.accounts.rows } in (
       opening,
       c.batches.invariant.all,
-      subst (λ units. HasTakenTo HasJudged opening c.batches.invariant.all units c.take.new.self)
+      subst (λ units. HasTakenTo g.T.TakesRecords.has_taken opening c.batches.invariant.all units c.take.new.self)
           (sym (c.as_slice.ensures.value ∙ end.units_are)) taken,
     )
 
@@ -81,14 +80,11 @@ returns-in-Ok-clause-found g c =
     let opening : Opening = record { lsn = c.opening.inside.lsn; txn = c.opening.inside.txn; accounts = c.opening.inside.accounts.rows } in
     let log : Log = record { opening = opening; units = all } in
     let ends = end.ends _ log c.batches.invariant.read in
-    let left = subst (λ units. HasTakenTo HasJudged opening all units c.take.new.self) (sym (c.as_slice.ensures.value ∙ end.units_are))
+    let left = subst (λ units. HasTakenTo g.T.TakesRecords.has_taken opening all units c.take.new.self) (sym (c.as_slice.ensures.value ∙ end.units_are))
     (c.in_ok-take.ensures.taken opening all c.batches.invariant.taken) in
-    let place = c.tail.ensures ∙ (λ i. tail_at (end.at i) (end.next i)) in (
-      ends.bytes,
-      GaveAll-ReadsAll _ _ ends.bytes ends.gave,
-      taken_units-JudgesBytes c.tail.result opening all ends.bytes c.in-Ok.judge
-          (subst (λ (tail : Tail). LogStandsAt tail log ends.bytes) (sym place) ends.stands) (c.in-Ok.ensures.taken opening all left),
-    )
+    let place = c.tail.ensures ∙ (λ i. tail_at (end.at i) (end.next i)) in
+    taken_units-TakesSource g.T.TakesRecords.has_taken _ _ c.tail.result opening all ends.bytes c.in-Ok.taken g.met.T.TakesRecords.lawful
+    ends.gave (subst (λ (tail : Tail). LogStandsAt tail log ends.bytes) (sym place) ends.stands) (c.in-Ok.ensures.taken opening all left)
 
 pub returns-in-Ok-clause-failed : goal.returns-in-Ok-clause-failed
 returns-in-Ok-clause-failed g c = record {
@@ -103,7 +99,7 @@ returns-clause-fault g c =
     let opening : Opening = record { lsn = c.opening.inside.lsn; txn = c.opening.inside.txn; accounts = c.opening.inside.accounts.rows } in
     let log : Log = record { opening = opening; units = all } in
     let ends = end.ends _ log c.batches.invariant.read in
-    let left = subst (λ units. HasTakenTo HasJudged opening all units c.take.new.self) (sym (c.as_slice.ensures.value ∙ end.units_are))
+    let left = subst (λ units. HasTakenTo g.T.TakesRecords.has_taken opening all units c.take.new.self) (sym (c.as_slice.ensures.value ∙ end.units_are))
     (c.in_ok-take.ensures.taken opening all c.batches.invariant.taken) in
     gave_all-IsSourceFaultOf _ _ ends.bytes _ ends.gave (c.units_fault.ensures ends.bytes log ends.stands.held (c.in-Err.ensures.fault opening all left))
 
