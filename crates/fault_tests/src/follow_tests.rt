@@ -143,22 +143,32 @@ fn each_call_fails_where_a_log_is_read(rt: HostRuntime) -> Result<(), Fail> {
 /// A note of transaction 1.
 const NOTE: &[u8] = b"\x06\x02\0\x02\0\0\0\x01hi\0\0\0\0\0\0";
 
-/// A log of a batch of 300 notes behind the accounts.
+/// A log of a batch of 4200 notes behind the accounts.
 fn noted_log<R: AllocGlobal>(rt: &R) -> Result<Vec<u8>, Fail> {
-    let mut log = log_of(rt, b"O\0\0\x02\x58")?;
-    for _ in 0..300 {
+    let mut log = log_of(rt, b"O\0\0\x20\xd0")?;
+    for _ in 0..4200 {
         log.extend_from_slice(NOTE)?;
     }
     log.push(0)?;
     Ok(log)
 }
 
-/// The front of the stream of those notes that is written at once: a block of 4096 bytes has no room for the next unit.
-fn noted_front<R: AllocGlobal>(rt: &R) -> Result<Vec<u8>, Fail> {
-    let mut front = Vec::from_slice(rt.alloc(), b"AESHIP1\0\0\0\x04\0\0\x02\0")?;
-    for _ in 0..255 {
+/// Adds the first so many notes of a frame of 256, behind its count.
+fn add_notes(front: &mut Vec<u8>, notes: u32) -> Result<(), Fail> {
+    front.extend_from_slice(b"\0\0\x02\0")?;
+    for _ in 0..notes {
         front.extend_from_slice(NOTE)?;
     }
+    Ok(())
+}
+
+/// The front of the stream of those notes that is written at once: a block of 64 KB has no room for the next unit.
+fn noted_front<R: AllocGlobal>(rt: &R) -> Result<Vec<u8>, Fail> {
+    let mut front = Vec::from_slice(rt.alloc(), b"AESHIP1\0\0\0\x04")?;
+    for _ in 0..15 {
+        add_notes(&mut front, 256)?;
+    }
+    add_notes(&mut front, 251)?;
     Ok(front)
 }
 

@@ -1,7 +1,7 @@
 //! Sources and sinks, in memory and over the system.
 
 use crate::outcomes::{has_given, is_number};
-use log_disk::{Failed, OutputBlock, Sink, Source, put_all};
+use log_disk::{Failed, LinesBlock, Sink, Source, put_all};
 use memory_disk::{MemorySink, MemorySource};
 use std::io;
 use std::io::{Error, ErrorKind, Read, Write};
@@ -37,9 +37,9 @@ fn holds_what_was_put_in(rt: HostRuntime) -> Result<(), Fail> {
     Ok(())
 }
 
-/// Whether so many pieces of a hundred bytes are put into a block, each of its own byte, and are all written.
+/// Whether so many pieces of a hundred bytes are put into a block of 4096, each of its own byte, and are all written.
 fn puts_pieces(sink: &mut MemorySink, pieces: u8) -> bool {
-    let mut block = OutputBlock::new();
+    let mut block = LinesBlock::new();
     for piece in 0..pieces {
         if block.put(sink, &[piece; 100]).is_err() {
             return false;
