@@ -10,7 +10,7 @@ use Rattle.log_recovery.specs.Dump.{dump_text}
 use Rattle.log_recovery.specs.Recovery.{HoldsList, IsFaultOf, IsListedFaultOf, ListsBytes, Recovers, list_of}
 use Rattle.log_recovery.specs.Text.{rows_text}
 use Rattle.log_recovery.proofs.TextLemmas.{rows_text-shown}
-use Rattle.source_recovery.specs.Recovery.{IsSourceFaultOf}
+use Rattle.source_recovery.specs.Recovery.{IsListedSourceFaultOf, IsSourceFaultOf}
 use Rattle.source_recovery.specs.declared.recovery.SourceFault.TheVariants.{Log}
 use Rattle.cli_shared.specs.declared.report.Detail.TheVariants.{Fine, Write}
 use Rattle.cli_reports.specs.Answers.{AnswersRecover, AnswersDump, IsAnswerToDump, IsAnswerToRecover}
@@ -81,6 +81,12 @@ answers_dump-fault (Some all) left_new old new bytes (fault.Unlawful lsn why) re
 answers_dump-fault (Some all) left_new old new bytes fault.NoMemory read is = tt
 answers_dump-fault (Some all) left_new old new bytes f read is = (read.1, subst (λ b. IsListedFaultOf b f) read.0 is)
 
-pub listed_fault-answer_to_dump : (bytes : List ℕ) (f : RecoverFault) → IsListedFaultOf bytes f → IsAnswerToDump (recover_detail f)
-listed_fault-answer_to_dump bytes (fault.Unlawful lsn why) is = is
-listed_fault-answer_to_dump bytes f is = tt
+pub IsListedSourceFaultOf-answers_dump : (left left_new old new : Option (List ℕ)) (f : RecoverFault)
+    → IsListedSourceFaultOf left left_new (Log f) → IfSome left (λ all. AnswersDump all left_new old new (recover_detail f))
+IsListedSourceFaultOf-answers_dump left left_new old new fault.NoMemory has = IfSome-nothing_said left
+IsListedSourceFaultOf-answers_dump left left_new old new f has = answers_dump-fault left left_new old new has.0 f has.1 has.2
+
+pub IsListedSourceFaultOf-answer_to_dump : (left left_new : Option (List ℕ)) (f : RecoverFault) → IsListedSourceFaultOf left left_new (Log f)
+    → IsAnswerToDump (recover_detail f)
+IsListedSourceFaultOf-answer_to_dump left left_new (fault.Unlawful lsn why) has = has.2
+IsListedSourceFaultOf-answer_to_dump left left_new f has = tt

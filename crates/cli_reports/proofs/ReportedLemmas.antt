@@ -4,11 +4,10 @@ use Rattle.log_disk.specs.Faults.{CountsWhere, Rose}
 use Rattle.log_disk.specs.declared.source.Source.{Ghosts as SourceGhosts}
 use Rattle.log_disk.specs.declared.sink.Sink.{Ghosts as SinkGhosts}
 use Rattle.log_recovery.specs.declared.recovery.RecoverFault.{RecoverFault}
-use Rattle.cli_shared.specs.Answers.{IsReadingFault, StaysSilent, recover_detail}
+use Rattle.cli_shared.specs.Answers.{StaysSilent, recover_detail}
 use Rattle.cli_shared.specs.declared.report.Detail.{Detail}
-use Rattle.cli_shared.specs.declared.report.Detail.TheVariants.{Fine, NoMemory, Read, Write}
-use Rattle.cli_shared.proofs.SourceLemmas.{IsReadingFault-cases}
-use Rattle.cli_shared.proofs.ToldLemmas.{TellsRead, TellsWrite, Keeps-refl}
+use Rattle.cli_shared.specs.declared.report.Detail.TheVariants.{Fine, Read, Write}
+use Rattle.cli_shared.proofs.ToldLemmas.{TellsRead, TellsWrite}
 use Rattle.cli_reports.specs.Command.{HasReported}
 use Rattle.cli_reports.proofs.AnswerLemmas.{recover_detail-not_read, recover_detail-stays_silent, recover_detail-not_write}
 
@@ -69,13 +68,3 @@ module _ {S K : Type 0} (h : SourceGhosts S) (i : SinkGhosts K)
       → AnswersInput out (recover_detail f) → HasReported h i Answers IsAnswer input script_new out out detail
   reported-fault f detail is range read answer = subst (HasReported h i Answers IsAnswer input script_new out out) (sym is)
       (reported-none_written (recover_detail f) range (counts_read-none _ _ _ read (recover_detail-not_read f)) (recover_detail-stays_silent _ f) (recover_detail-not_write f) answer)
-
-  -- the input gave no bytes
-  pub reported-unread : {T : Type 0} → IsAnswer Read → IsAnswer NoMemory → AnswersInput out Read → AnswersInput out NoMemory
-      → (detail : Detail) → IsReadingFault detail → CountsWhere (IsErrOf {T = T} (Err detail) Read) (h.faults input) (h.faults script_new)
-      → HasReported h i Answers IsAnswer input script_new out out detail
-  reported-unread failed_range wanting_range failed wanting detail is read =
-      reported-none_written detail (IsReadingFault-cases IsAnswer failed_range wanting_range detail is) (counts_read-err _ _ detail read)
-      (IsReadingFault-cases (StaysSilent (i.held_bytes out) (i.held_bytes out)) (Keeps-refl _) (Keeps-refl _) detail is)
-      (IsReadingFault-cases (λ d. TellsWrite d → ⊥) (λ tells. tells) (λ tells. tells) detail is)
-      (IsReadingFault-cases (AnswersInput out) failed wanting detail is)

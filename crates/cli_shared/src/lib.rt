@@ -14,7 +14,7 @@ mod script_input;
 pub use faults::put_fault;
 pub use finding::finds_none;
 pub use input::{read_all, read_input};
-pub use log_input::read_log;
+pub use log_input::{read_log, read_pieces, source_detail};
 pub use opening::{image_of, open_log};
 pub use report::{Detail, Report, detail_of};
 pub use script_input::{read_script, read_transfers};
