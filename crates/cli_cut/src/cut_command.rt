@@ -9,12 +9,13 @@ ghost use Rattle.cli_cut.specs.Command.{DoesCut};
 ghost use Rattle.cli_cut.specs.Cutting.{AllHoldCut, GrowsByCut, MayBeCut, ReadsCut};
 ghost use Rattle.cli_cut.specs.Trying.{TriesLog};
 
-use cli_shared::{Detail, detail_of, finds_none, read_all};
-use log_disk::{LogDisk, ReadFault, Sink, Source};
-use log_recovery::{put_accounts, recover_owned};
+use cli_shared::{Detail, finds_none, source_detail};
+use log_disk::{LogDisk, Sink, Source};
+use log_recovery::put_accounts;
 use lsn_space::{Opening, Word};
 use segment_cut::create_cut;
 use segment_head::Head;
+use source_recovery::recover_source;
 use std::alloc::Global;
 
 /// Makes a log of what the log that is read leaves of its accounts, and answers their text. What has no end record there is
@@ -68,17 +69,12 @@ fn read_opening<S: Source>(alloc: Global, source: &mut S) -> Result<Opening, Det
     ensures held { IfOk result IsSnapshot }
     ensures read { CountsWhere (IsErrOf result Detail.Read) (S.faults source.old) (S.faults source.new) }
 {
-    let bytes = match read_all(alloc, source) {
-        Ok(bytes) => bytes,
-        Err(ReadFault::Failed) => return Err(Detail::Read),
-        Err(ReadFault::NoMemory) => return Err(Detail::NoMemory),
-    };
-    match recover_owned(alloc, bytes) {
+    match recover_source(alloc, source) {
         Ok(recovered) => Ok(Opening {
             lsn: recovered.lsn,
             txn: (recovered.next_txn - 1) as u32,
             accounts: recovered.accounts,
         }),
-        Err(fault) => Err(detail_of(fault)),
+        Err(fault) => Err(source_detail(fault)),
     }
 }

@@ -14,13 +14,14 @@ ghost use Rattle.cli_shared.specs.Answers.{IsSourceFault};
 ghost use Rattle.cli_cut.specs.Cutting.{IsCutOf};
 ghost use Rattle.cli_cut.specs.Parts.{ArePartsOf, IsGenesisFront, SplitsGenesis};
 
-use cli_shared::{Detail, detail_of, read_all};
-use log_disk::{ReadFault, Source};
+use cli_shared::{Detail, source_detail};
+use log_disk::Source;
 use log_record::{Rec, read};
-use log_recovery::{Listed, Recovered, judge_of_units, recover_list};
+use log_recovery::{Listed, Recovered, judge_of_units};
 use lsn_space::{Lsn, NoMemory, Opening};
 use segment_file::{Batch, MOST_UNITS};
 use segment_head::Head;
+use source_recovery::recover_source_list;
 use std::alloc::Global;
 
 /// All that is asked for before anything of the new log is written.
@@ -48,14 +49,9 @@ pub(crate) fn read_parts<S: Source>(alloc: Global, source: &mut S) -> Result<Par
         (IsSourceFault (S.left source.old) (S.left source.new)) }
     ensures read { CountsWhere (IsErrOf result Detail.Read) (S.faults source.old) (S.faults source.new) }
 {
-    let bytes = match read_all(alloc, source) {
-        Ok(bytes) => bytes,
-        Err(ReadFault::Failed) => return Err(Detail::Read),
-        Err(ReadFault::NoMemory) => return Err(Detail::NoMemory),
-    };
-    let (recovered, listed) = match recover_list(alloc, bytes) {
+    let (recovered, listed) = match recover_source_list(alloc, source) {
         Ok(both) => both,
-        Err(fault) => return Err(detail_of(fault)),
+        Err(fault) => return Err(source_detail(fault)),
     };
     let front = genesis_units(listed.units.as_slice());
     let Ok((head, batch)) = ask(alloc, &listed, front) else {
