@@ -20,8 +20,10 @@ use Rattle.ledger_view.specs.declared.entries.Entry.{Entry}
 use Rattle.ledger_view.specs.declared.view.View.{View}
 use Rattle.ledger_view.specs.Entries.{entries_of, EndsAt}
 use Rattle.ledger_view.specs.ViewedAccounts.{HasViewed}
+use Rattle.segment_file.specs.declared.scan_result.Tail.{Tail}
+use Rattle.source_recovery.specs.Recovery.{TakesSource}
 use Rattle.cli_shared.specs.LogInput.{ReadsTaken}
-use Rattle.cli_shared.specs.declared.report.Detail.TheVariants.{Fine, Write, NoSuchLsn}
+use Rattle.cli_shared.specs.declared.report.Detail.TheVariants.{Fine, Write, NoAccount, NoSuchLsn}
 use Rattle.cli_reports.specs.Reports.{AnswersReport, OfList, RefusesLsn}
 use Rattle.cli_reports.proofs.ReportLemmas.{ReadsAll-of_list}
 use Rattle.cli_view.specs.Balances.{HasBalances}
@@ -102,24 +104,38 @@ module _ (left left_new : Option (List ℕ)) (view : View) (listed : Listed) (re
     asof-write old new written =
         list_read-of_list (λ list. (text : List ℕ) × SaysAccounts lsn list text × AppendsPart old new text) (rows_text lsn rows, says-accounts, written)
 
-  module _ (account : ℕ) where
-    module _ (balance : ℕ) (entries : List Entry)
-        (first : (opening : Opening) (h : List Placed) → HasViewed opening view h
-        → (account < (base_with opening h).accounts) × (balance ≡ (base_with opening h).balance account))
-        (each : (opening : Opening) (h : List Placed) → HasViewed opening view h
-        → (account < (base_with opening h).accounts) × (entries ≡ entries_of opening h account)) where
-      abbrev pub text_written : List ℕ
-      text_written = statement_lines balance entries listed.tail.next
+-- what is said of an account of a list of which only the view was kept
+module _ (left left_new : Option (List ℕ)) (view : View) (tail : Tail) (read : TakesSource HasViewed left left_new view tail) (account : ℕ) where
+  pub statement-refused : (old new : Option (List ℕ))
+      → ((opening : Opening) (h : List Placed) → HasViewed opening view h → (base_with opening h).accounts ≤ account)
+      → IfSome left (λ all. AnswersReport (SaysStatement account) (RefusesAccount account) all left_new old new (NoAccount account))
+  statement-refused old new none = ReadsAll-of_list left left_new read.bytes read.list (λ list. RefusesAccount account list (NoAccount account)) read.read read.held
+      (refl, λ some. let no = none _ _ read.taken in absurd (omega (arith, some, no)))
 
-      says-statement : SaysStatement account list_read text_written
-      says-statement = (
-        (first _ _ read-has_viewed).0,
-        ap (λ (n : ℕ). statement_lines n entries listed.tail.next) (first _ _ read-has_viewed).1
-            ∙ ap (λ es. statement_lines ((base_in list_read).balance account) es listed.tail.next) (each _ _ read-has_viewed).1
-            ∙ ap (λ (n : ℕ). statement_lines ((base_in list_read).balance account) (entries_of (opening_before list_read) (placed list_read) account) n) read.2.has.end,
-      )
+  module _ (balance : ℕ) (entries : List Entry)
+      (first : (opening : Opening) (h : List Placed) → HasViewed opening view h
+      → (account < (base_with opening h).accounts) × (balance ≡ (base_with opening h).balance account))
+      (each : (opening : Opening) (h : List Placed) → HasViewed opening view h
+      → (account < (base_with opening h).accounts) × (entries ≡ entries_of opening h account)) where
+    abbrev pub text_written : List ℕ
+    text_written = statement_lines balance entries tail.next
 
-      pub statement-write : (old new : Option (List ℕ)) → AppendsPart old new text_written
-          → IfSome left (λ all. AnswersReport (SaysStatement account) (RefusesAccount account) all left_new old new Write)
-      statement-write old new written =
-          list_read-of_list (λ list. (text : List ℕ) × SaysStatement account list text × AppendsPart old new text) (text_written, says-statement, written)
+    says-statement : SaysStatement account read.list text_written
+    says-statement = (
+      (first _ _ read.taken).0,
+      ap (λ (n : ℕ). statement_lines n entries tail.next) (first _ _ read.taken).1
+          ∙ ap (λ es. statement_lines ((base_in read.list).balance account) es tail.next) (each _ _ read.taken).1
+          ∙ ap (λ (n : ℕ). statement_lines ((base_in read.list).balance account) (entries_of (opening_before read.list) (placed read.list) account) n) read.stands.next,
+    )
+
+    pub statement-fine : (old new : Option (List ℕ)) → Appends old new text_written
+        → IfSome left (λ all. AnswersReport (SaysStatement account) (RefusesAccount account) all left_new old new Fine)
+    statement-fine old new written =
+        ReadsAll-of_list left left_new read.bytes read.list (λ list. (text : List ℕ) × SaysStatement account list text × Appends old new text) read.read read.held
+        (text_written, says-statement, written)
+
+    pub statement-write : (old new : Option (List ℕ)) → AppendsPart old new text_written
+        → IfSome left (λ all. AnswersReport (SaysStatement account) (RefusesAccount account) all left_new old new Write)
+    statement-write old new written =
+        ReadsAll-of_list left left_new read.bytes read.list (λ list. (text : List ℕ) × SaysStatement account list text × AppendsPart old new text) read.read read.held
+        (text_written, says-statement, written)

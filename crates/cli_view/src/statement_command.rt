@@ -4,7 +4,7 @@ ghost use Rattle.cli_view.specs.Reports.{RefusesAccount, SaysStatement};
 ghost use Rattle.cli_reports.specs.Command.{HasReported};
 
 use crate::statement_text::put_statement;
-use cli_shared::{Detail, read_log};
+use cli_shared::{Detail, read_pieces};
 use ledger_view::View;
 use log_disk::{Sink, Source};
 use std::alloc::Global;
@@ -19,7 +19,7 @@ pub fn statement_command<S: Source, K: Sink>(
     ensures { HasReported S.Source K.Sink (AnswersReport (SaysStatement account) (RefusesAccount account)) IsAnswerOnAccount
         input.old input.new out.old out.new result }
 {
-    let (view, listed) = match read_log::<View, S>(alloc, input) {
+    let (view, tail) = match read_pieces::<View, S>(alloc, input) {
         Ok(both) => both,
         Err(detail) => return detail,
     };
@@ -29,7 +29,7 @@ pub fn statement_command<S: Source, K: Sink>(
     let Some(entries) = view.entries(account) else {
         unreachable!()
     };
-    match put_statement(balance, entries, listed.tail.next, out) {
+    match put_statement(balance, entries, tail.next, out) {
         Ok(()) => Detail::Fine,
         Err(_) => Detail::Write,
     }
