@@ -1,10 +1,14 @@
 // Plain programs that do what `aether demo` does, with nothing proved. bench/measure builds and runs them.
 //
-//     rivals steps LOG TRANSFERS SEED WORKERS [wait]     the atomic steps of docs/MODEL.md, "The shared table"
-//     rivals mutex LOG TRANSFERS SEED WORKERS [wait]     one mutex round the accounts and the log
+//     rivals steps LOG TRANSFERS SEED WORKERS [OPTION ..]     the atomic steps of docs/MODEL.md, "The shared table"
+//     rivals mutex LOG TRANSFERS SEED WORKERS [OPTION ..]     one mutex round the accounts and the log
 //
-// Each makes a log of 64 accounts, makes generated transfers over it, and prints the summary once all of them are on the disk.
-// With `wait` a worker goes on to its next transfer when the last one is on the disk.
+// Each makes a log of 64 accounts (-DACCOUNTS=N makes it of others), makes generated transfers over it, and prints the summary once all of them are on
+// the disk. The options:
+//
+//     wait         a worker goes on to its next transfer when the last one is on the disk
+//     --busy NS    other work of so many nanoseconds before each transfer
+//     --held NS    in each 2,000th transfer its worker is held up for so long, at the worst place: behind its reservation, and inside the mutex
 #define _GNU_SOURCE
 #include "log_file.h"
 #include <pthread.h>
@@ -14,13 +18,14 @@
 #include <sys/prctl.h>
 #include <time.h>
 
-enum { RING = 65536, FIRST_LSN = UNITS_OF_GENESIS * ACCOUNTS, MOST_WORKERS = 16 };
+enum { RING = 65536, FIRST_LSN = UNITS_OF_GENESIS * ACCOUNTS, MOST_WORKERS = 16, TRANSFERS_OF_HELD = 2000 };
 
 typedef struct {
     LogFile log;
     const Leg *legs;
     uint32_t transfers, workers;
     bool waits;
+    uint64_t busy, held;
     uint32_t done, refused;
     uint64_t end;
     uint32_t balances[ACCOUNTS];
@@ -30,6 +35,46 @@ typedef struct {
     Run *run;
     uint32_t number;
 } Worker;
+
+static uint64_t nanoseconds_now(void) {
+    struct timespec now;
+    clock_gettime(CLOCK_MONOTONIC, &now);
+    return (uint64_t)now.tv_sec * 1000000000 + (uint64_t)now.tv_nsec;
+}
+
+static void sleep_for(uint64_t nanoseconds) {
+    struct timespec time = {(time_t)(nanoseconds / 1000000000), (long)(nanoseconds % 1000000000)};
+    nanosleep(&time, NULL);
+}
+
+static void spin_once(void) {
+#if defined(__x86_64__)
+    __builtin_ia32_pause();
+#else
+    atomic_signal_fence(memory_order_seq_cst);
+#endif
+}
+
+// How long this worker is held up next, in nanoseconds.
+static _Thread_local uint64_t held_next;
+
+// Before a transfer: other work, and whether its worker is to be held up in it.
+static void begin_transfer(const Run *run, uint64_t place) {
+    if (run->busy > 0) {
+        uint64_t end = nanoseconds_now() + run->busy;
+        do {
+            for (uint32_t spins = 4; spins > 0; spins--) spin_once();
+        } while (nanoseconds_now() < end);
+    }
+    if (run->held > 0 && (place + 1) % TRANSFERS_OF_HELD == 0) held_next = run->held;
+}
+
+// A worker that is to be held up sleeps, as one does that loses its processor.
+static void hold_up(void) {
+    if (held_next == 0) return;
+    sleep_for(held_next);
+    held_next = 0;
+}
 
 // Counts the records that end a transfer among the units of a batch.
 static void count_ends(Run *run, const uint8_t *batch, uint32_t units) {
@@ -70,19 +115,6 @@ static const uint64_t HELD = UINT64_C(1) << 63;
 static uint64_t free_word(uint32_t balance, uint64_t last_commit) { return (uint64_t)balance << 32 | last_commit; }
 static uint32_t balance_of(uint64_t word) { return word >> 32 & MOST_BALANCE; }
 static uint32_t last_commit_of(uint64_t word) { return (uint32_t)word; }
-
-static void sleep_for(long nanoseconds) {
-    struct timespec time = {0, nanoseconds};
-    nanosleep(&time, NULL);
-}
-
-static void spin_once(void) {
-#if defined(__x86_64__)
-    __builtin_ia32_pause();
-#else
-    atomic_signal_fence(memory_order_seq_cst);
-#endif
-}
 
 // Between two attempts: a look at the stop word, and a rest that grows from spins to sleeps.
 static void pause_worker(uint32_t *rests) {
@@ -132,6 +164,7 @@ static void expose(void) {
 // Inserts a record, and answers where it ends.
 static uint64_t insert(const uint64_t *record, uint32_t units) {
     uint64_t start = reserve(units);
+    hold_up();
     for (uint32_t i = 0; i < units; i++) atomic_store(&ring[(start + i) % RING], record[i]);
     atomic_store(&marks[start % RING], start + units);
     expose();
@@ -207,7 +240,10 @@ static void fill_queue(const Run *run) {
 
 static void *work_by_steps(void *given) {
     const Run *run = ((const Worker *)given)->run;
-    for (uint64_t i = take_place(); i < run->transfers; i = take_place()) make_transfer((uint32_t)i + 1, run->legs[i], run->waits);
+    for (uint64_t i = take_place(); i < run->transfers; i = take_place()) {
+        begin_transfer(run, i);
+        make_transfer((uint32_t)i + 1, run->legs[i], run->waits);
+    }
     atomic_fetch_sub(&crew.word, 1);
     return NULL;
 }
@@ -298,6 +334,7 @@ static void make_locked_transfer(uint32_t txn, Leg leg, bool waits) {
     pthread_mutex_lock(&mutex);
     while (locked.units + UNITS_OF_TRANSFER > RING) pthread_cond_wait(&has_room, &mutex);
     if (locked.units == 0) pthread_cond_signal(&has_units);
+    hold_up();
     transfer_locked(txn, leg);
     uint64_t end = locked.end;
     while (waits && locked.durable < end) pthread_cond_wait(&is_durable, &mutex);
@@ -308,8 +345,10 @@ static _Atomic uint64_t next_place;
 
 static void *work_by_mutex(void *given) {
     const Run *run = ((const Worker *)given)->run;
-    for (uint64_t i = atomic_fetch_add(&next_place, 1); i < run->transfers; i = atomic_fetch_add(&next_place, 1))
+    for (uint64_t i = atomic_fetch_add(&next_place, 1); i < run->transfers; i = atomic_fetch_add(&next_place, 1)) {
+        begin_transfer(run, i);
         make_locked_transfer((uint32_t)i + 1, run->legs[i], run->waits);
+    }
     pthread_mutex_lock(&mutex);
     locked.active--;
     pthread_cond_signal(&has_units);
@@ -353,12 +392,30 @@ static void run_mutex(Run *run) {
 
 // ---- The command line --------------------------------------------------------------------------------------------------
 
+// Reads the options, up to the end of the words, and says whether they are some.
+static bool read_options(Run *run, char **words) {
+    for (; *words != NULL; words++) {
+        if (strcmp(*words, "wait") == 0) {
+            run->waits = true;
+        } else if (strcmp(*words, "--busy") == 0 && words[1] != NULL) {
+            run->busy = (uint64_t)atol(*++words);
+        } else if (strcmp(*words, "--held") == 0 && words[1] != NULL) {
+            run->held = (uint64_t)atol(*++words);
+        } else {
+            return false;
+        }
+    }
+    return true;
+}
+
 int main(int count, char **words) {
-    if (count < 6 || count > 7) {
-        fprintf(stderr, "usage: rivals steps|mutex LOG TRANSFERS SEED WORKERS [wait]\n");
+    Run run = {0};
+    if (count < 6 || !read_options(&run, words + 6)) {
+        fprintf(stderr, "usage: rivals steps|mutex LOG TRANSFERS SEED WORKERS [wait] [--busy NS] [--held NS]\n");
         return 2;
     }
-    Run run = {.transfers = (uint32_t)atol(words[3]), .workers = (uint32_t)atol(words[5]), .waits = count == 7};
+    run.transfers = (uint32_t)atol(words[3]);
+    run.workers = (uint32_t)atol(words[5]);
     if (run.workers > MOST_WORKERS) return 2;
     run.legs = generated_legs(run.transfers, (uint32_t)atol(words[4]));
     run.log = create_log(words[2]);

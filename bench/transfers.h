@@ -5,7 +5,11 @@
 #include <stdio.h>
 #include <stdlib.h>
 
-enum { ACCOUNTS = 64, FIRST_BALANCE = 1000000 };
+#ifndef ACCOUNTS
+#define ACCOUNTS 64
+#endif
+
+enum { FIRST_BALANCE = 1000000 };
 enum { UNITS_OF_GENESIS = 2, UNITS_OF_TRANSFER = 5 };
 
 // One account pays another.
