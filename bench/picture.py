@@ -85,19 +85,19 @@ def throughput_panel(results, heading, left, top, width):
     for number in workers:
         drawn += panel.mark_x(number, f"{number} worker{'s' * (number > 1)}")
     for name in ("mutex", "steps", "aether"):
-        drawn += throughput_curve(panel, results, name)
+        drawn += throughput_curve(panel, {result.workers: result.speeds[name] for result in results}, COLORS[name])
     return drawn + panel.frame(heading)
 
 
-def throughput_curve(panel, results, name):
-    """Medians, with a bar from quartile to quartile."""
+def throughput_curve(panel, speeds, color):
+    """By the number of workers: medians, with a bar from quartile to quartile."""
     drawn, points = [], []
-    for result in results:
-        speed = report.quartiles(result.speeds[name])
-        x, y = panel.x_of(result.workers), panel.y_of(speed.median / 1e6)
-        drawn += [line(x, panel.y_of(speed.low / 1e6), x, panel.y_of(speed.high / 1e6), COLORS[name], 2), dot(x, y, COLORS[name])]
+    for workers, found in speeds.items():
+        speed = report.quartiles(found)
+        x, y = panel.x_of(workers), panel.y_of(speed.median / 1e6)
+        drawn += [line(x, panel.y_of(speed.low / 1e6), x, panel.y_of(speed.high / 1e6), color, 2), dot(x, y, color)]
         points.append((x, y))
-    return [curve(points, COLORS[name])] + drawn
+    return [curve(points, color)] + drawn
 
 
 # Speed relative to the rivals.
@@ -153,27 +153,32 @@ def recovery_panel(results, left, top, width):
     return drawn + panel.frame("recover: milliseconds over records")
 
 
-def legend(names):
+def legend(entries, top=34):
+    """`entries` are pairs of a color and words."""
     drawn, x = [], 60
-    for name, words in LEGEND:
-        if name in names:
-            drawn += [line(x, 34, x + 24, 34, COLORS[name], 3), text(x + 30, 38, words)]
-            x += 60 + 7 * len(words)
+    for color, words in entries:
+        drawn += [line(x, top, x + 24, top, color, 3), text(x + 30, top + 4, words)]
+        x += 60 + 7 * len(words)
     return drawn
 
 
 def drawn(results):
     transfers = [result for result in results if result.work != "recover"]
     storages = [storage for storage in STORAGE if any(result.storage == storage for result in transfers)]
-    parts = legend({name for result in transfers for name in result.speeds})
+    there = {name for result in transfers for name in result.speeds}
+    parts = legend([(COLORS[name], words) for name, words in LEGEND if name in there])
     for place, storage in enumerate(storages):
         of_storage = [result for result in transfers if (result.work, result.storage) == ("demo", storage)]
         parts += throughput_panel(of_storage, f"demo {STORAGE[storage]}: million transfers a second", 60 + 440 * place, 86, 370)
     ratios, height = ratio_panel(transfers, 190, 370, 290)
     parts += ratios + recovery_panel([result for result in results if result.work == "recover"], 560, 370, 310)
     height = 370 + max(height, TOP_HEIGHT) + 40
+    return document("Throughput over workers, speed relative to the rivals, recovery time over log size", height, parts)
+
+
+def document(title, height, parts):
     font = 'font-family="Helvetica, Arial, sans-serif" font-size="12"'
     head = f'<svg xmlns="http://www.w3.org/2000/svg" viewBox="0 0 {WIDTH} {height}" {font} role="img">'
-    title = "<title>Throughput over workers, speed relative to the rivals, recovery time over log size</title>"
+    title = f"<title>{title}</title>"
     ground = f'<rect width="{WIDTH}" height="{height}" rx="8" fill="#ffffff" stroke="#bbbbbb"/>'
     return "\n".join([head, title, ground, f'<g fill="{INK}">', *parts, "</g>", "</svg>"]) + "\n"

@@ -1,9 +1,13 @@
 """What bench/measure found, as a text: the machine, and a table of medians and quartiles."""
-import datetime, os, platform, statistics, subprocess
+import datetime, os, platform, re, statistics, subprocess
 from typing import Dict, List, NamedTuple
 
-BEGIN, END = "<!-- bench/measure writes from here -->", "<!-- to here -->"
+from running import NAME, TOP
+
+END = "<!-- to here -->"
 PROGRAM = "aether"
+# As many workers README's figures are of.
+README_WORKERS = (1, 2, 4)
 PICTURE = "![Throughput over workers, speed relative to the rivals, recovery time over log size](results.svg)"
 
 
@@ -67,16 +71,16 @@ def stores(programs):
     return f"{sqlite}; {lmdb}"
 
 
-def head(top, words, rounds, programs, folder):
+def head(words, rounds, compiler, folder):
     """When, on what and by which command."""
     now = datetime.datetime.now(datetime.timezone.utc)
-    commit = first_line(["git", "-C", top, "rev-parse", "--short", "HEAD"])
-    command = " ".join(["bench/measure"] + words)
+    commit = first_line(["git", "-C", TOP, "rev-parse", "--short", "HEAD"])
+    command = " ".join([f"bench/{NAME}"] + words)
     return (
         f"Measured on {now:%Y-%m-%d} at {now:%H:%M} UTC by `{command}` at commit {commit}, in {rounds} rounds: {processor()}, "
         f"{os.cpu_count()} processors, {platform.system()} {platform.release()}, load {os.getloadavg()[0]:.1f} in the minute before. "
         f"The file lies on {file_system(os.path.realpath(folder))}. "
-        f"The plain programs are made by {first_line([programs.compiler, '--version'])}, -O2. {stores(programs)}."
+        f"The plain programs are made by {first_line([compiler, '--version'])}, -O2."
     )
 
 
@@ -131,10 +135,11 @@ def text(head, results):
     return "\n".join(lines) + "\n"
 
 
-def between_marks(document, text):
-    """The document with this text between its two marks."""
-    front, _, rest = document.partition(BEGIN)
-    return f"{front}{BEGIN}\n{text}{END}{rest.partition(END)[2]}"
+def between_marks(document, text, script):
+    """The document with this text between its two marks, of which the first names the script."""
+    begin = f"<!-- {script} writes from here -->"
+    front, _, rest = document.partition(begin)
+    return f"{front}{begin}\n{text}{END}{rest.partition(END)[2]}"
 
 
 # Figures for the project's README.
@@ -142,16 +147,19 @@ def between_marks(document, text):
 
 QUESTION = "**How fast is it?**"
 
+# What bench/workers says of a mutex, behind what bench/measure does.
+OTHER_WORK = re.compile(r"; with [^.;]* of other work a transfer [\d., ]*\d")
 
-def figures(results):
+
+def figures(results, other_work):
     demos = [result for result in results if result.work == "demo" and result.storage == results[0].storage]
     recovery = max((result for result in results if result.work == "recover"), key=lambda result: result.amount)
     workers = ", ".join(str(demo.workers) for demo in demos)
     by = lambda rival: ", ".join(f"{demo.ratios(rival).median:.2f}" for demo in demos)
     return (
         f"`demo` in {demos[0].storage}, with {workers} workers, has {by('steps')} of the speed of an unproved program of the same steps. Beside a "
-        f"mutex it has {by('mutex')}. `recover` reads {recovery.amount:,} records in {milliseconds(recovery, PROGRAM)} milliseconds "
-        "([how this is measured](bench/README.md))."
+        f"mutex it has {by('mutex')}{other_work}. `recover` reads {recovery.amount:,} records in {milliseconds(recovery, PROGRAM)} milliseconds "
+        "([how](bench/README.md))."
     )
 
 
@@ -159,4 +167,5 @@ def with_figures(document, results):
     """The document with these figures, and the picture, in the paragraph that asks how fast it is."""
     front, _, rest = document.partition(QUESTION)
     picture = PICTURE.replace("results.svg", "bench/results.svg")
-    return f"{front}{QUESTION} {figures(results)}\n{picture}\n\n{rest.partition(chr(10) * 2)[2]}"
+    found = OTHER_WORK.search(document)
+    return f"{front}{QUESTION} {figures(results, found.group() if found else '')}\n{picture}\n\n{rest.partition(chr(10) * 2)[2]}"
