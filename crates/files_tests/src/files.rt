@@ -95,6 +95,39 @@ fn keeps_a_real_file(rt: HostRuntime) -> Result<(), Fail> {
     Ok(())
 }
 
+/// A place of which the lowest 32 bits are 5.
+const FAR: u64 = (1 << 32) + 5;
+
+/// A write of 32 bytes here would go past the greatest place that a file may have.
+const LAST_PLACES: u64 = (1 << 63) - 16;
+
+/// Bytes that lie past 32 bits stand there, and not at the front, where a place that lost its upper bits would put them.
+fn writes_far(rt: &impl Abort, disk: &mut Disk) {
+    writes(rt, disk, 0, b"front", Ok(()));
+    writes(rt, disk, FAR, b"far!", Ok(()));
+    has_length(rt, disk, Some(FAR + 4));
+    reads(rt, disk, FAR, b"far!");
+    reads(rt, disk, FAR + 4, b"");
+    reads(rt, disk, 5, b"\0\0\0\0");
+}
+
+#[test]
+fn reaches_places_past_32_bits(rt: HostRuntime) -> Result<(), Fail> {
+    let Ok(name) = Word::make(rt.alloc(), "file_disk_far_test.log") else {
+        return Err(Fail::new("no memory"));
+    };
+    let _ = fs::remove_file(&rt, name.text());
+    let mut disk = FileDisk::make(rt);
+    attaches(&rt, &mut disk, &name, true, Ok(()));
+    writes_far(&rt, &mut disk);
+    writes(&rt, &mut disk, LAST_PLACES, &[b'x'; 32], Err(Failed));
+    counts(&rt, &disk, "past the last place", 1);
+    has_length(&rt, &mut disk, Some(FAR + 4));
+    reads(&rt, &mut disk, 0, b"fron");
+    assert!(rt; fs::remove_file(&rt, name.text()).is_ok());
+    Ok(())
+}
+
 // No write fits on the device, and it can't be synced.
 #[test]
 fn counts_what_the_system_refuses(rt: HostRuntime) -> Result<(), Fail> {
