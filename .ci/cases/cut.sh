@@ -503,12 +503,11 @@ recipe_cases() {
     expect_true 'recipe: a log that has grown, cut twice' [ "$(wc -c < "$at/shorter.log")" = 789 ]
 
     recipe_folder
-    printf 'pay 1 0 30\n' > "$at/more"
     cp "$at/bank.log" "$at/whole.log"
-    "$program" run "$at/whole.log" --workers 1 < "$at/more" > "$work/told"
+    printf 'pay 1 0 30\n' | "$program" run "$at/whole.log" --workers 1 > "$work/told"
     run_recipe 'When to cut, and what is lost'
     expect 'recipe: when to cut' 0 "$cut_text$(< "$work/told")"$'\n' ''
-    "$program" dump < "$at/short.log" | grep '^[0-9]' > "$work/lines"
+    "$program" dump < "$at/week.log" | grep '^[0-9]' > "$work/lines"
     "$program" dump < "$at/whole.log" | grep '^[0-9]' | tail -n 3 > "$work/wanted"
     expect_file 'recipe: when to cut, and the records' "$work/lines" "$work/wanted"
 
@@ -518,7 +517,7 @@ recipe_cases() {
     expect_file 'recipe: after status 5 or 6' "$at/next.log" "$cut_log"
 
     recipe_folder
-    cp "$examples/greatest_transaction.log" "$at/full.log"
+    ln -s "$examples" "$at/examples"
     run_recipe 'At the end of the LSNs or of the numbers'
     expect 'recipe: at the end of the numbers' 0 "$genesis_text" ''
     expect_file 'recipe: at the end of the numbers' "$at/fresh.log" "$examples/genesis.log"

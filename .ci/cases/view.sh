@@ -243,6 +243,7 @@ replayed_cases() {
 # The manual's recipes.
 view_recipe_cases() {
     recipe_folder
+    ln -s "$examples" "$work/recipe/examples"
     run_recipe 'A disputed payment'
     expect 'recipe: a disputed payment' 0 $'9 note 2 rent of May\nopen 100\n9 1 -30 70\n17 2 10 80\nlsn 17\nlsn 9\n0 70\n1 30\n' ''
     recipe_folder
