@@ -26,7 +26,7 @@ use std::time::Clock;
 use test_rig::table_with_slots;
 
 /// What account 0 begins with; account 1 begins with nothing.
-const RICH: u32 = 100_000;
+const RICH: u64 = 100_000;
 
 /// How many workers there are.
 const WORKERS: u32 = 16;

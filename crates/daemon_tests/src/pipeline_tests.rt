@@ -28,7 +28,7 @@ use system_disk::FileDisk;
 use test_rig::{insert_all, noted_job, table_of, worker};
 
 /// What account 0 begins with; account 1 begins with nothing.
-const RICH: u32 = 100_000;
+const RICH: u64 = 100_000;
 
 /// How many notes each thread inserts, of two units each.
 const NOTES: u32 = 20;

@@ -23,21 +23,21 @@ const HEADERS: [u64; 2] = [0x0102_0000_0000_0000, 0x0102_0001_0000_0000];
 pub const CREATED: u64 = 7;
 
 /// The Genesis records of the two accounts.
-fn genesis(alloc: Global, balances: (u32, u32)) -> Result<Batch, NoMemory>
+fn genesis(alloc: Global, balances: (u64, u64)) -> Result<Batch, NoMemory>
     ensures { IfOk result (λ batch. length batch.units ≡ 4) }
 {
     let mut batch = Batch::make(alloc, 4)?;
     batch.push(HEADERS[0]);
-    batch.push(balances.0 as u64);
+    batch.push(balances.0);
     batch.push(HEADERS[1]);
-    batch.push(balances.1 as u64);
+    batch.push(balances.1);
     Ok(batch)
 }
 
 /// A flusher. Its table has a ring of 1024 units, over a log that ends at 4.
 pub fn flusher_on<'a, D: LogDisk>(
     alloc: Global,
-    balances: (u32, u32),
+    balances: (u64, u64),
     table: &'a LogTable,
     seat: Seat,
     disk: &'a mut D,
@@ -60,7 +60,7 @@ pub fn flusher_on<'a, D: LogDisk>(
 /// A daemon over such a flusher.
 pub fn daemon_on<'a, D: LogDisk>(
     alloc: Global,
-    balances: (u32, u32),
+    balances: (u64, u64),
     table: &'a LogTable,
     seat: Seat,
     disk: &'a mut D,

@@ -13,7 +13,7 @@ pub fn recovered_end<D: LogDisk>(alloc: Global, disk: &mut D) -> Option<Lsn> {
 }
 
 /// The balances of the two accounts.
-pub fn recovered_balances<D: LogDisk>(alloc: Global, disk: &mut D) -> Option<(u32, u32)> {
+pub fn recovered_balances<D: LogDisk>(alloc: Global, disk: &mut D) -> Option<(u64, u64)> {
     let bytes = open_image(alloc, disk).ok()?;
     let found = recover(alloc, bytes.as_slice()).ok()?;
     if found.accounts.count() != 2 {

@@ -31,7 +31,7 @@ fn finds_held(rt: &impl Abort, table: &LogTable, seat: &mut Seat, word: AccountW
 }
 
 /// This worker finds account 0 free, with this balance and this last commit.
-fn finds_free(rt: &impl Abort, table: &LogTable, seat: &mut Seat, values: (u32, u32))
+fn finds_free(rt: &impl Abort, table: &LogTable, seat: &mut Seat, values: (u64, u32))
     requires seat { IsOf table.now seat.old }
     requires accounts { 0 < table.now.accounts }
     requires rests { IsAtRest (view_of seat.old) }

@@ -8,7 +8,7 @@ use log_table::{LogTable, Seat};
 
 /// The balance and the last commit of the account, as this worker takes it now, which may then take those above it. After an Err
 /// it holds what it held.
-pub fn values_of(table: &LogTable, seat: &mut Seat, account: u32) -> Result<(u32, u32), Held>
+pub fn values_of(table: &LogTable, seat: &mut Seat, account: u32) -> Result<(u64, u32), Held>
     requires seat { IsOf table.now seat.old }
     requires account { account < table.now.accounts }
     requires rests { IsAtRest (view_of seat.old) }

@@ -1,6 +1,6 @@
 //! A table of two accounts, its workers, and a job between the two.
 ghost use Rattle.std.specs.Prelude.{◌≡◌, ◌≤◌, ◌+◌, [], ◌∷◌, None, IfOk};
-ghost use Rattle.lsn_space.specs.declared.opening.TheConstants.{MOST_BALANCE};
+ghost use Rattle.lsn_space.specs.declared.opening.TheConstants.{MOST_AMOUNT};
 ghost use Rattle.log_record.specs.Spelling.{IsTxn};
 ghost use Rattle.lock_core.specs.Transfers.{IsAllowedJob};
 ghost use Rattle.lsn_space.specs.declared.lsn.TheConstants.{MOST_SLOTS};
@@ -15,7 +15,7 @@ use std::alloc::Global;
 
 /// A table of two accounts with these balances, over a log that ends here, and the flusher's seat. The
 /// ring has 1024 units, and there are no slots.
-pub fn table_of(alloc: Global, balances: (u32, u32), end: u32) -> Result<(LogTable, Seat), NoMemory>
+pub fn table_of(alloc: Global, balances: (u64, u64), end: u32) -> Result<(LogTable, Seat), NoMemory>
     requires balances { AreBalances balances }
     ensures { IfOk result (λ made. IsTableOf balances end 0 made.0 made.1) }
 {
@@ -25,7 +25,7 @@ pub fn table_of(alloc: Global, balances: (u32, u32), end: u32) -> Result<(LogTab
 /// Such a table with so many slots.
 pub fn table_with_slots(
     alloc: Global,
-    balances: (u32, u32),
+    balances: (u64, u64),
     end: u32,
     slots: u32,
 ) -> Result<(LogTable, Seat), NoMemory>
@@ -61,7 +61,7 @@ pub fn worker(table: &LogTable, flusher_seat: &mut Seat, number: u32, first: u32
 
 /// A job that moves so much from account 0 to account 1.
 pub fn job_of(amount: u32) -> Job
-    requires amount { (1 ≤ amount) × (amount ≤ MOST_BALANCE) }
+    requires amount { (1 ≤ amount) × (amount ≤ MOST_AMOUNT) }
     ensures job { result ≡ record { legs = (0, 1, amount) ∷ []; note = None } }
     ensures allowed { IsAllowedJob 2 result }
 {

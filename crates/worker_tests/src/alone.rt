@@ -92,14 +92,14 @@ pub(crate) fn work_alone<R: Wait + Abort>(
 pub(crate) type Given<'a> = (&'a [u8], u32);
 
 /// How a worker alone ended, its rows, and the balances that it left.
-pub(crate) type Ran = (Worked, Rows, (u32, u32));
+pub(crate) type Ran = (Worked, Rows, (u64, u64));
 
 /// A worker alone makes the script, over accounts of these balances.
 pub(crate) fn run_alone<R: Wait + Abort>(
     rt: &R,
     alloc: Global,
     given: Given,
-    balances: (u32, u32),
+    balances: (u64, u64),
 ) -> Result<Ran, Fail>
     requires { (balances.0 ≤ MOST_BALANCE) × (balances.1 ≤ MOST_BALANCE) }
 {
@@ -119,7 +119,7 @@ pub(crate) fn run_alone<R: Wait + Abort>(
 }
 
 /// How two workers ended, the one after the other, their rows, and the balances that they left.
-pub(crate) type BothRan = ((Worked, Rows), (Worked, Rows), (u32, u32));
+pub(crate) type BothRan = ((Worked, Rows), (Worked, Rows), (u64, u64));
 
 /// A worker makes what it takes of the script over balances 100 and 0, and then another the rest.
 pub(crate) fn run_two<R: Wait + Abort>(
@@ -176,6 +176,6 @@ pub(crate) fn has_rows(rt: &impl Abort, given: Given, rows: &Rows, wanted: &[Lin
 }
 
 /// The worker left these balances.
-pub(crate) fn has_left(rt: &impl Abort, given: Given, balances: (u32, u32), wanted: (u32, u32)) {
+pub(crate) fn has_left(rt: &impl Abort, given: Given, balances: (u64, u64), wanted: (u64, u64)) {
     assert_eq!(rt; balances, wanted, "{given:?}");
 }

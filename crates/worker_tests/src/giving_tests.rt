@@ -56,7 +56,7 @@ fn run_beside<R: Wait + Abort>(rt: &R, alloc: Global, given: Given) -> Result<Ra
 }
 
 /// Another worker finds the account free, with this balance and this last commit, and takes it.
-fn finds(rt: &impl Abort, table: &LogTable, looker: &mut Seat, account: u32, values: (u32, u32))
+fn finds(rt: &impl Abort, table: &LogTable, looker: &mut Seat, account: u32, values: (u64, u32))
     requires account { account < table.now.accounts }
     requires seat { IsOf table.now looker.old }
     requires rests { IsAtRest (view_of looker.old) }

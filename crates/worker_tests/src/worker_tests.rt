@@ -16,10 +16,10 @@ const GENESIS_END: u32 = 4;
 fn makes_all<R: Wait + Abort>(
     rt: &R,
     alloc: Global,
-    balances: (u32, u32),
+    balances: (u64, u64),
     script: &[u8],
     lines: &[Line],
-    left: (u32, u32),
+    left: (u64, u64),
 ) -> Result<(), Fail> {
     assert!(rt; balances.0 <= MOST_BALANCE && balances.1 <= MOST_BALANCE);
     let given = (script, GENESIS_END);
@@ -30,7 +30,7 @@ fn makes_all<R: Wait + Abort>(
     Ok(())
 }
 
-const MADE: &[((u32, u32), &[u8], &[Line], (u32, u32))] = &[
+const MADE: &[((u64, u64), &[u8], &[Line], (u64, u64))] = &[
     (
         (100, 0),
         b"pay 0 1 30\n",
