@@ -11,10 +11,13 @@ memory_cases() {
     head -c 40000000 /dev/zero > "$work/long"
     cp "$examples/genesis.log" "$log"
     rm -f "$work/none.log"
-    # `recover` alone keeps no more of its input than a batch.
-    on_file_within 20000 "$work/long" recover
-    expect 'recover: an input longer than the memory' 7 '' 'aether: not a log'
-    for name in dump "new $work/none.log" "run $log" "cut $work/none.log" "upgrade $work/none.log" 'ship 4' 'asof 4' 'statement 0'; do
+    # What reads a log finds in its first bytes that it is none.
+    for name in recover dump "cut $work/none.log" "upgrade $work/none.log" 'ship 4' 'asof 4' 'statement 0'; do
+        # shellcheck disable=SC2086
+        on_file_within 20000 "$work/long" $name
+        expect "${name%% *}: an input longer than the memory" 7 '' 'aether: not a log'
+    done
+    for name in "new $work/none.log" "run $log"; do
         # shellcheck disable=SC2086
         on_file_within 20000 "$work/long" $name
         expect "${name%% *}: an input for which there is no memory" 1 '' 'aether: out of memory'
@@ -50,9 +53,32 @@ memory_cases() {
     on_file_within 20000 /dev/null demo "$work/demo.log" 3 7 --ring 1048576
     expect 'demo: a ring for which there is no memory' 1 '' 'aether: out of memory'
     expect_file 'demo: no memory' "$work/demo.log" /dev/null
+    large_log_cases
     large_demo_case
     memory_steps
     cut_memory_cases
+}
+
+# Within the memory that the program itself needs, a log of 4 MB: `recover` and `cut` keep what it comes to, the others more.
+large_log_cases() {
+    local name
+    rm -f "$work/demo.log" "$work/none.log"
+    on_file /dev/null demo "$work/demo.log" 100000 7
+    on_file "$work/demo.log" recover
+    mv "$work/out" "$work/accounts"
+    for name in recover "cut $work/none.log"; do
+        # shellcheck disable=SC2086
+        on_file_within 8000 "$work/demo.log" $name
+        expect_true "${name%% *}: a log of 4 MB within 8" [ "$status" = 0 ]
+        expect_file "${name%% *}: the accounts of a log of 4 MB" "$work/out" "$work/accounts"
+    done
+    rm "$work/none.log"
+    for name in dump "upgrade $work/none.log" 'ship 64' 'asof 64' 'statement 3'; do
+        # shellcheck disable=SC2086
+        on_file_within 8000 "$work/demo.log" $name
+        expect "${name%% *}: a log for which there is no memory" 1 '' 'aether: out of memory'
+    done
+    rm -f "$work/demo.log" "$work/none.log"
 }
 
 # As many transfers as `demo` makes, by as many workers: what is held of memory at most.
