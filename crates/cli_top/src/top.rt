@@ -14,9 +14,9 @@ ghost use Rattle.cli_top.specs.Commands.{FulfilsAsOf, FulfilsCut, FulfilsDemo, F
 ghost use Rattle.cli_dispatch.specs.Alone.{command_of};
 
 use cli_demo::demo_command::demo_command;
+use cli_dispatch::{Answer, WithWorkers, answer_alone};
 use cli_run::run_command::run_command;
 use cli_shared::{Detail, Report};
-use cli_dispatch::{Answer, WithWorkers, answer_alone};
 use log_disk::{Gate, LogDisk, Sink, Source};
 use lsn_space::Word;
 use std::alloc::Global;

@@ -10,7 +10,7 @@ ghost use Rattle.daemon_turn.specs.Telling.{TellsBatch};
 
 use end_lines::{Tally, Voice, tell_record};
 use flusher::Flusher;
-use log_disk::{LogDisk, LinesBlock, Sink, WriteFault};
+use log_disk::{LinesBlock, LogDisk, Sink, WriteFault};
 use log_record::{COMMIT, Header, OVER, Rec, SHORT};
 use lsn_space::Lsn;
 use segment_file::Batch;
