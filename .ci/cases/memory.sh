@@ -59,7 +59,7 @@ memory_cases() {
     cut_memory_cases
 }
 
-# Within the memory that the program itself needs, a log of 4 MB: `recover` and `cut` keep what it comes to, the others more.
+# Within the memory that the program itself needs: of a log of 4 MB `recover` and `cut` keep what it comes to, of one of 12 MB the others more than that.
 large_log_cases() {
     local name
     rm -f "$work/demo.log" "$work/none.log"
@@ -73,6 +73,8 @@ large_log_cases() {
         expect_file "${name%% *}: the accounts of a log of 4 MB" "$work/out" "$work/accounts"
     done
     rm "$work/none.log"
+    yes 'pay 0 1 1' | head -n 200000 > "$work/script"
+    on_file "$work/script" run "$work/demo.log" --workers 1
     for name in dump "upgrade $work/none.log" 'ship 64' 'asof 64' 'statement 3'; do
         # shellcheck disable=SC2086
         on_file_within 8000 "$work/demo.log" $name
