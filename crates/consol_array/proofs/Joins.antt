@@ -20,7 +20,7 @@ module _ (table : LogTable) (old mid : Seat) (n slot : ℕ) (from : SlotWord) (o
     pub MayJoinSlot-looked : (to : SlotWord) → slot ≡ own_slot_of (view_of old) → IsAtRest (view_of old) → MayPlace n (view_of old).books
         → IsStateJoined table.ring n from to → MayJoinSlot slot from to (view_of mid)
     MayJoinSlot-looked to own rests next joins = subst (MayJoinSlot slot from to) (sym (ap (λ me. me.0) looks.me)) record {
-      rests = record { active = rests.active; idle = ap (call_seeing slot (word_of from)) rests.idle };
+      rests = record { active = rests.active; idle = ap (call_seeing slot (word_of from)) rests.idle; whole = rests.whole };
       enters = next.enters;
       own_slot = own;
       gathers = joins.room.gathers;

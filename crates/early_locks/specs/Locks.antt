@@ -12,7 +12,8 @@ use Rattle.log_rule.specs.declared.view.View.{View}
 use Rattle.log_rule.specs.Accounts.{FollowsJob}
 use Rattle.log_rule.specs.Books.{times_held, balance_taken, last_commit_taken, taking}
 use Rattle.log_table.specs.Seats.{Becomes, view_of}
-use Rattle.log_rule.specs.AccountViews.{saw_account, took_account, gave_account}
+use Rattle.lsn_space.specs.declared.opening.TheConstants.{MOST_BALANCE}
+use Rattle.log_rule.specs.AccountViews.{saw_account, took_account, loaded_balance, stored_balance, gave_account}
 use Rattle.early_locks.specs.declared.taken.Taken.{Taken}
 use Rattle.early_locks.specs.declared.taken.Held.{Held}
 
@@ -31,14 +32,14 @@ given_at view taken = record {
   committed = has_commit (recs_of view.books.placed);
 }
 
--- the seat loaded the free word of the account and took it with these values, in two steps
+-- the seat loaded the free word of the account, took it with this last Commit, and loaded its balance, in three steps
 pub record HasTaken (old new : Seat) (account : ℕ) (taken : Taken) : Type 0 where
   pub account_is : taken.account ≡ account
   pub word : AccountWord
   pub free : word.held ≡ false
-  pub balance : taken.balance ≡ word.balance
+  pub range : taken.balance ≤ MOST_BALANCE
   pub last_commit : taken.mark ≡ word.mark
-  pub becomes : Becomes old new (took_account account (word_of word) (saw_account account (word_of word) (view_of old)))
+  pub becomes : Becomes old new (loaded_balance taken.balance (took_account account (word_of word) (saw_account account (word_of word) (view_of old))))
   pub books : (view_of new).books ≡ taking (record { account = account; balance = taken.balance; last_commit = taken.mark }) (view_of old).books
 
 -- The seat loaded the account's word; where that was held, it was found so, and else its exchange found another word. It made no other
@@ -60,9 +61,9 @@ abbrev pub GivesBack : Taken → ℕ → ℕ → Seat → Type 0
 GivesBack taken balance last_commit seat =
     FollowsJob taken.account balance last_commit taken.balance taken.mark (view_of seat).books.placed
 
--- the account is among those given back, and the seat is else as it was
-abbrev pub HasGivenBack : Taken → Seat → Seat → Type 0
-HasGivenBack taken old new = Becomes old new (gave_account taken.account (view_of old))
+-- the account is among those given back, in two steps, and the seat is else as it was
+abbrev pub HasGivenBack : Taken → ℕ → Seat → Seat → Type 0
+HasGivenBack taken balance old new = Becomes old new (gave_account taken.account (stored_balance taken.account balance (view_of old)))
 
 -- the seat's last job has its end record, and the seat saw a durable LSN at or above its end
 pub record HasSeenDurable (view : View) : Type 0 where

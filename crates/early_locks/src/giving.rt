@@ -18,9 +18,10 @@ pub fn give(table: &LogTable, seat: &mut Seat, taken: Taken, balance: u64, mark:
     requires holds { HoldsTaken taken (view_of seat.old).books }
     requires balance { balance ≤ MOST_BALANCE }
     requires values { GivesBack taken balance mark seat.old }
-    ensures { HasGivenBack taken seat.old seat.new }
+    ensures { HasGivenBack taken balance seat.old seat.new }
 {
-    table.store_account(seat, taken.account, AccountWord::free(balance, mark));
+    table.store_balance(seat, taken.account, balance);
+    table.store_account(seat, taken.account, AccountWord::free(mark));
 }
 
 /// Gives the account back once the seat has seen that the end record of its last job is on the disk.
@@ -32,7 +33,7 @@ pub fn give_durable(table: &LogTable, seat: &mut Seat, taken: Taken, balance: u6
     requires balance { balance ≤ MOST_BALANCE }
     requires values { GivesBack taken balance mark seat.old }
     requires durable { HasSeenDurable (view_of seat.old) }
-    ensures { HasGivenBack taken seat.old seat.new }
+    ensures { HasGivenBack taken balance seat.old seat.new }
 {
     give(table, seat, taken, balance, mark);
 }

@@ -44,13 +44,14 @@ pub fn try_take(table: &LogTable, seat: &mut Seat, account: u32) -> Result<Taken
             found: loaded,
         });
     }
-    let (balance, mark) = (loaded.balance(), loaded.mark());
-    match table.exchange_account(seat, account, loaded, AccountWord::taken(balance, mark)) {
-        Ok(()) => Ok(Taken {
-            account,
-            balance,
-            mark,
-        }),
-        Err(found) => Err(Held { loaded, found }),
+    let mark = loaded.mark();
+    if let Err(found) = table.exchange_account(seat, account, loaded, AccountWord::taken(mark)) {
+        return Err(Held { loaded, found });
     }
+    let balance = table.load_balance(seat, account);
+    Ok(Taken {
+        account,
+        balance,
+        mark,
+    })
 }

@@ -8,8 +8,9 @@ use lib.ListN.{get_elem?}
 use prog.Atomic.{either}
 use Rattle.atomic_table.proofs.Lists.{at_map}
 use Rattle.slot_word.specs.declared.account_word.AccountWord.{AccountWord}
-use Rattle.slot_word.specs.AccountWord.{word_of, held_in, balance_in, last_commit_in}
-use Rattle.slot_word.proofs.AccountWordLemmas.{held_back, balance_back, last_commit_back}
+use Rattle.slot_word.specs.AccountWord.{word_of, held_in, last_commit_in, IsAccountWord}
+use Rattle.slot_word.proofs.AccountWordLemmas.{packed-account_word, held_back, last_commit_back}
+use Rattle.lsn_space.specs.declared.opening.TheConstants.{MOST_BALANCE}
 use Rattle.log_record.specs.declared.rec.Rec.{Rec}
 use Rattle.log_record.specs.declared.rec.Rec.TheVariants as rec
 use Rattle.log_record.specs.declared.rec.Placed.{Placed}
@@ -23,18 +24,22 @@ use Rattle.log_rule.specs.declared.view.Call.TheVariants.{Idle}
 use Rattle.log_rule.specs.declared.view.Seen.{Seen}
 use Rattle.log_rule.specs.declared.view.TakenJob.{TakenJob}
 use Rattle.log_rule.specs.declared.view.View.{View}
-use Rattle.log_rule.specs.Accounts.{IsAsTaken, MayBeTaken, KeepsAccounts}
-use Rattle.log_rule.specs.Books.{IsNote, taking_job, taking, giving}
+use Rattle.log_rule.specs.declared.view.Taken.{Taken}
+use Rattle.log_rule.specs.declared.view.Role.TheVariants.{Active}
+use Rattle.log_rule.specs.declared.view.Standing.{Standing}
+use Rattle.log_rule.proofs.Reading.{put-same_value}
+use Rattle.log_rule.specs.Accounts.{IsAsTaken, MayBeTaken, commit_in, KeepsAccounts}
+use Rattle.log_rule.specs.Books.{IsNote, taking_job, half_taking, taking, half_giving, giving}
 use Rattle.log_rule.specs.Events.{Leads, IsStep, none}
-use Rattle.table_layout.specs.Layout.{Stop, Account}
+use Rattle.table_layout.specs.Layout.{Stop, Account, Balance}
 use Rattle.log_rule.specs.Log.{Log, ranges_of}
-use Rattle.log_rule.specs.May.{IsOwnWord, MayTakeJob, MayTake, MayGiveBack}
+use Rattle.log_rule.specs.May.{IsOwnWord, MayTakeJob, MayTake, MayLoadBalance, MayStoreBalance, MayGiveBack}
 use Rattle.log_rule.specs.Members.{AwaitsPlace}
 use Rattle.log_rule.specs.Sound.{HasSeenBoundaries, StoresStop, HasReadStop, HoldsIfActive, IsSound, base_of, history_in, books_of}
 use Rattle.log_rule.specs.Roles.{is_active, may_own}
-use Rattle.log_rule.specs.AccountViews.{took_job, seen_account, saw_account, held_as, took_account, after_account, given_as, gave_account}
+use Rattle.log_rule.specs.AccountViews.{took_job, seen_account, saw_account, took_account, after_account, loaded_half, loaded_balance, taken_as, stored_balance, half_balance, given_as, gave_account}
 use Rattle.log_rule.specs.Views.{counted}
-use Rattle.log_rule.specs.Words.{Words, put}
+use Rattle.log_rule.specs.Words.{Words, AccountWords, words_alone, balances_alone, put_word, put_balance}
 use Rattle.log_rule.proofs.Bookings.{times_held-found}
 use Rattle.log_rule.proofs.Lifting.{Tells}
 use Rattle.log_rule.proofs.Loads.{see_word-leads}
@@ -42,12 +47,14 @@ use Rattle.log_rule.proofs.Members.{KeepsSeen, one_step_more-keeps_seen, keeps_s
 use Rattle.log_rule.proofs.Roles.{crew-set_same, rests_if_quiet-set, change_standing-leads}
 use Rattle.log_rule.proofs.ViewChanges.{each_view-set}
 use Rattle.log_rule.proofs.Taking.{take_job-keeps_accounts, take_account-keeps_accounts}
+use Rattle.log_rule.proofs.Loading.{load_balance-keeps_accounts}
+use Rattle.log_rule.proofs.Storing.{store_balance-keeps_accounts}
 use Rattle.log_rule.proofs.Giving.{give_back-keeps_accounts}
 use Rattle.log_rule.proofs.AccountsKept.{books-at, books-set, history-end}
 use Rattle.log_rule.proofs.MemberBooks.{held-books_in}
 
 -- the seat's books change, and the accounts' words with them
-module _ (key : Start) (words : Words) (account : ℕ → ℕ) (views : List View) (me : ℕ) (v : View) (log : Log) (seen : Seen) (books : Books)
+module _ (key : Start) (words : Words) (account : ℕ → AccountWords) (views : List View) (me : ℕ) (v : View) (log : Log) (seen : Seen) (books : Books)
     (s : IsSound key words views log) (at : get_elem? views me ≡ some v) (idle : v.call ≡ Idle)
     (sees : HasSeenBoundaries key.start words.tail words.exposed words.durable (ranges_of log) seen)
     (read : HasReadStop words.stop (record v { seen = seen })) (keeps : KeepsSeen log.groups v.seen seen) where
@@ -89,9 +96,16 @@ only_note-uncommitted (entry ∷ entries) all = λ i. note-commits_not entry.rec
     note-commits_not (rec.Over txn leg) note = absurd note
     note-commits_not (rec.Note txn text) note = refl
 
--- the fields fit in a word
+-- the mark fits in a word
 abbrev pub FitsWord : AccountWord → Type 0
-FitsWord word = (word.balance < 2 ^ 31) × (word.mark < 2 ^ 32)
+FitsWord word = word.mark < 2 ^ 32
+
+-- what an account's word or its balance holds, put there again, changes nothing
+put_word-same : (words : ℕ → AccountWords) (account n : ℕ) → (words account).word ≡ n → put_word words account n ≡ words
+put_word-same words account n is i k = record { word = put-same_value (words_alone words) account n k is i; balance = (words k).balance }
+
+put_balance-same : (words : ℕ → AccountWords) (account n : ℕ) → (words account).balance ≡ n → put_balance words account n ≡ words
+put_balance-same words account n is i k = record { word = (words k).word; balance = put-same_value (balances_alone words) account n k is i }
 
 module _ (key : Start) (me : ℕ) (v : View) where
   pub job-step : (accounts number : ℕ) (job : Job) → length key.accounts.rows ≡ accounts → MayTakeJob accounts number job v → (n : ℕ)
@@ -103,17 +117,17 @@ module _ (key : Start) (me : ℕ) (v : View) where
         may.rests.idle
         (sees-same key.start words.tail words.exposed words.durable log v.seen _ (s.seen me v at) refl refl refl refl) (inr refl)
         (one_step_more-keeps_seen log.groups v.seen _ refl refl refl refl refl refl refl)
-        ((λ _. may.none_held), (λ off. absurd (true≢false (sym (ap may_own may.rests.active) ∙ off))))
+        ((λ _. (may.none_held, may.rests.whole)), (λ off. absurd (true≢false (sym (ap may_own may.rests.active) ∙ off))))
         (take_job-keeps_accounts (base_of key) words.account (history_in key log.parts) (map (books_of log.groups) views) me v.books
-        (books-at log.groups views me v may.rests.idle at) taken
+        (books-at log.groups views me v may.rests.idle at) may.rests.whole taken
         (subst (λ c. MayBeTaken c taken) (sym same) may.allowed) may.above may.none_held s.accounts));
   }
 
   pub saw_account-step : (account n : ℕ) → IsStep key me (Account account) n n v (saw_account account n v) none
   saw_account-step account n = record {
     leads = λ words views log s at is.
-        subst (λ (f : ℕ → ℕ). Leads key words (record words { account = f }) views (set views me (saw_account account n v)) log none)
-        (λ i k. sym (Rattle.log_rule.proofs.Reading.put-same_value words.account account n k is) i)
+        subst (λ (f : ℕ → AccountWords). Leads key words (record words { account = f }) views (set views me (saw_account account n v)) log none)
+        (sym (put_word-same words.account account n is))
         (see_word-leads key words views me v log (seen_account account n v.seen) s at
         (sees-same key.start words.tail words.exposed words.durable log v.seen _ (s.seen me v at) refl refl refl refl) (s.read_stop me v at)
         (one_step_more-keeps_seen log.groups v.seen _ refl refl refl refl refl refl refl));
@@ -126,27 +140,34 @@ module _ (key : Start) (me : ℕ) (v : View) where
       (subst (AllByRecursion (IsAsTaken (base_of key).accounts words.account)) (held-books_in log.groups v.call v.books)
       (s.accounts.holder.taken me (books_of log.groups v) (at_map (books_of log.groups) views me v at))) in
       let is = sym own.is in (
-        ap (λ a. held_in (words.account a)) is ∙ own.known.taken,
-        ap (λ a. balance_in (words.account a)) is ∙ (own.known.balance ∙ sym own.balance),
-        ap (λ a. last_commit_in (words.account a)) is ∙ (own.known.last_commit ∙ sym own.last_commit),
+        ap (λ a. held_in (words.account a).word) is ∙ own.known.marked.taken,
+        ap (λ a. last_commit_in (words.account a).word) is ∙ (own.known.marked.last_commit ∙ sym own.last_commit),
       )
+
+  -- it is an account's word
+  pub account-tells_account_word : (account : ℕ) → account < length key.accounts.rows → Tells key me (Account account) v IsAccountWord
+  account-tells_account_word account below words views log s at = (s.accounts.holder.words_are account below).word
+
+  -- and a balance is in its range
+  pub balance-tells_range : (account : ℕ) → account < length key.accounts.rows → Tells key me (Balance account) v (λ n. n ≤ MOST_BALANCE)
+  balance-tells_range account below words views log s at = (s.accounts.holder.words_are account below).balance
 
   pub took_account-step : (accounts account : ℕ) → length key.accounts.rows ≡ accounts → account < accounts → (from to : AccountWord) → FitsWord from → FitsWord to → MayTake account from to v
       → IsStep key me (Account account) (word_of from) (word_of to) v (took_account account (word_of from) v) none
   took_account-step accounts account same below from to from-fits to-fits may = record {
     leads = λ words views log s at is.
-        let free : held_in (words.account account) ≡ false = ap held_in is ∙ (held_back from.held from.balance from.mark from-fits.0 from-fits.1 ∙ may.free) in
-        books-change key words (put words.account account (word_of to)) views me v log (seen_account account (word_of from) v.seen)
-        (taking (held_as account (word_of from)) v.books) s at may.rests.idle
+        let free : held_in (words.account account).word ≡ false = ap held_in is ∙ (held_back from.held from.mark from-fits ∙ may.free) in
+        books-change key words (put_word words.account account (word_of to)) views me v log (seen_account account (word_of from) v.seen)
+        (half_taking account (last_commit_in (word_of from)) v.books) s at may.rests.idle
         (sees-same key.start words.tail words.exposed words.durable log v.seen _ (s.seen me v at) refl refl refl refl) (s.read_stop me v at)
         (one_step_more-keeps_seen log.groups v.seen _ refl refl refl refl refl refl refl)
         ((λ off. absurd (true≢false (sym (ap is_active may.rests.active) ∙ off))), (λ off. absurd (true≢false (sym (ap may_own may.rests.active) ∙ off))))
         (take_account-keeps_accounts (base_of key) words.account (history_in key log.parts) (map (books_of log.groups) views) me v.books
-        (books-at log.groups views me v may.rests.idle at)
-        (held_as account (word_of from)) (word_of to) (subst (λ c. account < c) (sym same) below) free (ap balance_in is) (ap last_commit_in is)
-        (held_back to.held to.balance to.mark to-fits.0 to-fits.1 ∙ may.taken)
-        (balance_back to.held to.balance to.mark to-fits.0 to-fits.1 ∙ (may.balance ∙ sym (balance_back from.held from.balance from.mark from-fits.0 from-fits.1)))
-        (last_commit_back to.held to.balance to.mark to-fits.0 to-fits.1 ∙ (may.last_commit ∙ sym (last_commit_back from.held from.balance from.mark from-fits.0 from-fits.1)))
+        (books-at log.groups views me v may.rests.idle at) may.rests.whole
+        account (last_commit_in (word_of from)) (word_of to) (subst (λ c. account < c) (sym same) below) free (ap last_commit_in is)
+        (held_back to.held to.mark to-fits ∙ may.taken)
+        (last_commit_back to.held to.mark to-fits ∙ (may.last_commit ∙ sym (last_commit_back from.held from.mark from-fits)))
+        (packed-account_word to.held to.mark to-fits)
         (only_note-uncommitted v.books.placed may.begins.only_note) s.accounts);
   }
 
@@ -166,17 +187,57 @@ module _ (key : Start) (me : ℕ) (v : View) where
   sees-front words views log s at = subst (λ n. v.seen.tail ≤ n)
       (sym (history-end key.start key.start words.tail [] log.parts refl s.contiguous.parts s.filled.spelled)) (s.seen me v at).tail_seen
 
+  -- who takes or gives an account is active
+  active-holds : (z : View) → z.standing ≡ v.standing → v.standing.role ≡ Active → HoldsIfActive z
+  active-holds _ standing active = let is = ap (λ (s : Standing). s.role) standing ∙ active in
+      ((λ off. absurd (true≢false (sym (ap is_active is) ∙ off))), (λ off. absurd (true≢false (sym (ap may_own is) ∙ off))))
+
+  pub load_balance-step : (account : ℕ) → MayLoadBalance account v → (n : ℕ) → IsStep key me (Balance account) n n v (loaded_balance n v) none
+  load_balance-step account may n = record {
+    leads = λ words views log s at is.
+        let half : loaded_half n v.books.half ≡ record { account = account; balance = n; last_commit = may.last_commit } = ap (loaded_half n) may.half in
+        subst (λ (f : ℕ → AccountWords). Leads key words (record words { account = f }) views (set views me (loaded_balance n v)) log none)
+        (sym (put_balance-same words.account account n is))
+        (books-change key words words.account views me v log (counted v.seen) (taking (loaded_half n v.books.half) v.books) s at may.idle
+        (sees-same key.start words.tail words.exposed words.durable log v.seen _ (s.seen me v at) refl refl refl refl) (s.read_stop me v at)
+        (one_step_more-keeps_seen log.groups v.seen _ refl refl refl refl refl refl refl)
+        (active-holds (loaded_balance n v) refl may.active)
+        (subst (λ (t : Taken). KeepsAccounts (base_of key) words.account (history_in key log.parts) (set (map (books_of log.groups) views) me (taking t v.books))) (sym half)
+        (load_balance-keeps_accounts (base_of key) words.account (history_in key log.parts) (map (books_of log.groups) views) me v.books
+        (books-at log.groups views me v may.idle at) account may.last_commit n may.half is s.accounts)));
+  }
+
+  pub store_balance-step : (account balance : ℕ) → MayStoreBalance account balance v → (n : ℕ)
+      → IsStep key me (Balance account) n balance v (stored_balance account balance v) none
+  store_balance-step account balance may n = record {
+    leads = λ words views log s at is.
+        books-change key words (put_balance words.account account balance) views me v log (counted v.seen) (half_giving (taken_as account v) balance v.books) s at
+        may.rests.idle
+        (sees-same key.start words.tail words.exposed words.durable log v.seen _ (s.seen me v at) refl refl refl refl) (s.read_stop me v at)
+        (one_step_more-keeps_seen log.groups v.seen _ refl refl refl refl refl refl refl)
+        (active-holds (stored_balance account balance v) refl may.rests.active)
+        (store_balance-keeps_accounts (base_of key) words.account (history_in key log.parts) (map (books_of log.groups) views) me v.books
+        (books-at log.groups views me v may.rests.idle at) s.accounts.holder may.rests.whole account balance may.has may.follows may.fits s.accounts);
+  }
+
   pub give-step : (account : ℕ) (word : AccountWord) → FitsWord word → MayGiveBack account word v → (n : ℕ)
       → IsStep key me (Account account) n (word_of word) v (gave_account account v) none
   give-step account word word-fits may n = record {
     leads = λ words views log s at is.
-        books-change key words (put words.account account (word_of word)) views me v log (counted v.seen) (giving (given_as account v) v.books) s at
-        may.rests.idle
+        subst (λ a. Leads key words (record words { account = put_word words.account a (word_of word) }) views (set views me (gave_account account v)) log none) may.account_is
+        (books-change key words (put_word words.account may.taken.account (word_of word)) views me v log (counted v.seen) (giving (given_as account v) v.books) s at
+        may.idle
         (sees-same key.start words.tail words.exposed words.durable log v.seen _ (s.seen me v at) refl refl refl refl) (s.read_stop me v at)
         (one_step_more-keeps_seen log.groups v.seen _ refl refl refl refl refl refl refl)
-        ((λ off. absurd (true≢false (sym (ap is_active may.rests.active) ∙ off))), (λ off. absurd (true≢false (sym (ap may_own may.rests.active) ∙ off))))
+        (active-holds (gave_account account v) refl may.active)
         (give_back-keeps_accounts (base_of key) words.account (history_in key log.parts) (map (books_of log.groups) views) me v.books
-        (books-at log.groups views me v may.rests.idle at) s.accounts.holder
-        (given_as account v) record { balance = refl; committed = refl; tail = sees-front words views log s at }
-        (word_of word) (held_back word.held word.balance word.mark word-fits.0 word-fits.1 ∙ may.free) may.gives s.accounts);
+        (books-at log.groups views me v may.idle at) s.accounts.holder may.taken may.balance may.half
+        (given_as account v) record {
+          account = sym may.account_is;
+          balance = ap half_balance may.half;
+          committed = refl;
+          tail = sees-front words views log s at;
+        }
+        (word_of word) (held_back word.held word.mark word-fits ∙ may.free) (packed-account_word word.held word.mark word-fits)
+        (last_commit_back word.held word.mark word-fits ∙ (may.last_commit ∙ ap (λ a. commit_in v.books.placed a may.taken.last_commit) (sym may.account_is))) s.accounts));
   }

@@ -14,11 +14,12 @@ use Rattle.log_rule.specs.Groups.{Group}
 use Rattle.log_rule.specs.Log.{Part, Laid, SpellsRecord, records_in}
 use Rattle.log_rule.specs.Sound.{base_of, history_in, books_of}
 use Rattle.log_rule.specs.Views.{books_in}
+use Rattle.log_rule.specs.Words.{AccountWords}
 use Rattle.atomic_table.proofs.Lists.{at_map}
 use Rattle.std.proofs.lemmas.List.{map-set}
 use Rattle.log_rule.proofs.Bookings.{map-set_same}
 
-pub same_books-keeps_accounts : (key : Start) (words : ℕ → ℕ) (parts : List Part) (groups : ℕ → Group) (views : List View) (me : ℕ) (v new : View)
+pub same_books-keeps_accounts : (key : Start) (words : ℕ → AccountWords) (parts : List Part) (groups : ℕ → Group) (views : List View) (me : ℕ) (v new : View)
     → get_elem? views me ≡ some v → books_of groups new ≡ books_of groups v
     → KeepsAccounts (base_of key) words (history_in key parts) (map (books_of groups) views)
     → KeepsAccounts (base_of key) words (history_in key parts) (map (books_of groups) (set views me new))

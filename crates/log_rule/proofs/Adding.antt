@@ -72,7 +72,7 @@ module _ (key : Start) (words : Words) (views : List View) (log : Log) (s : IsSo
     quiet = quiet;
     looked = each_view-push (λ _ z. LookedIfQuiet words.exposed z) (λ _ z. LookedIfQuiet words.exposed z) views new s.looked
         (λ f. absurd (not-flusher f)) (λ _ _ _ p. p);
-    unheld = each_view-push (λ _ z. HoldsIfActive z) (λ _ z. HoldsIfActive z) views new s.unheld ((λ _. ap (λ (b : Books). b.held) books), (λ _. ap (λ (b : Books). b.jobs) books)) (λ _ _ _ p. p);
+    unheld = each_view-push (λ _ z. HoldsIfActive z) (λ _ z. HoldsIfActive z) views new s.unheld ((λ _. (ap (λ (b : Books). b.held) books, ap (λ (b : Books). b.half) books)), (λ _. ap (λ (b : Books). b.jobs) books)) (λ _ _ _ p. p);
     accounts = subst (KeepsAccounts (base_of key) words.account (history_in key log.parts))
         (sym (map-append (books_of log.groups) views (new ∷ [])
         ∙ (λ i. map (books_of log.groups) views ++ books_in log.groups (call i) (books i) ∷ [])))

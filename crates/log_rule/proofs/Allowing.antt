@@ -9,10 +9,11 @@ use Rattle.table_layout.specs.declared.layout.TheConstants.{STRIDE, TAIL, EXPOSE
 use Rattle.log_rule.specs.declared.start.Start.{Start}
 use Rattle.log_rule.specs.declared.view.Role.TheVariants.{Flusher, Fresh}
 use Rattle.log_rule.specs.declared.view.View.{View}
-use Rattle.table_layout.specs.Layout.{Tail, Exposed, Durable, Stop, Crew, Ring, Mark, Account}
-use Rattle.log_rule.specs.May.{IsOwnWord, MayLeave, MayReserve, MayPlaceGroup, MayExchangeTail, MayFill, MayMark, MayLookMark, MayRaise, MayRead, MaySend, MayStop, MayTakeJob, MayTake, MayGiveBack}
+use Rattle.table_layout.specs.Layout.{Tail, Exposed, Durable, Stop, Crew, Ring, Mark, Account, Balance}
+use Rattle.log_rule.specs.May.{IsOwnWord, MayLeave, MayReserve, MayPlaceGroup, MayExchangeTail, MayFill, MayMark, MayLookMark, MayRaise, MayRead, MaySend, MayStop, MayTakeJob, MayTake, MayLoadBalance, MayStoreBalance, MayGiveBack}
 use Rattle.slot_word.specs.declared.account_word.AccountWord.{AccountWord}
-use Rattle.slot_word.specs.AccountWord.{word_of}
+use Rattle.slot_word.specs.AccountWord.{word_of, IsAccountWord}
+use Rattle.lsn_space.specs.declared.opening.TheConstants.{MOST_BALANCE}
 use Rattle.lock_core.specs.declared.job.Job.{Job}
 use Rattle.log_rule.specs.Sends.{IsExposedToFlusher, IsDurableToFlusher, ReadsWholeEntries}
 use Rattle.log_rule.specs.Moments.{HoldsAtOnce}
@@ -21,14 +22,14 @@ use Rattle.log_rule.specs.Sound.{HasReadStop, Ruled}
 use Rattle.log_rule.specs.Views.{saw_tail, saw_exposed, saw_durable, filled, has_read, has_sent, has_stopped, saw_stop, saw_crew}
 use Rattle.log_rule.specs.SlotViews.{after_exchange}
 use Rattle.log_rule.specs.MarkViews.{marked, saw_mark, after_raise}
-use Rattle.log_rule.specs.AccountViews.{took_job, saw_account, after_account, gave_account}
+use Rattle.log_rule.specs.AccountViews.{took_job, saw_account, after_account, loaded_balance, stored_balance, gave_account}
 use Rattle.log_rule.specs.CrewViews.{enrolled, retired}
 use Rattle.log_rule.specs.Words.{with_word}
 use Rattle.log_rule.proofs.Crewing.{enroll-step_modulo, leave-step_modulo}
 use Rattle.log_rule.proofs.Exposing.{saw_exposed-step, look-step, mark-tells_le_last}
 use Rattle.log_rule.proofs.LeaderPlacing.{place-exchange}
 use Rattle.log_rule.proofs.PieceFilling.{fill-step}
-use Rattle.log_rule.proofs.Lifting.{allowed-if_step, allowed-if_told}
+use Rattle.log_rule.proofs.Lifting.{allowed-if_step, allowed-if_told, Tells}
 use Rattle.log_rule.proofs.Loads.{saw_tail-step, saw_durable-step, saw_stop-step, stop-tells_unchanged, tail-tells_at_least_seen, exposed-tells_at_least_seen, durable-tells_at_least_seen}
 use Rattle.log_rule.proofs.Flushing.{send-step}
 use Rattle.log_rule.proofs.Reading.{read-step, read-tells_whole_entries}
@@ -36,9 +37,9 @@ use Rattle.log_rule.proofs.GroupMarking.{mark-step}
 use Rattle.log_rule.proofs.Raising.{raise-step, raise-tells_bounds}
 use Rattle.log_rule.proofs.Stopping.{stop_unchanged-step, stop-tells_read_stop, stop-step, saw_crew-step}
 use Rattle.log_rule.proofs.Reserving.{reserve_exchange-step}
-use Rattle.table_layout.proofs.WordPlaces.{Fits, shared_tail, shared_exposed, shared_durable, shared_stop, shared_crew, in_ring, in_marks, of_account}
+use Rattle.table_layout.proofs.WordPlaces.{Fits, shared_tail, shared_exposed, shared_durable, shared_stop, shared_crew, in_ring, in_marks, of_account, of_balance}
 use Rattle.log_rule.proofs.ViewChanges.{get_elem-below_length}
-use Rattle.log_rule.proofs.AccountSteps.{FitsWord, job-step, saw_account-step, account-tells_own_word, after_account-step, give-step}
+use Rattle.log_rule.proofs.AccountSteps.{FitsWord, job-step, saw_account-step, account-tells_own_word, account-tells_account_word, balance-tells_range, after_account-step, load_balance-step, store_balance-step, give-step}
 
 module _ (key : Start) (slots seat : ℕ) (me : Me (Unit {0}) View) where
   pub load_tail-allowed : Allows (Ruled key) slots seat me TAIL (λ n. n)
@@ -187,22 +188,36 @@ module _ (key : Start) (slots seat : ℕ) (me : Me (Unit {0}) View) where
     at-account left then allows = subst (λ (p : ℕ × ℕ). Allows (Ruled key) slots seat me p.0 left (then p.1))
         (λ i. (placed i, sym is i)) allows
 
-    pub load_account-allowed : Allows (Ruled key) slots seat me place (λ n. n) (λ n new. (new ≡ (saw_account picked n me.0, me.1)) × IsOwnWord picked n me.0.books)
-    load_account-allowed = at-account (λ n. n) (λ p n new. (new ≡ (saw_account p n me.0, me.1)) × IsOwnWord p n me.0.books)
+    known-account : account < length key.accounts.rows
+    known-account = subst (λ c. account < c) (sym counted) below
+
+    -- what the word of an account tells
+    tells-word : Tells key seat (Account account) me.0 (λ n. IsAccountWord n × IsOwnWord account n me.0.books)
+    tells-word words views log s at = (
+      account-tells_account_word key seat me.0 account known-account words views log s at,
+      account-tells_own_word key seat me.0 account words views log s at,
+    )
+
+    pub load_account-allowed : Allows (Ruled key) slots seat me place (λ n. n)
+        (λ n new. (new ≡ (saw_account picked n me.0, me.1)) × (IsAccountWord n × IsOwnWord picked n me.0.books))
+    load_account-allowed = at-account (λ n. n) (λ p n new. (new ≡ (saw_account p n me.0, me.1)) × (IsAccountWord n × IsOwnWord p n me.0.books))
         (allowed-if_step key slots seat me (Account account) fits-account (λ n. n)
-        (λ n. saw_account account n me.0) (λ _. none) (λ n. IsOwnWord account n me.0.books) (account-tells_own_word key seat me.0 account)
+        (λ n. saw_account account n me.0) (λ _. none) (λ n. IsAccountWord n × IsOwnWord account n me.0.books) tells-word
         (λ n _. saw_account-step key seat me.0 account n))
 
     pub exchange_account-allowed : (from to : AccountWord) (free held : ℕ) → free ≡ word_of from → held ≡ word_of to → FitsWord from → FitsWord to
         → MayTake account from to me.0
-        → Allows (Ruled key) slots seat me place (λ n. either (eqb n free) held n) (λ n new. (new ≡ (after_account picked free n me.0, me.1)) × IsOwnWord picked n me.0.books)
+        → Allows (Ruled key) slots seat me place (λ n. either (eqb n free) held n)
+        (λ n new. (new ≡ (after_account picked free n me.0, me.1)) × (IsAccountWord n × IsOwnWord picked n me.0.books))
     exchange_account-allowed from to free held free-is held-is from-fits to-fits may =
         subst (λ (p : ℕ × ℕ). Allows (Ruled key) slots seat me place (λ n. either (eqb n p.0) p.1 n)
-        (λ n new. (new ≡ (after_account picked p.0 n me.0, me.1)) × IsOwnWord picked n me.0.books)) (λ i. (sym free-is i, sym held-is i))
-        (at-account (λ n. either (eqb n (word_of from)) (word_of to) n) (λ p n new. (new ≡ (after_account p (word_of from) n me.0, me.1)) × IsOwnWord p n me.0.books)
+        (λ n new. (new ≡ (after_account picked p.0 n me.0, me.1)) × (IsAccountWord n × IsOwnWord picked n me.0.books))) (λ i. (sym free-is i, sym held-is i))
+        (at-account (λ n. either (eqb n (word_of from)) (word_of to) n)
+        (λ p n new. (new ≡ (after_account p (word_of from) n me.0, me.1)) × (IsAccountWord n × IsOwnWord p n me.0.books))
         (allowed-if_step key slots seat me (Account account) fits-account
         (λ n. either (eqb n (word_of from)) (word_of to) n) (λ n. after_account account (word_of from) n me.0) (λ _. none)
-        (λ n. IsOwnWord account n me.0.books) (account-tells_own_word key seat me.0 account) (λ n _. after_account-step key seat me.0 accounts account counted below from to from-fits to-fits may n)))
+        (λ n. IsAccountWord n × IsOwnWord account n me.0.books) tells-word
+        (λ n _. after_account-step key seat me.0 accounts account counted below from to from-fits to-fits may n)))
 
     pub store_account-allowed : (word : AccountWord) (packed : ℕ) → packed ≡ word_of word → FitsWord word → MayGiveBack account word me.0
         → Allows (Ruled key) slots seat me place (λ _. packed) (λ _ new. (new ≡ (gave_account picked me.0, me.1)) × Unit {0})
@@ -211,3 +226,33 @@ module _ (key : Start) (slots seat : ℕ) (me : Me (Unit {0}) View) where
         (at-account (λ _. word_of word) (λ p _ new. (new ≡ (gave_account p me.0, me.1)) × Unit {0})
         (allowed-if_step key slots seat me (Account account) fits-account (λ _. word_of word)
         (λ _. gave_account account me.0) (λ _. none) (λ _. Unit {0}) (λ _ _ _ _ _. tt) (λ n _. give-step key seat me.0 account word fits may n)))
+
+  module _ (place ring number accounts account picked : ℕ) (at : place ≡ RING + ring + ring + STRIDE * (number + number + account) + 1) (same : key.ring ≡ ring)
+      (slotted : key.slots ≡ number)
+      (counted : length key.accounts.rows ≡ accounts) (below : account < accounts) (is : picked ≡ account) where
+    fits-balance : Fits key.ring key.slots (length key.accounts.rows) (Balance account)
+    fits-balance = of_balance account (subst (λ c. account < c) (sym counted) below)
+
+    placed-balance : RING + key.ring + key.ring + STRIDE * (key.slots + key.slots + account) + 1 ≡ place
+    placed-balance = (λ i. RING + same i + same i + STRIDE * (slotted i + slotted i + account) + 1) ∙ sym at
+
+    at-balance : (left : ℕ → ℕ) (then : ℕ → ℕ → Me (Unit {0}) View → Type 0)
+        → Allows (Ruled key) slots seat me (RING + key.ring + key.ring + STRIDE * (key.slots + key.slots + account) + 1) left (then account)
+        → Allows (Ruled key) slots seat me place left (then picked)
+    at-balance left then allows = subst (λ (p : ℕ × ℕ). Allows (Ruled key) slots seat me p.0 left (then p.1))
+        (λ i. (placed-balance i, sym is i)) allows
+
+    pub load_balance-allowed : MayLoadBalance account me.0
+        → Allows (Ruled key) slots seat me place (λ n. n) (λ n new. (new ≡ (loaded_balance n me.0, me.1)) × (n ≤ MOST_BALANCE))
+    load_balance-allowed may = at-balance (λ n. n) (λ p n new. (new ≡ (loaded_balance n me.0, me.1)) × (n ≤ MOST_BALANCE))
+        (allowed-if_step key slots seat me (Balance account) fits-balance (λ n. n)
+        (λ n. loaded_balance n me.0) (λ _. none) (λ n. n ≤ MOST_BALANCE)
+        (balance-tells_range key seat me.0 account (subst (λ c. account < c) (sym counted) below))
+        (λ n _. load_balance-step key seat me.0 account may n))
+
+    pub store_balance-allowed : (balance : ℕ) → MayStoreBalance account balance me.0
+        → Allows (Ruled key) slots seat me place (λ _. balance) (λ _ new. (new ≡ (stored_balance picked balance me.0, me.1)) × Unit {0})
+    store_balance-allowed balance may = at-balance (λ _. balance) (λ p _ new. (new ≡ (stored_balance p balance me.0, me.1)) × Unit {0})
+        (allowed-if_step key slots seat me (Balance account) fits-balance (λ _. balance)
+        (λ _. stored_balance account balance me.0) (λ _. none) (λ _. Unit {0}) (λ _ _ _ _ _. tt)
+        (λ n _. store_balance-step key seat me.0 account balance may n))

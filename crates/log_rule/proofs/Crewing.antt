@@ -9,6 +9,7 @@ use mathlib.Core.Option.{some}
 use lib.ListN.{get_elem?}
 use Rattle.log_rule.specs.declared.start.Start.{Start}
 use Rattle.log_rule.specs.declared.view.Call.TheVariants.{Idle}
+use Rattle.log_rule.specs.declared.view.Half.TheVariants.{Neither}
 use Rattle.log_rule.specs.declared.view.Role.{Role}
 use Rattle.log_rule.specs.declared.view.Role.TheVariants.{Flusher, Fresh, Active, Ended, Note, Spent}
 use Rattle.log_rule.specs.declared.view.View.{View}
@@ -100,7 +101,7 @@ module _ (key : Start) (words : Words) (views : List View) (me : ℕ) (v : View)
     (at : get_elem? views me ≡ some v) (old role : Role) (was : v.standing.role ≡ old) (next : IsNextRole old role) (known : List ℕ)
     (learns : (n : ℕ) → Knows n known → (n ≡ v.standing.worker) ⊎ Knows n v.standing.enrolled) (crew : ℕ)
     (counts : crew + cond {A = ℕ} (is_active old) 1 0 ≡ words.crew + cond {A = ℕ} (is_active role) 1 0)
-    (rests : is_active role ≡ false → (v.call ≡ Idle) × (v.books.held ≡ [])) where
+    (rests : is_active role ≡ false → (v.call ≡ Idle) × ((v.books.held ≡ []) × (v.books.half ≡ Neither))) where
   abbrev new : View
   new = record v { standing = record v.standing { role = role; enrolled = known }; seen = counted v.seen }
 
@@ -195,7 +196,7 @@ retired-leads key words views me v log s at may =
     record { was_worker = refl; was_unspent = refl; worker = refl; owner = refl; begun = λ f. absurd (cc); works = λ _. refl }
     v.standing.enrolled (λ n knows. inr knows) (words.crew - 1)
     (let was : cond {A = ℕ} (is_active v.standing.role) 1 0 ≡ 1 = ap (λ (r : Role). cond {A = ℕ} (is_active r) 1 0) may.rests.active in
-    omega (arith, count-set is_active_view views me v (retired v) at, s.roles.count, was)) (λ _. (may.rests.idle, may.none_held))
+    omega (arith, count-set is_active_view views me v (retired v) at, s.roles.count, was)) (λ _. (may.rests.idle, (may.none_held, may.rests.whole)))
 
 module _ (key : Start) (me : ℕ) (v : View) where
   pub enroll-step : v.standing.role ≡ Fresh → (n : ℕ) → IsStep key me Crew n (n + 1) v (enrolled v) none

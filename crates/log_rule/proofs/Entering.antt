@@ -26,12 +26,14 @@ use Rattle.lock_core.proofs.SerialFronts.{IsRunPartly}
 use Rattle.lock_core.proofs.ChangesLemmas.{moved-untouched}
 use Rattle.log_rule.specs.declared.view.Taken.{Taken}
 use Rattle.log_rule.specs.declared.view.Books.{Books}
-use Rattle.log_rule.specs.Books.{task_of, times_held, balance_taken, last_commit_taken, plan_of, IsNext, HoldsLeg, HoldsAccounts, IsNote, MayEnter, placing}
+use Rattle.log_rule.specs.declared.view.Half.TheVariants.{Neither}
+use Rattle.log_rule.specs.Words.{AccountWords}
+use Rattle.log_rule.specs.Books.{task_of, times_held, times_holding, balance_taken, last_commit_taken, plan_of, IsNext, HoldsLeg, HoldsAccounts, IsNote, MayEnter, placing}
 use Rattle.lock_core.proofs.JobLemmas.{note-allowed}
 use Rattle.log_rule.specs.Accounts.{IsAsTaken, HasOneHolder, HasDistinctJobs, moved_if_committed, Follows, AccountsFollowList, KeepsAccounts, MayBeTaken}
 use Rattle.log_rule.proofs.Bookings.{everywhere-set, times_held-found, balance_taken-none, last_commit_taken-all}
 use Rattle.log_rule.proofs.Growing.{IsSameAt, enter_record-accounts_follow}
-use Rattle.log_rule.proofs.Taking.{LastIsOne, distinct_jobs-before_set}
+use Rattle.log_rule.proofs.Taking.{LastIsOne, HoldsByHalf, whole-half, distinct_jobs-before_set}
 use Rattle.lsn_space.specs.declared.lsn.TheConstants.{LAST}
 use Rattle.lsn_space.proofs.TilingLemmas.{all-weaken, all-both}
 use Rattle.lsn_space.proofs.ListLemmas.{summed-set}
@@ -39,9 +41,9 @@ use Rattle.slot_word.specs.AccountWord.{last_commit_in}
 use Rattle.log_rule.proofs.PlanFronts.{IsPlanned, IsSmallLeg, next-planned}
 use Rattle.log_rule.proofs.Planning.{Walk, walk-in_order_rest, planned_records-walk, walk-last_commits, unheld-not_touched, IsHeldLeg, NamesLastCommit, IsFront, Step}
 
-module _ (base : BaseState) (words : ℕ → ℕ) (h : List Placed) (all : List Books) (me : ℕ) (mine : Books) (distinct : HasDistinctJobs all)
+module _ (base : BaseState) (words : ℕ → AccountWords) (h : List Placed) (all : List Books) (me : ℕ) (mine : Books) (distinct : HasDistinctJobs all)
     (holder : HasOneHolder base.accounts words all) (s : AccountsFollowList base words h all) (at : get_elem? all me ≡ some mine)
-    (some_job : 1 ≤ mine.last.number) where
+    (whole : mine.half ≡ Neither) (some_job : 1 ≤ mine.last.number) where
   -- the seat holds the account
   abbrev Mine : ℕ → Type 0
   Mine account = 1 ≤ times_held account mine.held
@@ -70,7 +72,7 @@ module _ (base : BaseState) (words : ℕ → ℕ) (h : List Placed) (all : List 
 
   known : (account : ℕ) → Mine account → account < base.accounts
   known account has = let f = times_held-found (IsAsTaken base.accounts words) account mine.held has (holder.taken me mine at) in
-      subst (λ a. a < base.accounts) f.is f.known.known
+      subst (λ a. a < base.accounts) f.is f.known.marked.known
 
   tied : own_records_of mine.last.number h ≡ before
   tied = ap recs_of (s.placed me mine at some_job)
@@ -138,7 +140,7 @@ module _ (base : BaseState) (words : ℕ → ℕ) (h : List Placed) (all : List 
 
       passes-plain : MeetsTests base h entry → (IsGenesis entry.rec → ⊥) → IsRunPartly base (entry ∷ h) task
           → AccountsFollowList base words (entry ∷ h) (set all me (record mine { placed = entry ∷ mine.placed }))
-      passes-plain meets other ran = enter_record-accounts_follow base words h all me mine entry distinct holder s at some_job own
+      passes-plain meets other ran = enter_record-accounts_follow base words h all me mine entry distinct holder s at whole some_job own
           (passes-all entry own other meets) range-plain (λ account _. same-plain account) follows-plain ran
 
   -- what the log has of the job, once the record is in it
@@ -250,7 +252,7 @@ module _ (base : BaseState) (words : ℕ → ℕ) (h : List Placed) (all : List 
 
     pub commit-enters : AccountsFollowList base words (commit ∷ h) (set all me (placing end (Commit txn legs) mine))
     commit-enters = let list = tied-to txn is-commit.own in
-        enter_record-accounts_follow base words h all me mine commit distinct holder s at some_job is-commit.own
+        enter_record-accounts_follow base words h all me mine commit distinct holder s at whole some_job is-commit.own
         (passes-all commit is-commit.own (λ g. g) record {
           account = tt;
           ended = ap has_end list ∙ unended;
@@ -315,12 +317,12 @@ module _ (base : BaseState) (words : ℕ → ℕ) (h : List Placed) (all : List 
       let is = step few some_amounts holds unended (Note txn text) rest next in note-enters end txn text is.own unended is.cut
 
 -- what a seat's last job is known to be
-module _ (base : BaseState) (words : ℕ → ℕ) (all : List Books) (me : ℕ) (mine : Books) (holder : HasOneHolder base.accounts words all)
+module _ (base : BaseState) (words : ℕ → AccountWords) (all : List Books) (me : ℕ) (mine : Books) (holder : HasOneHolder base.accounts words all)
     (at : get_elem? all me ≡ some mine) where
   marks-fit : (account : ℕ) → last_commit_taken mine.held account ≤ LAST
   marks-fit account = last_commit_taken-all (λ m. m ≤ LAST) account mine.held (omega arith)
       (all-weaken (IsAsTaken base.accounts words) (λ (held : Taken). held.last_commit ≤ LAST) mine.held
-      (λ held t. subst (λ m. m ≤ LAST) t.last_commit (last_commit-fits (words held.account))) (holder.taken me mine at))
+      (λ held t. subst (λ m. m ≤ LAST) t.marked.last_commit (last_commit-fits (words held.account).word)) (holder.taken me mine at))
     where
       last_commit-fits : (word : ℕ) → last_commit_in word ≤ LAST
       last_commit-fits word = grind (arith)
@@ -348,31 +350,34 @@ module _ (base : BaseState) (words : ℕ → ℕ) (all : List Books) (me : ℕ) 
   enters-spellable rec may = (planned may.some_job rec may.next).spellable
 
   -- placing changes neither what is held nor what was taken
-  pub placed-holder : (end : ℕ) (rec : Rec) → HasOneHolder base.accounts words (set all me (placing end rec mine))
-  placed-holder end rec = record {
+  pub placed-holder : (end : ℕ) (rec : Rec) → mine.half ≡ Neither → HasOneHolder base.accounts words (set all me (placing end rec mine))
+  placed-holder end rec whole = record {
     few = holder.few;
-    counts = λ account below. let sum = summed-set (λ (books : Books). times_held account books.held) all me mine (placing end rec mine) at in
+    words_are = holder.words_are;
+    half = everywhere-set (HoldsByHalf base.accounts words) all me (placing end rec mine) holder.half
+        (whole-half base.accounts words (record { end = end; rec = rec } ∷ mine.placed) mine.half whole);
+    counts = λ account below. let sum = summed-set (times_holding account) all me mine (placing end rec mine) at in
         let count = holder.counts account below in omega arith;
     taken = everywhere-set (λ (books : Books). AllByRecursion (IsAsTaken base.accounts words) books.held) all me (placing end rec mine) holder.taken (holder.taken me mine at);
     last = everywhere-set (LastIsOne base.accounts) all me (placing end rec mine) holder.last (holder.last me mine at);
   }
 
 -- the next record of a seat's last job enters the log
-pub may_enter-keeps_accounts : (base : BaseState) (words : ℕ → ℕ) (h : List Placed) (all : List Books) (me : ℕ) (mine : Books) → get_elem? all me ≡ some mine → (end : ℕ) (rec : Rec)
+pub may_enter-keeps_accounts : (base : BaseState) (words : ℕ → AccountWords) (h : List Placed) (all : List Books) (me : ℕ) (mine : Books) → get_elem? all me ≡ some mine → (end : ℕ) (rec : Rec)
     → MayEnter rec mine → KeepsAccounts base words h all
     → KeepsAccounts base words (record { end = end; rec = rec } ∷ h) (set all me (placing end rec mine))
 may_enter-keeps_accounts base words h all me mine at end rec may s = record {
-  holder = placed-holder base words all me mine s.holder at end rec;
+  holder = placed-holder base words all me mine s.holder at end rec may.whole;
   follows = λ distinct. let before = distinct_jobs-before_set base words h all me mine at (placing end rec mine) (λ number. omega arith) distinct in
       by_accounts before may.accounts rec refl may.next (planned base words all me mine s.holder at may.some_job rec may.next);
 }
   where
     by_accounts : HasDistinctJobs all → IsNote rec ⊎ HoldsAccounts mine → (r : Rec) → rec ≡ r → (next : IsNext r mine) → IsPlanned (task_of mine.last) (recs_of mine.placed) r next.rest
         → AccountsFollowList base words (record { end = end; rec = r } ∷ h) (set all me (placing end r mine))
-    by_accounts distinct (inr holds) r same next p = accounts_held-enters base words h all me mine distinct s.holder (s.follows distinct) at may.some_job end r next.rest
+    by_accounts distinct (inr holds) r same next p = accounts_held-enters base words h all me mine distinct s.holder (s.follows distinct) at may.whole may.some_job end r next.rest
         (allowed base words all me mine s.holder at may.some_job).job.legs.few (amounts base words all me mine s.holder at may.some_job) holds p.unended next.plan
     by_accounts distinct (inl note) (Note txn text) same next p =
-        note-enters base words h all me mine distinct s.holder (s.follows distinct) at may.some_job end txn text p.note.own p.unended p.note.cut
+        note-enters base words h all me mine distinct s.holder (s.follows distinct) at may.whole may.some_job end txn text p.note.own p.unended p.note.cut
     by_accounts distinct (inl note) (Genesis account balance) same next p = absurd (subst IsNote same note)
     by_accounts distinct (inl note) (Update txn account delta prev) same next p = absurd (subst IsNote same note)
     by_accounts distinct (inl note) (Commit txn legs) same next p = absurd (subst IsNote same note)

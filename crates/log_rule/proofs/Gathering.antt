@@ -18,7 +18,7 @@ use Rattle.log_rule.specs.declared.view.Entry.{Entry}
 use Rattle.log_rule.specs.declared.view.Role.{Role}
 use Rattle.log_rule.specs.declared.view.Role.TheVariants.{Flusher, Fresh, Active, Ended, Note, Spent}
 use Rattle.log_rule.specs.declared.view.View.{View}
-use Rattle.slot_word.specs.AccountWord.{held_in, balance_in, last_commit_in}
+use Rattle.slot_word.specs.AccountWord.{held_in, last_commit_in}
 use Rattle.log_record.specs.declared.rec.Placed.{Placed}
 use Rattle.log_record.specs.Spelling.{IsBalance}
 use Rattle.lock_core.specs.History.{history_from}
@@ -27,11 +27,11 @@ use Rattle.lock_core.specs.AccountRows.{row}
 use Rattle.lock_core.specs.Sums.{BaseState, IsBalanceOf, last_commit_of, total}
 use Rattle.log_rule.specs.declared.view.Books.{Books}
 use Rattle.log_rule.specs.Accounts.{holders, takers, HasDistinctJobs, WentBack, AccountsFollowList}
-use Rattle.log_rule.specs.Books.{task_of, times_held, times_taken}
+use Rattle.log_rule.specs.Books.{task_of, times_half, times_held, times_holding, times_taken}
 use Rattle.table_layout.specs.AccountWords.{ReadsRows}
 use Rattle.table_layout.proofs.Rows.{get_elem-get_or}
 use Rattle.log_rule.specs.ClosedLog.{HasHeardOfWorkers, IsGathered, IsLedger, HasLedger, records_of, history_of, in_use}
-use Rattle.table_layout.specs.Layout.{Account, Slot, index_of}
+use Rattle.table_layout.specs.Layout.{Account, Balance, Slot, index_of}
 use Rattle.log_rule.proofs.GatheredSeats.{all_jobs-partly_serial}
 use Rattle.log_rule.specs.Log.{Part, Log, own, part_of, parts_of, IsSpelled, ranges_of, Laid, IsFull, IsFullIfReleased, AgreesFrom, IsRangeBoundary, IsEntryBoundary, SpellsRecord, records_in}
 use Rattle.log_rule.specs.Sends.{IsDrained}
@@ -43,7 +43,7 @@ use Rattle.log_rule.specs.Words.{Words, words_in}
 use Rattle.log_rule.proofs.AgreedUnits.{IsFront, agrees-append, full_part-is_spelled, agrees-front_of_joined, front-equal_if_as_long, joined, joined-entries, joined-length}
 use Rattle.log_rule.proofs.Boundaries.{part_size, boundary-entries}
 use Rattle.log_rule.proofs.AccountsKept.{books-at}
-use Rattle.log_rule.proofs.MemberBooks.{held-books_in, jobs-books_in}
+use Rattle.log_rule.proofs.MemberBooks.{held-books_in, half-books_in, jobs-books_in}
 use Rattle.log_rule.proofs.Loads.{ranges_of-part_boundary}
 use Rattle.log_rule.proofs.Resting.{at_rest-all_exposed}
 use Rattle.log_rule.proofs.Vacancy.{slot_word_zero-at_rest, in_use-all_zero}
@@ -229,12 +229,13 @@ module _ (key : Start) (words : Words) (views : List View) (me : ℕ) (v : View)
 
   -- all accounts are free
   none-held : (account : ℕ) → holders account bs ≡ 0
-  none-held account = summed-none (λ (b : Books). times_held account b.held) (books_of log.groups) views
-      (λ j z there. ap (times_held account) (held-books_in log.groups z.call z.books
-      ∙ (s.unheld j z there).0 (rests z.standing.role (no-worker j z there))))
+  none-held account = summed-none (times_holding account) (books_of log.groups) views
+      (λ j z there. let none = (s.unheld j z there).0 (rests z.standing.role (no-worker j z there)) in
+      let held : times_held account (books_of log.groups z).held ≡ 0 = ap (times_held account) (held-books_in log.groups z.call z.books ∙ none.0) in
+      let half : times_half account (books_of log.groups z).half ≡ 0 = ap (times_half account) (half-books_in log.groups z.call z.books ∙ none.1) in omega arith)
 
-  free : (account : ℕ) → account < length key.accounts.rows → held_in (words.account account) ≡ false
-  free account below = by_test (held_in (words.account account)) (sym (none-held account) ∙ s.accounts.holder.counts account below)
+  free : (account : ℕ) → account < length key.accounts.rows → held_in (words.account account).word ≡ false
+  free account below = by_test (held_in (words.account account).word) (sym (none-held account) ∙ s.accounts.holder.counts account below)
     where
       by_test : (b : Bool) → 0 ≡ cond {A = ℕ} b 1 0 → b ≡ false
       by_test true is = absurd (omega arith)
@@ -285,12 +286,15 @@ module _ (key : Start) (words : Words) (views : List View) (me : ℕ) (v : View)
           → IsRow (base_of key) (history_in key log.parts) account (row rows account)
       up-to-date f account below =
           let old' = f.free account below (free account below) in
-          let word-is : words.account account ≡ slice_index ws (index_of key.ring key.slots (Account account)) =
-          ap (λ (w : Words). w.account account) words-are
+          let word-is : (words.account account).word ≡ slice_index ws (index_of key.ring key.slots (Account account)) =
+          ap (λ (w : Words). (w.account account).word) words-are
           ∙ ap (λ t. cond t (slice_index ws (index_of key.ring key.slots (Account account))) 0) (lt-ltb account (length key.accounts.rows) below) in
+          let balance-is : (words.account account).balance ≡ slice_index ws (index_of key.ring key.slots (Balance account)) =
+          ap (λ (w : Words). (w.account account).balance) words-are
+          ∙ ap (λ t. cond t (slice_index ws (index_of key.ring key.slots (Balance account))) 0) (lt-ltb account (length key.accounts.rows) below) in
           let row-is = reads.each account (subst (λ n. account < n) (sym same) below) in
           record {
-            balance = subst (IsBalanceOf (base_of key) (history_in key log.parts) account) (ap balance_in word-is ∙ sym (ap (λ (r : ℕ × ℕ). r.0) row-is)) old'.balance;
+            balance = subst (IsBalanceOf (base_of key) (history_in key log.parts) account) (balance-is ∙ sym (ap (λ (r : ℕ × ℕ). r.0) row-is)) old'.balance;
             last_commit = old'.last_commit ∙ (ap last_commit_in word-is ∙ sym (ap (λ (r : ℕ × ℕ). r.1) row-is));
           }
 

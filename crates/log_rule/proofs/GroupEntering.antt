@@ -11,6 +11,7 @@ use Rattle.lock_core.specs.Sums.{BaseState}
 use Rattle.log_rule.specs.declared.view.Books.{Books}
 use Rattle.log_rule.specs.Accounts.{KeepsAccounts}
 use Rattle.log_rule.specs.Books.{MayEnter, placing}
+use Rattle.log_rule.specs.Words.{AccountWords}
 use Rattle.log_rule.proofs.Entering.{may_enter-keeps_accounts}
 
 -- a seat whose record enters, with its books, and where the record ends
@@ -55,7 +56,7 @@ still-may all seat new [] apart may = tt
 still-may all seat new (e ∷ es) apart may =
     (record { at = set_else all seat e.seat new apart.0 ∙ may.0.at; may = may.0.may }, still-may all seat new es apart.1 may.1)
 
-pub enter_all-keeps_accounts : (base : BaseState) (words : ℕ → ℕ) (h : List Placed) (all : List Books) (es : List Entrant) → AreApart es
+pub enter_all-keeps_accounts : (base : BaseState) (words : ℕ → AccountWords) (h : List Placed) (all : List Books) (es : List Entrant) → AreApart es
     → AllByRecursion (MayEnterAs all) es → KeepsAccounts base words h all → KeepsAccounts base words (history_with es h) (books_with es all)
 enter_all-keeps_accounts base words h all [] apart may s = s
 enter_all-keeps_accounts base words h all (e ∷ es) apart may s =

@@ -1,5 +1,5 @@
 -- A record of a seat's last job enters the log, whatever its kind.
-use Rattle.std.proofs.Common.{◌≡◌, ◌≢◌, ◌⊎◌, ℕ, ◌+◌, ◌≤◌, ◌<◌, cond, Bool, true, false, List, ◌∷◌, set, sym, ap, ◌∙◌, subst, arith}
+use Rattle.std.proofs.Common.{◌≡◌, ◌≢◌, ◌⊎◌, ℕ, ◌+◌, ◌≤◌, ◌<◌, cond, Bool, true, false, List, ◌∷◌, set, sym, refl, ap, ◌∙◌, subst, arith}
 use Rattle.std.specs.List.{AllByRecursion}
 use mathlib.Core.Logic.{dite}
 use mathlib.Core.Option.{some}
@@ -20,9 +20,13 @@ use Rattle.log_rule.specs.declared.view.TakenJob.{TakenJob}
 use Rattle.log_rule.specs.declared.view.Taken.{Taken}
 use Rattle.log_rule.specs.declared.view.Given.{Given}
 use Rattle.log_rule.specs.declared.view.Books.{Books}
-use Rattle.log_rule.specs.Books.{task_of, times_held, times_taken}
-use Rattle.log_rule.specs.Accounts.{takers, IsAsTaken, HasOneHolder, HasDistinctJobs, Follows, WentBack, AccountsFollowList}
-use Rattle.log_rule.proofs.Bookings.{everywhere-set_weaken, everywhere-set, all-weaken_if_held, all-weaken_if_taken, distinct_jobs-numbers_differ}
+use Rattle.log_rule.specs.declared.view.Half.{Half}
+use Rattle.log_rule.specs.declared.view.Half.TheVariants.{Neither, Taking, Giving}
+use Rattle.log_rule.specs.Books.{task_of, times_half, times_held, times_holding, times_taken}
+use Rattle.log_rule.specs.Words.{AccountWords}
+use Rattle.log_rule.specs.Accounts.{takers, IsAsTaken, IsHalf, HasOneHolder, HasDistinctJobs, Follows, HalfFollows, WentBack, AccountsFollowList}
+use Rattle.log_rule.proofs.Bookings.{everywhere-set_weaken, everywhere-set, all-weaken_if_held, all-weaken_if_taken, distinct_jobs-numbers_differ, cond-one_if_equal}
+use Rattle.log_rule.proofs.Taking.{FollowsByHalf, whole-half_follows}
 
 -- the entry leaves the account as it was
 pub record IsSameAt (base : BaseState) (h : List Placed) (entry : Placed) (account : ℕ) : Type 0 where
@@ -35,6 +39,16 @@ follows-same : (base : BaseState) (h placed : List Placed) (entry : Placed) (hel
 follows-same base h placed entry held same old =
     let added = same.added in let taken = same.taken in let balance = old.balance in record { balance = omega arith; last_commit = same.last_commit ∙ old.last_commit }
 
+-- so of an account that is held by half
+half_follows-same : (accounts : ℕ) (words : ℕ → AccountWords) (base : BaseState) (h placed : List Placed) (entry : Placed) (half : Half) → IsHalf accounts words placed half
+    → ((account : ℕ) → account < accounts → 1 ≤ times_half account half → IsSameAt base h entry account)
+    → HalfFollows base words h placed half → HalfFollows base words (entry ∷ h) placed half
+half_follows-same accounts words base h placed entry Neither is same old = tt
+half_follows-same accounts words base h placed entry (Taking account last_commit) is same old = follows-same base h placed entry _
+    (same account is.known (let one = cond-one_if_equal account account refl in omega arith)) old
+half_follows-same accounts words base h placed entry (Giving taken balance) is same old = follows-same base h placed entry taken
+    (same taken.account is.0.known (let one = cond-one_if_equal taken.account taken.account refl in omega arith)) old
+
 -- a front of the list stays one
 still-back : (base : BaseState) (h : List Placed) (entry : Placed) (given : Given) → WentBack base h given → WentBack base (entry ∷ h) given
 still-back base h entry given old uncommitted = let was = old uncommitted in record {
@@ -46,26 +60,26 @@ still-back base h entry given old uncommitted = let was = old uncommitted in rec
 }
 
 -- a held account of one seat is held by no other
-pub one_holder-unheld_by_others : (accounts : ℕ) (words : ℕ → ℕ) (all : List Books) → HasOneHolder accounts words all → (i j : ℕ) (x y : Books) → get_elem? all i ≡ some x
-    → get_elem? all j ≡ some y → j ≢ i → (account : ℕ) → account < accounts → 1 ≤ times_held account y.held → times_held account x.held ≡ 0
+pub one_holder-unheld_by_others : (accounts : ℕ) (words : ℕ → AccountWords) (all : List Books) → HasOneHolder accounts words all → (i j : ℕ) (x y : Books) → get_elem? all i ≡ some x
+    → get_elem? all j ≡ some y → j ≢ i → (account : ℕ) → account < accounts → 1 ≤ times_holding account y → times_held account x.held ≡ 0
 one_holder-unheld_by_others accounts words all holder i j x y here there differ account below has =
-    at_most (held_in (words account)) (holder.counts account below)
-    (summed-two_members_le (λ (books : Books). times_held account books.held) all i j x y here there differ) has
+    let none = at_most (held_in (words account).word) (holder.counts account below)
+    (summed-two_members_le (times_holding account) all i j x y here there differ) has in omega (arith, none)
   where
     at_most : (b : Bool) {n m k : ℕ} → k ≡ cond b 1 0 → n + m ≤ k → 1 ≤ m → n ≡ 0
     at_most true count two has = omega arith
     at_most false count two has = omega arith
 
 -- a free account is held by no seat
-pub free-unheld : (accounts : ℕ) (words : ℕ → ℕ) (all : List Books) → HasOneHolder accounts words all → (i : ℕ) (x : Books) → get_elem? all i ≡ some x
-    → (account : ℕ) → account < accounts → held_in (words account) ≡ false → times_held account x.held ≡ 0
+pub free-unheld : (accounts : ℕ) (words : ℕ → AccountWords) (all : List Books) → HasOneHolder accounts words all → (i : ℕ) (x : Books) → get_elem? all i ≡ some x
+    → (account : ℕ) → account < accounts → held_in (words account).word ≡ false → times_held account x.held ≡ 0
 free-unheld accounts words all holder i x here account below free =
-    let none : cond {A = ℕ} (held_in (words account)) 1 0 ≡ 0 = ap (λ b. cond {A = ℕ} b 1 0) free in
-    let one = summed-member_le (λ (books : Books). times_held account books.held) all i x here in let count = holder.counts account below in omega arith
+    let none : cond {A = ℕ} (held_in (words account).word) 1 0 ≡ 0 = ap (λ b. cond {A = ℕ} b 1 0) free in
+    let one = summed-member_le (times_holding account) all i x here in let count = holder.counts account below in omega arith
 
-module _ (base : BaseState) (words : ℕ → ℕ) (h : List Placed) (all : List Books) (me : ℕ) (mine : Books) (entry : Placed)
+module _ (base : BaseState) (words : ℕ → AccountWords) (h : List Placed) (all : List Books) (me : ℕ) (mine : Books) (entry : Placed)
     (distinct : HasDistinctJobs all) (holder : HasOneHolder base.accounts words all) (s : AccountsFollowList base words h all)
-    (at : get_elem? all me ≡ some mine) (some_job : 1 ≤ mine.last.number) (own : txn_of entry.rec ≡ mine.last.number) where
+    (at : get_elem? all me ≡ some mine) (whole : mine.half ≡ Neither) (some_job : 1 ≤ mine.last.number) (own : txn_of entry.rec ≡ mine.last.number) where
   abbrev new : Books
   new = record mine { placed = entry ∷ mine.placed }
 
@@ -113,7 +127,11 @@ module _ (base : BaseState) (words : ℕ → ℕ) (h : List Placed) (all : List 
         (λ j x differ there old. all-weaken_if_held (λ z. IsAsTaken base.accounts words z × Follows base h x.placed z) (Follows base (entry ∷ h) x.placed) x.held
         (all-both (IsAsTaken base.accounts words) (Follows base h x.placed) _ x.held (λ _ a b. (a, b)) (holder.taken j x there) old)
         (λ z has p. follows-same base h x.placed entry z
-        (same z.account (one_holder-unheld_by_others base.accounts words all holder me j mine x at there differ z.account p.0.known has)) p.1));
+        (same z.account (one_holder-unheld_by_others base.accounts words all holder me j mine x at there differ z.account p.0.marked.known (omega (arith, has)))) p.1));
+    half = everywhere-set_weaken (FollowsByHalf base words h) (FollowsByHalf base words (entry ∷ h)) all me new s.half
+        (whole-half_follows base words (entry ∷ h) (entry ∷ mine.placed) mine.half whole)
+        (λ j x differ there old. half_follows-same base.accounts words base h x.placed entry x.half (holder.half j x there)
+        (λ account below has. same account (one_holder-unheld_by_others base.accounts words all holder me j mine x at there differ account below (omega (arith, has)))) old);
     given = everywhere-set_weaken (λ (b : Books). AllByRecursion (WentBack base h) b.given) (λ (b : Books). AllByRecursion (WentBack base (entry ∷ h)) b.given)
         all me new s.given
         (all-weaken (WentBack base h) (WentBack base (entry ∷ h)) mine.given (still-back base h entry) (s.given me mine at))

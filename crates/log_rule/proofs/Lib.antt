@@ -27,6 +27,7 @@ mod Growing
 pub mod LeaderPlacing
 mod Lifting
 pub mod Lists
+mod Loading
 pub mod Loads
 mod MachineShown
 mod MarkLooks
@@ -67,6 +68,7 @@ mod SlotWords
 pub mod Splitting
 pub mod Starting
 pub mod Stopping
+mod Storing
 pub mod TailMoving
 mod Taking
 mod ToldMembers

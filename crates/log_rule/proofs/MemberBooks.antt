@@ -51,3 +51,6 @@ held-books_in = call-tells (λ (books : Books). books.held) (λ _ _ _. refl)
 
 pub jobs-books_in : (groups : ℕ → Group) (call : Call) (books : Books) → (books_in groups call books).jobs ≡ books.jobs
 jobs-books_in = call-tells (λ (books : Books). books.jobs) (λ _ _ _. refl)
+
+pub half-books_in : (groups : ℕ → Group) (call : Call) (books : Books) → (books_in groups call books).half ≡ books.half
+half-books_in = call-tells (λ (books : Books). books.half) (λ _ _ _. refl)

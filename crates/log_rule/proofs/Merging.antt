@@ -113,7 +113,8 @@ module _ (key : Start) (words : Words) (views : List View) (me other : ℕ) (v o
       (subst (λ records. KeepsAccounts (base_of key) words.account (history_from key.start [] records) (set (set bs me (merging v.books o.books)) other no_books))
       (sym (records-renamed other me log.parts))
       (join-keeps_accounts (base_of key) words.account (history_in key log.parts) bs me other v.books o.books apart (books-at log.groups views me v idle at)
-      (books-at log.groups views other o idle' there) ((s.unheld other o there).0 (has_ended-not_active o.standing.role may.ended)) s.accounts))
+      (books-at log.groups views other o idle' there) ((s.unheld other o there).0 (has_ended-not_active o.standing.role may.ended)).0
+      ((s.unheld other o there).0 (has_ended-not_active o.standing.role may.ended)).1 s.accounts))
 
   -- what both heard
   heard-merged : EachPair (λ _ y _ z. HeardOfWorkers y z) (set (without views other) me new)
@@ -187,7 +188,7 @@ module _ (key : Start) (words : Words) (views : List View) (me other : ℕ) (v o
     quiet = rests_if_quiet-set (without views other) me v new
         (rests_if_quiet-set views other o nobody s.quiet there (λ _ _ _ _ f. absurd (cc)) (λ _ _ _ _. refl)) (at-without views me other v at apart) (λ _ _ _ h. h) (λ _ h. h);
     looked = each-merged views me other new (λ _ z. LookedIfQuiet words.exposed z) s.looked (λ f. absurd (cc)) (s.looked me v at);
-    unheld = each-merged views me other new (λ _ z. HoldsIfActive z) s.unheld ((λ _. refl), (λ _. refl))
+    unheld = each-merged views me other new (λ _ z. HoldsIfActive z) s.unheld ((λ _. (refl, refl)), (λ _. refl))
         ((s.unheld me v at).0, (λ off. absurd (true≢false (sym (ap Rattle.log_rule.specs.Roles.may_own may.flusher) ∙ off))));
     accounts = accounts-merged;
     in_group = s.in_group;

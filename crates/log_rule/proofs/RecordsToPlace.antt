@@ -6,6 +6,7 @@ use Rattle.log_record.specs.declared.rec.Placed.{Placed}
 use Rattle.lock_core.specs.Alone.{planned_from, with_note}
 use Rattle.lock_core.specs.Transactions.{recs_of, in_order}
 use Rattle.log_rule.specs.declared.view.Books.{Books}
+use Rattle.log_rule.specs.declared.view.Half.TheVariants.{Neither}
 use Rattle.log_rule.specs.Books.{balance_taken, last_commit_taken, next_of, IsNext, IsNote, HoldsAccounts, MayEnter}
 use Rattle.lock_core.specs.Transfers.{note_of}
 
@@ -22,9 +23,9 @@ pub is_next-next_of : (rec : Rec) (books : Books) → IsNext rec books → next_
 is_next-next_of rec books next = ap (λ plan. get_or plan (length books.placed) (Note 0 [])) (sym next.plan) ∙ get_or-in_order books.placed (rec ∷ next.rest) (Note 0 [])
 
 -- a record that comes next may be placed
-pub may-enter : (rec : Rec) (books : Books) → 1 ≤ books.last.number → IsNext rec books → IsNote rec ⊎ HoldsAccounts books → MayEnter (next_of books) books
-may-enter rec books some_job next accounts = subst (λ r. MayEnter r books) (sym (is_next-next_of rec books next))
-    record { some_job = some_job; next = next; accounts = accounts }
+pub may-enter : (rec : Rec) (books : Books) → books.half ≡ Neither → 1 ≤ books.last.number → IsNext rec books → IsNote rec ⊎ HoldsAccounts books → MayEnter (next_of books) books
+may-enter rec books whole some_job next accounts = subst (λ r. MayEnter r books) (sym (is_next-next_of rec books next))
+    record { whole = whole; some_job = some_job; next = next; accounts = accounts }
 
 -- the Note of a job that has one is the first
 pub note-next : (books : Books) (text : List ℕ) → books.placed ≡ [] → books.last.job.note ≡ Some text → 1 ≤ length text → IsNext (Note books.last.number text) books

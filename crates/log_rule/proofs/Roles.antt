@@ -19,7 +19,7 @@ use Rattle.log_rule.specs.Sound.{EachView, EachPair, HasSeenBoundaries, SendsIfF
 use Rattle.log_rule.specs.Roles.{is_active, is_worker, is_working}
 use Rattle.log_rule.specs.Slots.{pieces_at, phase_at, KnowsGroup}
 use Rattle.log_rule.specs.Views.{entries_in, books_in, claims_in}
-use Rattle.log_rule.specs.Words.{Words}
+use Rattle.log_rule.specs.Words.{Words, AccountWords}
 use Rattle.log_rule.specs.Accounts.{KeepsAccounts}
 use Rattle.log_rule.proofs.Carriers.{carrier-set}
 use Rattle.log_rule.proofs.Members.{KeepsView}
@@ -99,7 +99,7 @@ same-call groups seat old new is = subst (HasSame groups seat old) (sym is)
     record { entries = refl; claims = refl; books = λ _. refl; pieces = λ _. refl; phases = λ _. refl; knows = λ known. known }
 
 -- the seat's view, the crew and the accounts change, but not what the seat owns or has reserved, nor what it has at the slots
-module _ (key : Start) (words : Words) (stop crew : ℕ) (account : ℕ → ℕ) (views : List View) (me : ℕ) (v new : View) (log : Log) (s : IsSound key words views log)
+module _ (key : Start) (words : Words) (stop crew : ℕ) (account : ℕ → AccountWords) (views : List View) (me : ℕ) (v new : View) (log : Log) (s : IsSound key words views log)
     (at : get_elem? views me ≡ some v) (same : HasSame log.groups me v.call new.call)
     (carries : IsFirstReleased log.ahead → Carries words.exposed v.call → Carries words.exposed new.call)
     (ends : HasTrueEnds key.start words.exposed log new.call) (entries : new.entries ≡ v.entries)
@@ -151,7 +151,7 @@ module _ (key : Start) (words : Words) (stop crew : ℕ) (account : ℕ → ℕ)
   }
 
 -- nor what it has under way
-module _ (key : Start) (words : Words) (stop crew : ℕ) (account : ℕ → ℕ) (views : List View) (me : ℕ) (v new : View) (log : Log) (s : IsSound key words views log)
+module _ (key : Start) (words : Words) (stop crew : ℕ) (account : ℕ → AccountWords) (views : List View) (me : ℕ) (v new : View) (log : Log) (s : IsSound key words views log)
     (at : get_elem? views me ≡ some v) (call : new.call ≡ v.call) (entries : new.entries ≡ v.entries)
     (sees : HasSeenBoundaries key.start words.tail words.exposed words.durable (ranges_of log) new.seen) (constants : HasConstants key new)
     (rests : RestsUnlessActive new) (owns : OwnsIfWorker new) (roles : HasSoundCrew crew (set views me new))

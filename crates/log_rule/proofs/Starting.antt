@@ -14,13 +14,13 @@ use Rattle.log_rule.specs.Members.{LoadsForGroup, AwaitsPlace, HasTotalOfWorkers
 use Rattle.log_rule.specs.Sound.{EachView, HasSeenBoundaries, SendsIfFlusher, StoresStop, HasReadStop, RestsIfQuiet, LookedIfQuiet, HasWorkingOwner, HasConstants, RestsUnlessActive, OwnsIfWorker, HoldsIfActive, base_of, HasSoundRole, HasSoundRoles, IsSound, Ruled}
 use Rattle.log_rule.specs.Views.{flusher, nobody}
 use Rattle.log_rule.specs.Words.{Words, words_in}
-use Rattle.slot_word.specs.AccountWord.{packed, held_in, balance_in, last_commit_in}
-use Rattle.slot_word.proofs.AccountWordLemmas.{held_back, balance_back, last_commit_back}
+use Rattle.slot_word.specs.AccountWord.{packed, held_in, last_commit_in, IsAccountWord}
+use Rattle.slot_word.proofs.AccountWordLemmas.{packed-account_word, held_back, last_commit_back}
 use Rattle.log_record.specs.Spelling.{IsBalance}
 use Rattle.lock_core.specs.AccountRows.{row}
 use Rattle.log_rule.specs.Accounts.{KeepsAccounts}
 use Rattle.log_rule.specs.Books.{no_books}
-use Rattle.table_layout.specs.Layout.{Mark, Slot, Account, index_of, word_count}
+use Rattle.table_layout.specs.Layout.{Mark, Slot, Account, Balance, index_of, word_count}
 use Rattle.table_layout.specs.AccountWords.{PutsAccounts}
 use Rattle.log_rule.specs.FirstAccounts.{HasAccounts}
 use Rattle.log_rule.proofs.GatheredSeats.{start-keeps_accounts}
@@ -96,7 +96,7 @@ module _ (key : Start) (words : Words) (least : LEAST_RING ≤ key.ring) (most :
     read_stop = alone (λ _ z. HasReadStop words.stop z) (inl refl);
     quiet = alone _ (alone (λ _ z. RestsIfQuiet (flusher key) z) (λ _ e. absurd (true≢false (sym e))));
     looked = alone (λ _ z. LookedIfQuiet words.exposed z) (λ _ e. absurd (true≢false (sym e)));
-    unheld = alone (λ _ z. HoldsIfActive z) ((λ _. refl), (λ off. absurd (true≢false off)));
+    unheld = alone (λ _ z. HoldsIfActive z) ((λ _. (refl, refl)), (λ off. absurd (true≢false off)));
     accounts = accounts;
     in_group = λ _. record { members_seen = tt; outcome = tt };
     loads = alone (λ _ z. LoadsForGroup empty_log.groups z.seen z.call) tt;
@@ -188,14 +188,18 @@ start-allowed key ws zeros least most small has zero-is puts = (
             zero-at (RING + key.ring + key.ring + STRIDE * slot) (λ e. omega arith) (λ e. omega arith) (λ e. omega arith) (omega arith)
         by_test false is = refl
 
-    first : (account : ℕ) → account < count → (held_in ((words_in key ws).account account) ≡ false)
-        × (balance_in ((words_in key ws).account account) ≡ (base_of key).balance account)
-        × (last_commit_in ((words_in key ws).account account) ≡ (base_of key).last_commit account) × IsBalance ((base_of key).balance account)
+    first : (account : ℕ) → account < count → (held_in ((words_in key ws).account account).word ≡ false)
+        × (((words_in key ws).account account).balance ≡ (base_of key).balance account)
+        × (last_commit_in ((words_in key ws).account account).word ≡ (base_of key).last_commit account) × IsBalance ((base_of key).balance account)
+        × IsAccountWord ((words_in key ws).account account).word
     first account below = let range = has.balances account below in let last = has.last_commits account below in
-        let is : (words_in key ws).account account ≡ packed false (row key.accounts.rows account).0 (row key.accounts.rows account).1 =
-        ap (λ (t : Bool). cond t (get_or ws (index_of key.ring key.slots (Account account)) 0) 0) (lt-ltb account count below) ∙ puts.each account below in (
-          ap held_in is ∙ held_back false _ _ (omega arith) (omega arith),
-          ap balance_in is ∙ balance_back false _ _ (omega arith) (omega arith),
-          ap last_commit_in is ∙ last_commit_back false _ _ (omega arith) (omega arith),
+        let is : ((words_in key ws).account account).word ≡ packed false (row key.accounts.rows account).1 =
+        ap (λ (t : Bool). cond t (get_or ws (index_of key.ring key.slots (Account account)) 0) 0) (lt-ltb account count below) ∙ puts.each account below in
+        let is-balance : ((words_in key ws).account account).balance ≡ (row key.accounts.rows account).0 =
+        ap (λ (t : Bool). cond t (get_or ws (index_of key.ring key.slots (Balance account)) 0) 0) (lt-ltb account count below) ∙ puts.balances account below in (
+          ap held_in is ∙ held_back false _ (omega arith),
+          is-balance,
+          ap last_commit_in is ∙ last_commit_back false _ (omega arith),
           range,
+          subst IsAccountWord (sym is) (packed-account_word false _ (omega arith)),
         )

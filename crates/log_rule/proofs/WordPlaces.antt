@@ -2,8 +2,8 @@
 use Rattle.std.proofs.Common.{◌≡◌, ◌≢◌, ℕ, ◌<◌, cond, nat_lt, Bool, true, false, List, length, get_or, set, get_or-set_same, get_or-set_other, sym, refl, ap, ◌∙◌, arith, eq-eqb, ne_eqb, ltb-true, lt-ltb}
 use mathlib.Core.Logic.{dite}
 use native.Mathlib.Decide.{ℕ_discrete}
-use Rattle.table_layout.specs.Layout.{Word, Tail, Exposed, Durable, Stop, Crew, Ring, Mark, Slot, Base, Account, index_of, word_count}
-use Rattle.table_layout.proofs.WordPlaces.{Fits, shared_tail, shared_exposed, shared_durable, shared_stop, shared_crew, in_ring, in_marks, of_slot, of_base, of_account, index-injective}
+use Rattle.table_layout.specs.Layout.{Word, Tail, Exposed, Durable, Stop, Crew, Ring, Mark, Slot, Base, Account, Balance, index_of, word_count}
+use Rattle.table_layout.proofs.WordPlaces.{Fits, shared_tail, shared_exposed, shared_durable, shared_stop, shared_crew, in_ring, in_marks, of_slot, of_base, of_account, of_balance, index-injective}
 use Rattle.log_rule.specs.Words.{read, words_of, word_at, put, with_word}
 
 module _ (size slots accounts : ℕ) where
@@ -74,6 +74,12 @@ module _ (size slots accounts : ℕ) where
   account-apart : (account k : ℕ) → Account account ≡ Account k → k ≡ account
   account-apart account k e = cc
 
+  balance-fits : (k : ℕ) → k < accounts → Fits size slots accounts (Balance k)
+  balance-fits k below = of_balance k below
+
+  balance-apart : (account k : ℕ) → Balance account ≡ Balance k → k ≡ account
+  balance-apart account k e = cc
+
   pub words_of-set : (ws : List ℕ) (word : Word) (x : ℕ) → Fits size slots accounts word → length ws ≡ word_count size slots accounts
       → words_of size slots accounts (set ws (index_of size slots word) x) ≡ with_word (words_of size slots accounts ws) word x
   words_of-set ws Tail x fits len i = record {
@@ -86,7 +92,10 @@ module _ (size slots accounts : ℕ) where
     mark = λ k. row-other ws Tail x fits size Mark mark-fits k (λ e. cc) i;
     slot = λ k. row-other ws Tail x fits slots Slot slot-fits k (λ e. cc) i;
     base = λ k. row-other ws Tail x fits slots Base base-fits k (λ e. cc) i;
-    account = λ k. row-other ws Tail x fits accounts Account account-fits k (λ e. cc) i;
+    account = λ k. record {
+      word = row-other ws Tail x fits accounts Account account-fits k (λ e. cc) i;
+      balance = row-other ws Tail x fits accounts Balance balance-fits k (λ e. cc) i;
+    };
   }
   words_of-set ws Exposed x fits len i = record {
     tail = read-other ws Exposed x fits Tail shared_tail (λ e. cc) i;
@@ -98,7 +107,10 @@ module _ (size slots accounts : ℕ) where
     mark = λ k. row-other ws Exposed x fits size Mark mark-fits k (λ e. cc) i;
     slot = λ k. row-other ws Exposed x fits slots Slot slot-fits k (λ e. cc) i;
     base = λ k. row-other ws Exposed x fits slots Base base-fits k (λ e. cc) i;
-    account = λ k. row-other ws Exposed x fits accounts Account account-fits k (λ e. cc) i;
+    account = λ k. record {
+      word = row-other ws Exposed x fits accounts Account account-fits k (λ e. cc) i;
+      balance = row-other ws Exposed x fits accounts Balance balance-fits k (λ e. cc) i;
+    };
   }
   words_of-set ws Durable x fits len i = record {
     tail = read-other ws Durable x fits Tail shared_tail (λ e. cc) i;
@@ -110,7 +122,10 @@ module _ (size slots accounts : ℕ) where
     mark = λ k. row-other ws Durable x fits size Mark mark-fits k (λ e. cc) i;
     slot = λ k. row-other ws Durable x fits slots Slot slot-fits k (λ e. cc) i;
     base = λ k. row-other ws Durable x fits slots Base base-fits k (λ e. cc) i;
-    account = λ k. row-other ws Durable x fits accounts Account account-fits k (λ e. cc) i;
+    account = λ k. record {
+      word = row-other ws Durable x fits accounts Account account-fits k (λ e. cc) i;
+      balance = row-other ws Durable x fits accounts Balance balance-fits k (λ e. cc) i;
+    };
   }
   words_of-set ws Stop x fits len i = record {
     tail = read-other ws Stop x fits Tail shared_tail (λ e. cc) i;
@@ -122,7 +137,10 @@ module _ (size slots accounts : ℕ) where
     mark = λ k. row-other ws Stop x fits size Mark mark-fits k (λ e. cc) i;
     slot = λ k. row-other ws Stop x fits slots Slot slot-fits k (λ e. cc) i;
     base = λ k. row-other ws Stop x fits slots Base base-fits k (λ e. cc) i;
-    account = λ k. row-other ws Stop x fits accounts Account account-fits k (λ e. cc) i;
+    account = λ k. record {
+      word = row-other ws Stop x fits accounts Account account-fits k (λ e. cc) i;
+      balance = row-other ws Stop x fits accounts Balance balance-fits k (λ e. cc) i;
+    };
   }
   words_of-set ws Crew x fits len i = record {
     tail = read-other ws Crew x fits Tail shared_tail (λ e. cc) i;
@@ -134,7 +152,10 @@ module _ (size slots accounts : ℕ) where
     mark = λ k. row-other ws Crew x fits size Mark mark-fits k (λ e. cc) i;
     slot = λ k. row-other ws Crew x fits slots Slot slot-fits k (λ e. cc) i;
     base = λ k. row-other ws Crew x fits slots Base base-fits k (λ e. cc) i;
-    account = λ k. row-other ws Crew x fits accounts Account account-fits k (λ e. cc) i;
+    account = λ k. record {
+      word = row-other ws Crew x fits accounts Account account-fits k (λ e. cc) i;
+      balance = row-other ws Crew x fits accounts Balance balance-fits k (λ e. cc) i;
+    };
   }
   words_of-set ws (Ring index) x (in_ring _ below) len i = record {
     tail = read-other ws (Ring index) x (in_ring index below) Tail shared_tail (λ e. cc) i;
@@ -146,7 +167,10 @@ module _ (size slots accounts : ℕ) where
     mark = λ k. row-other ws (Ring index) x (in_ring index below) size Mark mark-fits k (λ e. cc) i;
     slot = λ k. row-other ws (Ring index) x (in_ring index below) slots Slot slot-fits k (λ e. cc) i;
     base = λ k. row-other ws (Ring index) x (in_ring index below) slots Base base-fits k (λ e. cc) i;
-    account = λ k. row-other ws (Ring index) x (in_ring index below) accounts Account account-fits k (λ e. cc) i;
+    account = λ k. record {
+      word = row-other ws (Ring index) x (in_ring index below) accounts Account account-fits k (λ e. cc) i;
+      balance = row-other ws (Ring index) x (in_ring index below) accounts Balance balance-fits k (λ e. cc) i;
+    };
   }
   words_of-set ws (Mark index) x (in_marks _ below) len i = record {
     tail = read-other ws (Mark index) x (in_marks index below) Tail shared_tail (λ e. cc) i;
@@ -158,7 +182,10 @@ module _ (size slots accounts : ℕ) where
     mark = λ k. row-put ws (Mark index) x (in_marks index below) size Mark mark-fits index below refl (mark-apart index) (omega (arith, len, below)) k i;
     slot = λ k. row-other ws (Mark index) x (in_marks index below) slots Slot slot-fits k (λ e. cc) i;
     base = λ k. row-other ws (Mark index) x (in_marks index below) slots Base base-fits k (λ e. cc) i;
-    account = λ k. row-other ws (Mark index) x (in_marks index below) accounts Account account-fits k (λ e. cc) i;
+    account = λ k. record {
+      word = row-other ws (Mark index) x (in_marks index below) accounts Account account-fits k (λ e. cc) i;
+      balance = row-other ws (Mark index) x (in_marks index below) accounts Balance balance-fits k (λ e. cc) i;
+    };
   }
   words_of-set ws (Slot slot) x (of_slot _ below) len i = record {
     tail = read-other ws (Slot slot) x (of_slot slot below) Tail shared_tail (λ e. cc) i;
@@ -170,7 +197,10 @@ module _ (size slots accounts : ℕ) where
     mark = λ k. row-other ws (Slot slot) x (of_slot slot below) size Mark mark-fits k (λ e. cc) i;
     slot = λ k. row-put ws (Slot slot) x (of_slot slot below) slots Slot slot-fits slot below refl (slot-apart slot) (omega (arith, len, below)) k i;
     base = λ k. row-other ws (Slot slot) x (of_slot slot below) slots Base base-fits k (λ e. cc) i;
-    account = λ k. row-other ws (Slot slot) x (of_slot slot below) accounts Account account-fits k (λ e. cc) i;
+    account = λ k. record {
+      word = row-other ws (Slot slot) x (of_slot slot below) accounts Account account-fits k (λ e. cc) i;
+      balance = row-other ws (Slot slot) x (of_slot slot below) accounts Balance balance-fits k (λ e. cc) i;
+    };
   }
   words_of-set ws (Base slot) x (of_base _ below) len i = record {
     tail = read-other ws (Base slot) x (of_base slot below) Tail shared_tail (λ e. cc) i;
@@ -182,7 +212,10 @@ module _ (size slots accounts : ℕ) where
     mark = λ k. row-other ws (Base slot) x (of_base slot below) size Mark mark-fits k (λ e. cc) i;
     slot = λ k. row-other ws (Base slot) x (of_base slot below) slots Slot slot-fits k (λ e. cc) i;
     base = λ k. row-put ws (Base slot) x (of_base slot below) slots Base base-fits slot below refl (base-apart slot) (omega (arith, len, below)) k i;
-    account = λ k. row-other ws (Base slot) x (of_base slot below) accounts Account account-fits k (λ e. cc) i;
+    account = λ k. record {
+      word = row-other ws (Base slot) x (of_base slot below) accounts Account account-fits k (λ e. cc) i;
+      balance = row-other ws (Base slot) x (of_base slot below) accounts Balance balance-fits k (λ e. cc) i;
+    };
   }
   words_of-set ws (Account account) x (of_account _ below) len i = record {
     tail = read-other ws (Account account) x (of_account account below) Tail shared_tail (λ e. cc) i;
@@ -194,7 +227,25 @@ module _ (size slots accounts : ℕ) where
     mark = λ k. row-other ws (Account account) x (of_account account below) size Mark mark-fits k (λ e. cc) i;
     slot = λ k. row-other ws (Account account) x (of_account account below) slots Slot slot-fits k (λ e. cc) i;
     base = λ k. row-other ws (Account account) x (of_account account below) slots Base base-fits k (λ e. cc) i;
-    account = λ k. row-put ws (Account account) x (of_account account below) accounts Account account-fits account below refl (account-apart account) (omega (arith, len, below)) k i;
+    account = λ k. record {
+      word = row-put ws (Account account) x (of_account account below) accounts Account account-fits account below refl (account-apart account) (omega (arith, len, below)) k i;
+      balance = row-other ws (Account account) x (of_account account below) accounts Balance balance-fits k (λ e. cc) i;
+    };
+  }
+  words_of-set ws (Balance account) x (of_balance _ below) len i = record {
+    tail = read-other ws (Balance account) x (of_balance account below) Tail shared_tail (λ e. cc) i;
+    exposed = read-other ws (Balance account) x (of_balance account below) Exposed shared_exposed (λ e. cc) i;
+    durable = read-other ws (Balance account) x (of_balance account below) Durable shared_durable (λ e. cc) i;
+    stop = read-other ws (Balance account) x (of_balance account below) Stop shared_stop (λ e. cc) i;
+    crew = read-other ws (Balance account) x (of_balance account below) Crew shared_crew (λ e. cc) i;
+    ring = λ k. row-other ws (Balance account) x (of_balance account below) size Ring ring-fits k (λ e. cc) i;
+    mark = λ k. row-other ws (Balance account) x (of_balance account below) size Mark mark-fits k (λ e. cc) i;
+    slot = λ k. row-other ws (Balance account) x (of_balance account below) slots Slot slot-fits k (λ e. cc) i;
+    base = λ k. row-other ws (Balance account) x (of_balance account below) slots Base base-fits k (λ e. cc) i;
+    account = λ k. record {
+      word = row-other ws (Balance account) x (of_balance account below) accounts Account account-fits k (λ e. cc) i;
+      balance = row-put ws (Balance account) x (of_balance account below) accounts Balance balance-fits account below refl (balance-apart account) (omega (arith, len, below)) k i;
+    };
   }
 
   -- what a list holds at the word's place is what the word holds
@@ -210,3 +261,4 @@ module _ (size slots accounts : ℕ) where
   get_or-word_at ws (Slot slot) (of_slot _ below) = sym (ap (λ b. cond b (read size slots ws (Slot slot)) 0) (lt-ltb slot slots below))
   get_or-word_at ws (Base slot) (of_base _ below) = sym (ap (λ b. cond b (read size slots ws (Base slot)) 0) (lt-ltb slot slots below))
   get_or-word_at ws (Account account) (of_account _ below) = sym (ap (λ b. cond b (read size slots ws (Account account)) 0) (lt-ltb account accounts below))
+  get_or-word_at ws (Balance account) (of_balance _ below) = sym (ap (λ b. cond b (read size slots ws (Balance account)) 0) (lt-ltb account accounts below))

@@ -9,6 +9,8 @@ use Rattle.lock_core.specs.Serial.{NumberedTransfer}
 use Rattle.lock_core.specs.Transactions.{recs_of, in_order}
 use Rattle.log_rule.specs.declared.view.TakenJob.{TakenJob}
 use Rattle.log_rule.specs.declared.view.Taken.{Taken}
+use Rattle.log_rule.specs.declared.view.Half.{Half}
+use Rattle.log_rule.specs.declared.view.Half.TheVariants.{Neither, Taking, Giving}
 use Rattle.log_rule.specs.declared.view.Given.{Given}
 use Rattle.log_rule.specs.declared.view.Books.{Books}
 
@@ -19,14 +21,24 @@ task_of taken = record { number = taken.number; job = transfer_of taken.job }
 abbrev pub no_job : TakenJob
 no_job = record { number = 0; job = record { legs = []; note = None } }
 
--- no job was taken, and no account is held or was given back
+-- no job was taken, and no account is held, half held or was given back
 abbrev pub no_books : Books
-no_books = record { jobs = []; last = no_job; placed = []; held = []; given = [] }
+no_books = record { jobs = []; last = no_job; placed = []; held = []; half = Neither; given = [] }
 
 -- how often a list of held accounts has this one
 abbrev pub times_held : ℕ → List Taken → ℕ
 times_held account [] = 0
 times_held account (held ∷ more) = (if held.account == account then 1 else 0) + times_held account more
+
+-- whether this is the account that is half taken or half given back, as a number
+abbrev pub times_half : ℕ → Half → ℕ
+times_half account Neither = 0
+times_half account (Taking half last_commit) = if half == account then 1 else 0
+times_half account (Giving taken balance) = if taken.account == account then 1 else 0
+
+-- how often a seat holds the account, with the one that it half holds
+abbrev pub times_holding : ℕ → Books → ℕ
+times_holding account books = times_half account books.half + times_held account books.held
 
 -- how often a list of jobs has this number
 abbrev pub times_taken : ℕ → List TakenJob → ℕ
@@ -72,8 +84,9 @@ IsNote (Commit txn legs) = ⊥
 IsNote (Short txn leg) = ⊥
 IsNote (Over txn leg) = ⊥
 
--- the record may be placed: it is the next of the seat's last job, and for all but a Note the job's accounts are held
+-- the record may be placed: it is the next of the seat's last job, no account is half held, and for all but a Note the job's accounts are held
 pub record MayEnter (rec : Rec) (books : Books) : Type 0 where
+  pub whole : books.half ≡ Neither
   pub some_job : 1 ≤ books.last.number
   pub next : IsNext rec books
   pub accounts : IsNote rec ⊎ HoldsAccounts books
@@ -86,18 +99,26 @@ placing end rec books = record books { placed = record { end = end; rec = rec } 
 abbrev pub taking_job : TakenJob → Books → Books
 taking_job taken books = record books { jobs = taken ∷ books.jobs; last = taken; placed = [] }
 
+-- the account's word is taken
+abbrev pub half_taking : ℕ → ℕ → Books → Books
+half_taking account last_commit books = record books { half = Taking account last_commit }
+
 -- the account is taken
 abbrev pub taking : Taken → Books → Books
-taking held books = record books { held = held ∷ books.held }
+taking held books = record books { held = held ∷ books.held; half = Neither }
 
 -- the list without the account
 abbrev pub without : ℕ → List Taken → List Taken
 without account [] = []
 without account (held ∷ more) = if held.account == account then more else held ∷ without account more
 
+-- the balance is stored with which the account goes back that is held so
+abbrev pub half_giving : Taken → ℕ → Books → Books
+half_giving taken balance books = record books { held = without taken.account books.held; half = Giving taken balance }
+
 -- the account is given back
 abbrev pub giving : Given → Books → Books
-giving given books = record books { held = without given.account books.held; given = given ∷ books.given }
+giving given books = record books { half = Neither; given = given ∷ books.given }
 
 -- the jobs of both, and the accounts that both gave back
 abbrev pub merging : Books → Books → Books

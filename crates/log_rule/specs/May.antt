@@ -18,12 +18,15 @@ use Rattle.lock_core.specs.declared.job.Job.{Job}
 use Rattle.slot_word.specs.declared.account_word.AccountWord.{AccountWord}
 use Rattle.slot_word.specs.declared.phase.Phase.TheVariants.{Gathering}
 use Rattle.slot_word.specs.declared.slot_word.SlotWord.{SlotWord}
-use Rattle.slot_word.specs.AccountWord.{word_of, held_in, balance_in, last_commit_in}
+use Rattle.slot_word.specs.AccountWord.{held_in, last_commit_in}
 use Rattle.slot_word.specs.SlotWord.{word_of as word_of_slot}
 use Rattle.log_rule.specs.declared.view.TakenJob.{TakenJob}
 use Rattle.log_rule.specs.declared.view.Books.{Books}
-use Rattle.log_rule.specs.Accounts.{MayBeTaken, MayGive}
+use Rattle.lsn_space.specs.declared.opening.TheConstants.{MOST_BALANCE}
+use Rattle.log_rule.specs.declared.view.Half.TheVariants.{Neither, Taking, Giving}
+use Rattle.log_rule.specs.Accounts.{MayBeTaken, FollowsJobBalance, commit_in}
 use Rattle.log_rule.specs.Books.{times_held, balance_taken, last_commit_taken, next_of, IsNote, MayEnter}
+use Rattle.log_rule.specs.declared.view.Taken.{Taken as Held}
 use Rattle.log_rule.specs.Groups.{Outcome}
 use Rattle.log_rule.specs.Log.{IsFull}
 use Rattle.log_rule.specs.Slots.{told_word}
@@ -31,10 +34,11 @@ use Rattle.log_rule.specs.Roles.{has_ended}
 use Rattle.log_rule.specs.SlotViews.{own_slot_of}
 use Rattle.log_rule.specs.Views.{read_to}
 
--- the worker is enrolled and has no call under way
+-- the worker is enrolled, has no call under way, and has no account half taken or half given back
 pub record IsAtRest (view : View) : Type 0 where
   pub active : view.standing.role ≡ Active
   pub idle : view.call ≡ Idle
+  pub whole : view.books.half ≡ Neither
 
 -- the worker has nothing under way, and holds no account
 pub record MayLeave (view : View) : Type 0 where
@@ -57,26 +61,45 @@ pub record HasBegunNothing (view : View) : Type 0 where
 abbrev pub Ascends : ℕ → Books → Type 0
 Ascends account books = AllByRecursion (λ (held : Taken). held.account < account) books.held
 
--- the account may be taken: it is above all that the seat holds, and its word is free and is taken with the same values
+-- the account's word may be taken: it is above all that the seat holds, and its word is free and is taken with the same last Commit
 pub record MayTake (account : ℕ) (from to : AccountWord) (view : View) : Type 0 where
   pub rests : IsAtRest view
   pub begins : HasBegunNothing view
   pub ascends : Ascends account view.books
   pub free : from.held ≡ false
   pub taken : to.held ≡ true
-  pub balance : to.balance ≡ from.balance
   pub last_commit : to.mark ≡ from.mark
 
--- where the seat holds the account, the word is held, with the values as it took them
+-- the balance of this account, whose word the seat has taken, may be loaded
+pub record MayLoadBalance (account : ℕ) (view : View) : Type 0 where
+  pub active : view.standing.role ≡ Active
+  pub idle : view.call ≡ Idle
+  pub last_commit : ℕ
+  pub half : view.books.half ≡ Taking account last_commit
+
+-- where the seat holds the account, the word is held, with the last Commit as it took it
 abbrev pub IsOwnWord : ℕ → ℕ → Books → Type 0
 IsOwnWord account word books = 1 ≤ times_held account books.held
-    → (held_in word ≡ true) × (balance_in word ≡ balance_taken books.held account) × (last_commit_in word ≡ last_commit_taken books.held account)
+    → (held_in word ≡ true) × (last_commit_in word ≡ last_commit_taken books.held account)
 
--- the account may be given back with these values
-pub record MayGiveBack (account : ℕ) (word : AccountWord) (view : View) : Type 0 where
+-- The balance may be stored with which the account goes back: the seat holds it, and this is the balance as it was taken with what the
+-- seat's last job made of it by its Commit.
+pub record MayStoreBalance (account balance : ℕ) (view : View) : Type 0 where
   pub rests : IsAtRest view
+  pub has : 1 ≤ times_held account view.books.held
+  pub follows : FollowsJobBalance account balance (balance_taken view.books.held account) view.books.placed
+  pub fits : balance ≤ MOST_BALANCE
+
+-- the account, whose balance is stored, may be given back with this word
+pub record MayGiveBack (account : ℕ) (word : AccountWord) (view : View) : Type 0 where
+  pub active : view.standing.role ≡ Active
+  pub idle : view.call ≡ Idle
+  pub taken : Held
+  pub balance : ℕ
+  pub half : view.books.half ≡ Giving taken balance
+  pub account_is : taken.account ≡ account
   pub free : word.held ≡ false
-  pub gives : MayGive account (word_of word) view.books
+  pub last_commit : word.mark ≡ commit_in view.books.placed account taken.last_commit
 
 -- the seat's last two steps saw the tail, by a load or by an exchange that was lost, and then loaded durable
 pub record HasLooked (seen : Seen) : Type 0 where

@@ -17,6 +17,7 @@ use Rattle.lock_core.specs.History.{history_from}
 use Rattle.lock_core.specs.AccountRows.{row}
 use Rattle.lock_core.specs.Sums.{BaseState}
 use Rattle.log_rule.specs.declared.view.Books.{Books}
+use Rattle.log_rule.specs.declared.view.Half.TheVariants.{Neither}
 use Rattle.log_rule.specs.Accounts.{KeepsAccounts}
 use Rattle.log_rule.specs.Groups.{Group}
 use Rattle.table_layout.specs.Layout.{word_count}
@@ -146,9 +147,10 @@ pub record HasSoundRoles (seat : ℕ) (standing : Standing) (other : ℕ) (other
   pub fresh : standing.role ≡ Fresh → Lacks standing.worker others.enrolled
   pub unmerged : is_worker standing.role ≡ true → Lacks standing.worker others.merged
 
--- a view that is not active holds no account, and only the flusher's seat and workers' have jobs
+-- a view that is not active holds no account, nor one by half, and only the flusher's seat and workers' have jobs
 abbrev pub HoldsIfActive : View → Type 0
-HoldsIfActive view = (is_active view.standing.role ≡ false → view.books.held ≡ []) × (may_own view.standing.role ≡ false → view.books.jobs ≡ [])
+HoldsIfActive view = (is_active view.standing.role ≡ false → (view.books.held ≡ []) × (view.books.half ≡ Neither))
+    × (may_own view.standing.role ≡ false → view.books.jobs ≡ [])
 
 -- the state of the accounts with which the table was made
 abbrev pub base_of : Start → BaseState

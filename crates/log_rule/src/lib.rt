@@ -11,5 +11,6 @@ pub use group_view::{After, HeardRefusal, MemberStep, Piece};
 pub use laws::sent_lawfully;
 pub use start::Start;
 pub use view::{
-    Books, Call, Constants, Entry, Given, Role, Seen, Sending, Standing, Taken, TakenJob, View,
+    Books, Call, Constants, Entry, Given, Half, Role, Seen, Sending, Standing, Taken, TakenJob,
+    View,
 };

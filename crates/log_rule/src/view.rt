@@ -128,6 +128,16 @@ pub struct Taken {
     pub last_commit: u64,
 }
 
+/// An account of which a seat has made the first step of a taking or of a giving, and not the second.
+pub enum Half {
+    /// There is none.
+    Neither,
+    /// Its word is taken, and its balance is loaded next.
+    Taking { account: u64, last_commit: u64 },
+    /// The balance with which it goes back is stored, and its word is stored next.
+    Giving { taken: Taken, balance: u64 },
+}
+
 /// An account that a seat gave back: the number of the seat's last job then, the account with its balance
 /// as it was taken, tail and durable as the seat had seen them then, and whether that job had its Commit
 /// in the log.
@@ -141,13 +151,14 @@ pub struct Given {
 }
 
 /// The jobs that the seat took, the accounts that it holds and those that it gave back, each newest
-/// first until a merge; the last job that it took, of number 0 where it took none, and the records of that job in the
-/// log, newest first.
+/// first until a merge; the account that it has half taken or half given back; the last job that it
+/// took, of number 0 where it took none, and the records of that job in the log, newest first.
 pub struct Books {
     pub jobs: LinkedList<TakenJob>,
     pub last: TakenJob,
     pub placed: LinkedList<log_record::Placed>,
     pub held: LinkedList<Taken>,
+    pub half: Half,
     pub given: LinkedList<Given>,
 }
 

@@ -1,14 +1,15 @@
 -- What a step makes of the seat, and which event it is.
-use Rattle.std.specs.Prelude.{◌≡◌, ◌≢◌, ℕ, Result, OnOk, IfErr}
+use Rattle.std.specs.Prelude.{◌≡◌, ◌≢◌, ◌≤◌, ℕ, Result, OnOk, IfErr}
 use Rattle.slot_word.specs.declared.account_word.AccountWord.{AccountWord}
 use Rattle.slot_word.specs.declared.slot_word.SlotWord.{SlotWord}
 use Rattle.slot_word.specs.AccountWord.{word_of}
 use Rattle.slot_word.specs.SlotWord.{word_of as state_word}
-use Rattle.log_rule.specs.AccountViews.{saw_account, took_account, gave_account}
+use Rattle.log_rule.specs.AccountViews.{saw_account, took_account, loaded_balance, stored_balance, gave_account}
 use Rattle.log_rule.specs.CrewViews.{hires, hired}
 use Rattle.log_rule.specs.declared.view.View.{View}
 use Rattle.log_rule.specs.Events.{Event, IsStep, none}
-use Rattle.table_layout.specs.Layout.{Word, Account, Slot, Stop}
+use Rattle.lsn_space.specs.declared.opening.TheConstants.{MOST_BALANCE}
+use Rattle.table_layout.specs.Layout.{Word, Account, Balance, Slot, Stop}
 use Rattle.log_rule.specs.May.{IsOwnWord}
 use Rattle.log_rule.specs.Moments.{HoldsAtOnce}
 use Rattle.log_rule.specs.SlotViews.{saw_slot, TellsWaiting}
@@ -55,6 +56,18 @@ pub record ExchangesAccount {T : Type 0} (table : LogTable) (account : ℕ) (fro
   pub own : IfErr result (λ found. IsOwnWord account (word_of found) (view_of old).books)
   pub err_event : IfErr result (λ found. IsStep (key_of table) (number_of old) (Account account) (word_of found) (word_of found)
       (view_of old) (saw_account account (word_of found) (view_of old)) none)
+
+-- the balance is loaded of the account whose word the seat has taken
+pub record LoadsBalance (table : LogTable) (account : ℕ) (old new : Seat) (balance : ℕ) : Type 0 where
+  pub view : Becomes old new (loaded_balance balance (view_of old))
+  pub range : balance ≤ MOST_BALANCE
+  pub event : IsStep (key_of table) (number_of old) (Balance account) balance balance (view_of old) (loaded_balance balance (view_of old)) none
+
+-- the balance is stored with which the account goes back, whatever the balance before is
+pub record StoresBalance (table : LogTable) (account balance : ℕ) (old new : Seat) : Type 0 where
+  pub view : Becomes old new (stored_balance account balance (view_of old))
+  pub event : (found : ℕ) → IsStep (key_of table) (number_of old) (Balance account) found balance
+      (view_of old) (stored_balance account balance (view_of old)) none
 
 -- the account is given back by this word, whatever the word before is
 pub record StoresAccount (table : LogTable) (account : ℕ) (word : AccountWord) (old new : Seat) : Type 0 where

@@ -316,10 +316,11 @@ pub(crate) struct LoadAccount<N> {
 
 impl<N: Number> Play<(), View> for LoadAccount<N> {
     ghost use Rattle.std.specs.Prelude.{◌≡◌};
+    ghost use Rattle.slot_word.specs.AccountWord.{IsAccountWord};
     ghost use Rattle.log_rule.specs.May.{IsOwnWord};
     ghost use Rattle.log_rule.specs.AccountViews.{saw_account};
 
-    ghost then = { λ st old n new. (new ≡ (saw_account N.number n old.0, old.1)) × IsOwnWord N.number n old.0.books };
+    ghost then = { λ st old n new. (new ≡ (saw_account N.number n old.0, old.1)) × (IsAccountWord n × IsOwnWord N.number n old.0.books) };
 }
 
 pub(crate) struct ExchangeAccount<N> {
@@ -328,10 +329,32 @@ pub(crate) struct ExchangeAccount<N> {
 
 impl<N: Number> Play<(), View> for ExchangeAccount<N> {
     ghost use Rattle.std.specs.Prelude.{◌≡◌};
+    ghost use Rattle.slot_word.specs.AccountWord.{IsAccountWord};
     ghost use Rattle.log_rule.specs.May.{IsOwnWord};
     ghost use Rattle.log_rule.specs.AccountViews.{after_account};
 
-    ghost then = { λ st old n new. (new ≡ (after_account N.number st.first n old.0, old.1)) × IsOwnWord N.number n old.0.books };
+    ghost then = { λ st old n new. (new ≡ (after_account N.number st.first n old.0, old.1)) × (IsAccountWord n × IsOwnWord N.number n old.0.books) };
+}
+
+pub(crate) struct LoadBalance;
+
+impl Play<(), View> for LoadBalance {
+    ghost use Rattle.std.specs.Prelude.{◌≡◌, ◌≤◌};
+    ghost use Rattle.lsn_space.specs.declared.opening.TheConstants.{MOST_BALANCE};
+    ghost use Rattle.log_rule.specs.AccountViews.{loaded_balance};
+
+    ghost then = { λ st old n new. (new ≡ (loaded_balance n old.0, old.1)) × (n ≤ MOST_BALANCE) };
+}
+
+pub(crate) struct StoreBalance<N> {
+    account: PhantomData<N>,
+}
+
+impl<N: Number> Play<(), View> for StoreBalance<N> {
+    ghost use Rattle.std.specs.Prelude.{◌≡◌};
+    ghost use Rattle.log_rule.specs.AccountViews.{stored_balance};
+
+    ghost then = { λ st old n new. (new ≡ (stored_balance N.number st.first old.0, old.1)) × Unit {0} };
 }
 
 pub(crate) struct StoreAccount<N> {

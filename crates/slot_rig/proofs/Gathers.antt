@@ -13,7 +13,7 @@ use Rattle.slot_rig.specs.Shares.{HasBoth, HasReleased, IsDone, IsWorker}
 use Rattle.slot_rig.specs.declared.share.Share.{Share}
 
 pub done-may_leave : (table : LogTable) (number : ℕ) (seat : Seat) → IsDone table number seat → MayLeave (view_of seat)
-done-may_leave table number seat done = record { rests = record { active = done.worker.active; idle = done.idle }; none_held = done.worker.none_held }
+done-may_leave table number seat done = record { rests = record { active = done.worker.active; idle = done.idle; whole = done.worker.whole }; none_held = done.worker.none_held }
 
 pub released-done : (table : LogTable) (share : Share) (base : ℕ) (seat : Seat) (number : ℕ) → share.worker ≡ number
     → HasReleased table share base Idle seat → IsDone table number seat

@@ -49,7 +49,7 @@ module _ (table : LogTable) (share : Share) (old new : Seat) where
   seen : (word : ℕ) (step : MemberStep) → step_seeing word Waits ≡ step → IsMember table share Waits old
       → Becomes old new (saw_slot share.slot word (view_of old)) → IsMember table share step new
   seen word step is member becomes =
-      member-step table old new (saw_slot share.slot word (view_of old)) becomes record { constants = refl; standing = refl; held = refl } share Waits step refl member
+      member-step table old new (saw_slot share.slot word (view_of old)) becomes record { constants = refl; standing = refl; held = refl; half = refl } share Waits step refl member
       (ap (call_seeing share.slot word) member.call
       ∙ (ap (λ b. Joined share.slot member.piece (cond b (step_seeing word Waits) Waits)) (eq-eqb share.slot share.slot refl)
       ∙ ap (Joined share.slot member.piece) is))
@@ -90,6 +90,6 @@ module _ (table : LogTable) (share : Share) (base i : ℕ) (old new : Seat) (mem
 
     pub filled-fills_more : Becomes old new (filled unit (view_of old)) → IsMember table share (Fills base (take (i + 1) share.units)) new
     filled-fills_more becomes =
-        member-step table old new (filled unit (view_of old)) becomes record { constants = refl; standing = refl; held = refl } share (Fills base (take i share.units))
+        member-step table old new (filled unit (view_of old)) becomes record { constants = refl; standing = refl; held = refl; half = refl } share (Fills base (take i share.units))
         (Fills base (take (i + 1) share.units)) refl member
         (ap (call_with_unit unit) member.call ∙ ap (λ units. Joined share.slot member.piece (Fills base units)) (sym (take_more share.units i 0 within)))

@@ -39,7 +39,7 @@ module _ (table : LogTable) (share : Share) (number : ℕ) (job : Job) (seat aft
         → to.phase ≡ from.phase → to.total ≡ from.total + length share.units → to.remaining ≡ from.remaining
         → share.offset + length share.units ≤ table.ring / 4 → MayJoinSlot share.slot from to (view_of after)
     took_job-may_join_slot from to own_slot gathers total phase grown remaining room = record {
-      rests = subst IsAtRest (sym is) record { active = worker.ready.rests.active; idle = worker.ready.rests.idle };
+      rests = subst IsAtRest (sym is) record { active = worker.ready.rests.active; idle = worker.ready.rests.idle; whole = worker.ready.rests.whole };
       enters = (MayPlace-noted table number job share.units seat after word worker taken noted).enters;
       own_slot = own_slot ∙ (sym (λ i. joiner.numbered i % worker.own.slots i) ∙ sym (ap own_slot_of is));
       gathers = gathers;
@@ -57,12 +57,13 @@ module _ (table : LogTable) (share : Share) (number : ℕ) (job : Job) (seat aft
 
     worker-took : IsWorker table share.worker after
     worker-took =
-        worker-step table seat after (took_job number job word (view_of seat)) taken record { constants = refl; standing = refl; held = refl } share.worker
+        worker-step table seat after (took_job number job word (view_of seat)) taken record { constants = refl; standing = refl; held = refl; half = refl } share.worker
         record {
           own = worker.own;
           active = worker.ready.rests.active;
           numbered = joiner.numbered;
           none_held = worker.free.none_held;
+          whole = worker.ready.rests.whole;
         }
 
     pub joined_slot-member : (joined : Seat) (total found : ℕ) → total ≡ share.offset → share.slot < table.slots
@@ -70,7 +71,7 @@ module _ (table : LogTable) (share : Share) (number : ℕ) (job : Job) (seat aft
         → IsMember table share (step_joining share.offset) joined
     joined_slot-member joined total found offset slot becomes = record {
       worker = worker-step table after joined (joined_slot share.slot total found (view_of after)) becomes
-          record { constants = refl; standing = refl; held = refl } share.worker worker-took;
+          record { constants = refl; standing = refl; held = refl; half = refl } share.worker worker-took;
       slot = slot;
       piece = piece_joining share.offset (view_of after);
       own_piece = record { offset_is = refl; size_is = size; spelled = spelled };

@@ -27,7 +27,7 @@ pub closed_slot-placing : (table : LogTable) (share : Share) (old new : Seat) (w
     → Becomes old new (closed_slot (word_of word) (view_of old)) → IsPlacing table share word.total new
 closed_slot-placing table share old new word member becomes = record {
   closed = (view_of old).seen.steps + 1;
-  member = member-step table old new (closed_slot (word_of word) (view_of old)) becomes record { constants = refl; standing = refl; held = refl } share Closes
+  member = member-step table old new (closed_slot (word_of word) (view_of old)) becomes record { constants = refl; standing = refl; held = refl; half = refl } share Closes
       (Places word.total ((view_of old).seen.steps + 1)) refl member
       (ap (call_closed (total_in (word_of word)) ((view_of old).seen.steps + 1)) member.call
       ∙ ap (λ n. Joined share.slot member.piece (Places n ((view_of old).seen.steps + 1)))
@@ -51,9 +51,9 @@ module _ (table : LogTable) (share : Share) (total tail durable : ℕ) (closed t
 
     member : IsMember table share step loaded
     member =
-        let first = member-step table closed tailed (saw_tail tail (view_of closed)) loads record { constants = refl; standing = refl; held = refl } share step step
+        let first = member-step table closed tailed (saw_tail tail (view_of closed)) loads record { constants = refl; standing = refl; held = refl; half = refl } share step step
         refl placing.member placing.member.call in
-        member-step table tailed loaded (saw_durable durable (view_of tailed)) looks record { constants = refl; standing = refl; held = refl } share step step refl
+        member-step table tailed loaded (saw_durable durable (view_of tailed)) looks record { constants = refl; standing = refl; held = refl; half = refl } share step step refl
         first first.call
 
     tail_loaded : placing.closed < (view_of loaded).seen.tail_step
@@ -90,7 +90,7 @@ module _ (table : LogTable) (share : Share) (total tail durable : ℕ) (closed t
     pub reserved_group-stores : (placed : Seat) (end : ℕ) → Becomes loaded placed (reserved_group tail end (view_of loaded))
         → IsMember table share (Stores total tail) placed
     reserved_group-stores placed end becomes =
-        member-step table loaded placed (reserved_group tail end (view_of loaded)) becomes record { constants = refl; standing = refl; held = refl } share step
+        member-step table loaded placed (reserved_group tail end (view_of loaded)) becomes record { constants = refl; standing = refl; held = refl; half = refl } share step
         (Stores total tail) refl member (ap (call_reserved tail) member.call)
 
     pub no_room-may_store_refused : (word : ℕ) → durable + table.ring < tail + total → word ≡ tail * 2 ^ 32 + durable → MayStoreRefused share.slot word (view_of loaded)
@@ -114,7 +114,7 @@ module _ (table : LogTable) (share : Share) (total base : ℕ) (old new : Seat) 
   pub stored_granted-tells : IsMember table share (Stores total base) old → Becomes old new (stored_base (view_of old))
       → IsMember table share (Tells total (Granted base)) new
   stored_granted-tells member becomes =
-      member-step table old new (stored_base (view_of old)) becomes record { constants = refl; standing = refl; held = refl } share (Stores total base)
+      member-step table old new (stored_base (view_of old)) becomes record { constants = refl; standing = refl; held = refl; half = refl } share (Stores total base)
       (Tells total (Granted base)) refl member (ap (call_stored (view_of old).seen.tail (view_of old).seen.durable) member.call)
 
   pub tells_granted-may_publish : (word : SlotWord) → word.phase ≡ kind.Published → word.total ≡ total → word.remaining ≡ total
@@ -129,5 +129,5 @@ module _ (table : LogTable) (share : Share) (total base : ℕ) (old new : Seat) 
 
   pub published_granted-waits : IsMember table share (Tells total (Granted base)) old → Becomes old new (published (view_of old)) → IsMember table share Waits new
   published_granted-waits member becomes =
-      member-step table old new (published (view_of old)) becomes record { constants = refl; standing = refl; held = refl } share (Tells total (Granted base)) Waits
+      member-step table old new (published (view_of old)) becomes record { constants = refl; standing = refl; held = refl; half = refl } share (Tells total (Granted base)) Waits
       refl member (ap call_published member.call)

@@ -53,7 +53,7 @@ module _ (table : LogTable) (share : Share) (base : ℕ) (old : Seat) (member : 
     released : (call : Call) → call_released (word_of word) (Joined share.slot member.piece (Fills base share.units)) ≡ call
         → HasReleased table share base call new
     released call is = record {
-      worker = worker-step table old new (released_piece (word_of word) (view_of old)) becomes record { constants = refl; standing = refl; held = refl } share.worker
+      worker = worker-step table old new (released_piece (word_of word) (view_of old)) becomes record { constants = refl; standing = refl; held = refl; half = refl } share.worker
           member.worker;
       slot = member.slot;
       piece = member.piece;
@@ -77,7 +77,7 @@ module _ (table : LogTable) (share : Share) (tail durable : ℕ) (old : Seat) (m
   module _ (new : Seat) (word : SlotWord) (becomes : Becomes old new (released_piece (word_of word) (view_of old))) where
     left : (call : Call) → call_released (word_of word) (Joined share.slot member.piece (Leaves tail durable)) ≡ call → HasLeft table share call new
     left call is = record {
-      worker = worker-step table old new (released_piece (word_of word) (view_of old)) becomes record { constants = refl; standing = refl; held = refl } share.worker
+      worker = worker-step table old new (released_piece (word_of word) (view_of old)) becomes record { constants = refl; standing = refl; held = refl; half = refl } share.worker
           member.worker;
       slot = member.slot;
       call_is = ap (λ me. me.0.call) becomes.me ∙ (ap (call_released (word_of word)) member.call ∙ is);
@@ -95,7 +95,7 @@ module _ (table : LogTable) (share : Share) (base : ℕ) (old new : Seat) where
   pub saw_exposed-call_holding : (at : ℕ) → HasReleased table share base (Marked (Reopens share.slot)) old → Becomes old new (saw_exposed at (view_of old))
       → HasReleased table share base (Holding at (Reopens share.slot)) new
   saw_exposed-call_holding at released becomes =
-      released-step table old new (saw_exposed at (view_of old)) becomes record { constants = refl; standing = refl; held = refl } share base
+      released-step table old new (saw_exposed at (view_of old)) becomes record { constants = refl; standing = refl; held = refl; half = refl } share base
       (Marked (Reopens share.slot)) (Holding at (Reopens share.slot)) refl released (ap (after_look at) released.call_is)
 
   pub holding-may_look_mark : (at : ℕ) → HasReleased table share base (Holding at (Reopens share.slot)) old → MayLookMark at (view_of old)
@@ -105,7 +105,7 @@ module _ (table : LogTable) (share : Share) (base : ℕ) (old new : Seat) where
     where
       saw : (call : Call) → call_with_mark mark (Holding at (Reopens share.slot)) ≡ call → HasReleased table share base call new
       saw call is =
-          released-step table old new (saw_mark mark (view_of old)) becomes record { constants = refl; standing = refl; held = refl } share base
+          released-step table old new (saw_mark mark (view_of old)) becomes record { constants = refl; standing = refl; held = refl; half = refl } share base
           (Holding at (Reopens share.slot)) call refl released (ap (call_with_mark mark) released.call_is ∙ is)
 
       pub saw_mark_above-call_raising : at < mark → HasReleased table share base (Raising at mark (Reopens share.slot)) new
@@ -118,5 +118,5 @@ module _ (table : LogTable) (share : Share) (base : ℕ) (old new : Seat) where
   pub after_raise-call_holding : (from to : ℕ) → HasReleased table share base (Raising from to (Reopens share.slot)) old → Becomes old new (after_raise to (view_of old))
       → HasReleased table share base (Holding to (Reopens share.slot)) new
   after_raise-call_holding from to released becomes =
-      released-step table old new (after_raise to (view_of old)) becomes record { constants = refl; standing = refl; held = refl } share base
+      released-step table old new (after_raise to (view_of old)) becomes record { constants = refl; standing = refl; held = refl; half = refl } share base
       (Raising from to (Reopens share.slot)) (Holding to (Reopens share.slot)) refl released (ap (call_with_exposed to) released.call_is)

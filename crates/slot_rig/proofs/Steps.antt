@@ -12,11 +12,12 @@ use Rattle.log_table.specs.Seats.{Becomes, view_of}
 use Rattle.slot_rig.specs.Shares.{IsWorker, IsMember, HasReleased}
 use Rattle.slot_rig.specs.declared.share.Share.{Share}
 
--- constants, standing and the accounts held are as before
+-- constants, standing and the accounts held, by half too, are as before
 pub record KeepsWorker (old new : View) : Type 0 where
   pub constants : new.constants ≡ old.constants
   pub standing : new.standing ≡ old.standing
   pub held : new.books.held ≡ old.books.held
+  pub half : new.books.half ≡ old.books.half
 
 module _ (table : LogTable) (old new : Seat) (view : View) (becomes : Becomes old new view) (keeps : KeepsWorker (view_of old) view) where
   is : view_of new ≡ view
@@ -33,6 +34,7 @@ module _ (table : LogTable) (old new : Seat) (view : View) (becomes : Becomes ol
     active = ap (λ (v : View). v.standing.role) is ∙ (ap (λ (s : Standing). s.role) keeps.standing ∙ worker.active);
     numbered = ap (λ (v : View). v.standing.worker) is ∙ (ap (λ (s : Standing). s.worker) keeps.standing ∙ worker.numbered);
     none_held = ap (λ (v : View). v.books.held) is ∙ (keeps.held ∙ worker.none_held);
+    whole = ap (λ (v : View). v.books.half) is ∙ (keeps.half ∙ worker.whole);
   }
 
   pub member-step : (share : Share) (step step' : MemberStep) → view.entries ≡ (view_of old).entries → (member : IsMember table share step old)

@@ -8,6 +8,7 @@ use Rattle.log_table.specs.declared.table.LogTable.{LogTable}
 use Rattle.log_table.specs.declared.table.Seat.{Seat}
 use Rattle.log_rule.specs.declared.view.Call.{Call}
 use Rattle.log_rule.specs.declared.view.Call.TheVariants.{Emptying, Idle, Joined}
+use Rattle.log_rule.specs.declared.view.Half.TheVariants.{Neither}
 use Rattle.log_rule.specs.declared.view.Role.TheVariants.{Active, Flusher}
 use Rattle.log_rule.specs.GroupViews.{placed_piece}
 use Rattle.log_table.specs.HiredWorkers.{HasHired}
@@ -21,6 +22,7 @@ pub record IsWorker (table : LogTable) (number : ℕ) (seat : Seat) : Type 0 whe
   pub active : (view_of seat).standing.role ≡ Active
   pub numbered : (view_of seat).standing.worker ≡ number
   pub none_held : (view_of seat).books.held ≡ []
+  pub whole : (view_of seat).books.half ≡ Neither
 
 -- that worker has nothing under way
 pub record IsDone (table : LogTable) (number : ℕ) (seat : Seat) : Type 0 where

@@ -1,58 +1,36 @@
-//! An account as the table holds it: its fields and how each is read.
+//! What the table holds of an account beside its balance: its fields and how each is read.
 
-ghost use Rattle.std.specs.Prelude.{◌≡◌, ◌<◌, ◌^◌, true, false};
+ghost use Rattle.std.specs.Prelude.{◌≡◌, true, false};
 
-/// An account as the table holds it in one word: whether a worker holds it, its balance (0 to 2147483647), and the LSN at
-/// which its last commit ends (0 where it has none). In the word the held bit is the highest, then come 31 bits of balance
-/// and 32 of the LSN.
+/// What the table holds of an account beside its balance, in one word: whether a worker holds it, and the LSN at which its last
+/// commit ends (0 where it has none). In the word the held bit is the highest, and the LSN has the 32 lowest; those between are 0.
 #[derive(Clone, Copy, Debug, PartialEq, Eq)]
 pub struct AccountWord {
     held: bool,
-    balance: u64,
     mark: u32,
-    ghost fits: { balance < 2 ^ 31 },
 }
 
 impl AccountWord {
     /// No worker holds the account.
-    pub fn free(balance: u64, mark: u32) -> AccountWord
-        requires { balance < 2 ^ 31 }
+    pub fn free(mark: u32) -> AccountWord
         ensures held { result.held ≡ false }
-        ensures balance { result.balance ≡ balance }
         ensures mark { result.mark ≡ mark }
     {
-        AccountWord {
-            held: false,
-            balance,
-            mark,
-        }
+        AccountWord { held: false, mark }
     }
 
     /// A worker holds the account.
-    pub fn taken(balance: u64, mark: u32) -> AccountWord
-        requires { balance < 2 ^ 31 }
+    pub fn taken(mark: u32) -> AccountWord
         ensures held { result.held ≡ true }
-        ensures balance { result.balance ≡ balance }
         ensures mark { result.mark ≡ mark }
     {
-        AccountWord {
-            held: true,
-            balance,
-            mark,
-        }
+        AccountWord { held: true, mark }
     }
 
     pub fn held(self) -> bool
         ensures { result ≡ self.held }
     {
         self.held
-    }
-
-    pub fn balance(self) -> u64
-        ensures balance { result ≡ self.balance }
-        ensures fits { result < 2 ^ 31 }
-    {
-        self.balance
     }
 
     pub fn mark(self) -> u32

@@ -1,7 +1,7 @@
 -- No two words share a place.
-use Rattle.std.proofs.Common.{◌≡◌, ◌==◌, ℕ, ◌+◌, ◌-◌, ◌*◌, ◌/◌, ◌<◌, ◌≤◌, cond, nat_lt, Bool, true, false, sym, refl, ap, ◌∙◌, arith, ne_eqb, ltb-true, lt-ltb}
+use Rattle.std.proofs.Common.{◌≡◌, ◌==◌, ℕ, ◌+◌, ◌-◌, ◌*◌, ◌/◌, ◌%◌, ◌<◌, ◌≤◌, cond, nat_lt, Bool, true, false, sym, refl, ap, ◌∙◌, arith, eq-eqb, ne_eqb, ltb-true, lt-ltb}
 use Rattle.table_layout.specs.declared.layout.TheConstants.{STRIDE, TAIL, EXPOSED, DURABLE, STOP, CREW, RING}
-use Rattle.table_layout.specs.Layout.{Word, Tail, Exposed, Durable, Stop, Crew, Ring, Mark, Slot, Base, Account, index_of}
+use Rattle.table_layout.specs.Layout.{Word, Tail, Exposed, Durable, Stop, Crew, Ring, Mark, Slot, Base, Account, Balance, index_of}
 
 -- the word lies in a table whose ring has that many units, and which has so many slots and accounts
 pub data Fits (size slots accounts : ℕ) : Word → Type 0 where
@@ -15,6 +15,7 @@ pub data Fits (size slots accounts : ℕ) : Word → Type 0 where
   of_slot : (slot : ℕ) → slot < slots → Fits size slots accounts (Slot slot)
   of_base : (slot : ℕ) → slot < slots → Fits size slots accounts (Base slot)
   of_account : (account : ℕ) → account < accounts → Fits size slots accounts (Account account)
+  of_balance : (account : ℕ) → account < accounts → Fits size slots accounts (Balance account)
 
 -- of the words that stand 16 words apart behind the marks, the one by its number: first the slots' states, then their bases, then the
 -- accounts
@@ -24,9 +25,13 @@ behind_slots slots n = cond (nat_lt n slots) (Base n) (Account (n - slots))
 abbrev behind_marks : ℕ → ℕ → Word
 behind_marks slots n = cond (nat_lt n slots) (Slot n) (behind_slots slots (n - slots))
 
+-- an account's balance lies right behind its word
+abbrev spaced : ℕ → ℕ → Word
+spaced slots n = cond (n % STRIDE == 1) (Balance (n / STRIDE - slots - slots)) (behind_marks slots (n / STRIDE))
+
 -- the word that lies at a place
 abbrev behind_ring : ℕ → ℕ → ℕ → Word
-behind_ring size slots n = cond (nat_lt n size) (Mark n) (behind_marks slots ((n - size) / STRIDE))
+behind_ring size slots n = cond (nat_lt n size) (Mark n) (spaced slots (n - size))
 
 abbrev behind_crew : ℕ → ℕ → ℕ → Word
 behind_crew size slots n = cond (nat_lt (n - RING) size) (Ring (n - RING)) (behind_ring size slots (n - RING - size))
@@ -51,18 +56,40 @@ word_of-behind size slots n least = λ i. cond (other TAIL (omega arith) i) Tail
     other place below = ne_eqb n place (λ e. omega arith)
 
 module _ (size slots accounts : ℕ) where
-  word_of-spaced : (n : ℕ) → word_of size slots (RING + size + size + STRIDE * n) ≡ behind_marks slots n
-  word_of-spaced n = word_of-behind size slots (RING + size + size + STRIDE * n) (omega arith)
-      ∙ (ap (λ b. cond b (Ring (RING + size + size + STRIDE * n - RING)) (behind_ring size slots (RING + size + size + STRIDE * n - RING - size)))
-      (lt_not (RING + size + size + STRIDE * n - RING) size (omega arith))
+  word_of-far : (n : ℕ) → word_of size slots (RING + size + size + n) ≡ spaced slots n
+  word_of-far n = word_of-behind size slots (RING + size + size + n) (omega arith)
+      ∙ (ap (λ b. cond b (Ring (RING + size + size + n - RING)) (behind_ring size slots (RING + size + size + n - RING - size)))
+      (lt_not (RING + size + size + n - RING) size (omega arith))
       ∙ (ap (behind_ring size slots) behind
-      ∙ (ap (λ b. cond b (Mark (size + STRIDE * n)) (behind_marks slots ((size + STRIDE * n - size) / STRIDE))) (lt_not (size + STRIDE * n) size (omega arith))
-      ∙ ap (behind_marks slots) back)))
+      ∙ (ap (λ b. cond b (Mark (size + n)) (spaced slots (size + n - size))) (lt_not (size + n) size (omega arith))
+      ∙ ap (spaced slots) back)))
     where
-      behind : RING + size + size + STRIDE * n - RING - size ≡ size + STRIDE * n
+      behind : RING + size + size + n - RING - size ≡ size + n
       behind = omega arith
 
-      back : (size + STRIDE * n - size) / STRIDE ≡ n
+      back : size + n - size ≡ n
+      back = omega arith
+
+  word_of-spaced : (n : ℕ) → word_of size slots (RING + size + size + STRIDE * n) ≡ behind_marks slots n
+  word_of-spaced n = word_of-far (STRIDE * n)
+      ∙ (ap (λ b. cond b (Balance (STRIDE * n / STRIDE - slots - slots)) (behind_marks slots (STRIDE * n / STRIDE)))
+      (ne_eqb (STRIDE * n % STRIDE) 1 (λ e. omega arith))
+      ∙ ap (behind_marks slots) back)
+    where
+      back : STRIDE * n / STRIDE ≡ n
+      back = omega arith
+
+  word_of-beside : (n : ℕ) → word_of size slots (RING + size + size + STRIDE * n + 1) ≡ Balance (n - slots - slots)
+  word_of-beside n = ap (word_of size slots) far
+      ∙ (word_of-far (STRIDE * n + 1)
+      ∙ (ap (λ b. cond b (Balance ((STRIDE * n + 1) / STRIDE - slots - slots)) (behind_marks slots ((STRIDE * n + 1) / STRIDE)))
+      (eq-eqb ((STRIDE * n + 1) % STRIDE) 1 (omega arith))
+      ∙ ap (λ m. Balance (m - slots - slots)) back))
+    where
+      far : RING + size + size + STRIDE * n + 1 ≡ RING + size + size + (STRIDE * n + 1)
+      far = omega arith
+
+      back : (STRIDE * n + 1) / STRIDE ≡ n
       back = omega arith
 
   word_of-index : (word : Word) → Fits size slots accounts word → word_of size slots (index_of size slots word) ≡ word
@@ -80,7 +107,7 @@ module _ (size slots accounts : ℕ) where
   word_of-index (Mark index) (in_marks _ below) = word_of-behind size slots (RING + size + index) (omega arith)
       ∙ (ap (λ b. cond b (Ring (RING + size + index - RING)) (behind_ring size slots (RING + size + index - RING - size)))
       (lt_not (RING + size + index - RING) size (omega arith))
-      ∙ (ap (behind_ring size slots) back ∙ ap (λ b. cond b (Mark index) (behind_marks slots ((index - size) / STRIDE))) (lt-ltb index size below)))
+      ∙ (ap (behind_ring size slots) back ∙ ap (λ b. cond b (Mark index) (spaced slots (index - size))) (lt-ltb index size below)))
     where
       back : RING + size + index - RING - size ≡ index
       back = omega arith
@@ -102,6 +129,10 @@ module _ (size slots accounts : ℕ) where
       behind = omega arith
 
       back : slots + account - slots ≡ account
+      back = omega arith
+  word_of-index (Balance account) fits = word_of-beside (slots + slots + account) ∙ ap Balance back
+    where
+      back : slots + slots + account - slots - slots ≡ account
       back = omega arith
 
   -- no two words share a place

@@ -1,5 +1,5 @@
 //! Where the words lie in the table. Ring and release marks are packed; the other words stand two cache
-//! lines from one another, or more. `proofs/WordPlaces.antt` shows that no two words share a place.
+//! lines from one another, or more, but for an account's two. `proofs/WordPlaces.antt` shows that no two words share a place.
 
 ghost use Rattle.std.specs.Prelude.{◌≡◌, ◌≤◌, ◌+◌, ◌*◌, ◌%◌};
 ghost use Rattle.lsn_space.specs.declared.lsn.TheConstants.{LEAST_RING, GREATEST_RING, MOST_SLOTS};
@@ -23,7 +23,7 @@ pub const STOP: usize = 3 * STRIDE;
 pub const CREW: usize = 4 * STRIDE;
 /// The first word of the ring, which is packed. Behind it stand the release marks, packed too and as
 /// many as it has words, and behind these, 16 words apart, the slots' states, the slots' bases and the
-/// accounts' words.
+/// accounts' words, each with the account's balance right behind it.
 pub const RING: usize = 5 * STRIDE;
 
 /// A law: the stride of the words that aren't packed is 16.
@@ -62,4 +62,12 @@ pub fn account_place(ring: u32, slots: u32, account: u32) -> usize
 {
     let before = slots as usize + slots as usize;
     RING + ring as usize + ring as usize + STRIDE * (before + account as usize)
+}
+
+/// Where the balance of an account lies: right behind its word, in the same two cache lines.
+pub fn balance_place(ring: u32, slots: u32, account: u32) -> usize
+    requires { (ring ≤ GREATEST_RING) × (slots ≤ MOST_SLOTS) × (account ≤ MOST_ACCOUNTS) }
+    ensures { result ≡ RING + ring + ring + STRIDE * (slots + slots + account) + 1 }
+{
+    account_place(ring, slots, account) + 1
 }

@@ -6,6 +6,6 @@ mod layout;
 
 pub use account_words::{put_accounts, read_rows};
 pub use layout::{
-    CREW, DURABLE, EXPOSED, RING, STOP, STRIDE, TAIL, account_place, base_place, fixed_layout,
-    mark_place, slot_place,
+    CREW, DURABLE, EXPOSED, RING, STOP, STRIDE, TAIL, account_place, balance_place, base_place,
+    fixed_layout, mark_place, slot_place,
 };

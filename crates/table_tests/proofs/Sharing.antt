@@ -75,11 +75,12 @@ all_below-weaken m n later (taken ∷ jobs) all = (omega (arith, later, all.0), 
 
 -- the worker stands as before, and took and holds what it did
 pub GoesOn-kept : (number : ℕ) (old new : View) → new.standing ≡ old.standing → new.contended ≡ false → new.books.held ≡ old.books.held
-    → new.books.jobs ≡ old.books.jobs → GoesOn number old → GoesOn number new
-GoesOn-kept number old new standing alone held jobs may = record {
+    → new.books.half ≡ old.books.half → new.books.jobs ≡ old.books.jobs → GoesOn number old → GoesOn number new
+GoesOn-kept number old new standing alone held half jobs may = record {
   active = ap (λ (standing : Standing). standing.role) standing ∙ may.active;
   alone = alone;
   none_held = held ∙ may.none_held;
+  whole = half ∙ may.whole;
   above = subst (λ (jobs : List TakenJob). AllByRecursion (λ (taken : TakenJob). taken.number < number) jobs) (sym jobs) may.above;
 }
 
@@ -91,6 +92,7 @@ GoesOn-taken table number job seat after word worker takes next later =
       active = ap (λ (v : View). v.standing.role) taken ∙ worker.ready.rests.active;
       alone = ap (λ (v : View). v.contended) taken ∙ worker.ready.alone;
       none_held = ap (λ (v : View). v.books.held) taken ∙ worker.free.none_held;
+      whole = ap (λ (v : View). v.books.half) taken ∙ worker.ready.rests.whole;
       above = subst (λ (jobs : List TakenJob). AllByRecursion (λ (taken : TakenJob). taken.number < next) jobs)
           (sym (ap (λ (v : View). v.books.jobs) taken))
           (later, all_below-weaken number next (omega (arith, later)) (view_of seat).books.jobs worker.free.above);
@@ -101,6 +103,6 @@ pub MayInsert-idle : (table : LogTable) (number : ℕ) (seat : Seat) → IsTxn n
     → GoesOn number (view_of seat) → MayInsert table number seat
 MayInsert-idle table number seat txn own idle may = record {
   own = own;
-  ready = record { rests = record { active = may.active; idle = idle }; alone = may.alone };
+  ready = record { rests = record { active = may.active; idle = idle; whole = may.whole }; alone = may.alone };
   free = record { txn = txn; none_held = may.none_held; above = may.above };
 }

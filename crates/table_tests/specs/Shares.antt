@@ -6,6 +6,7 @@ use Rattle.log_rule.specs.declared.group_view.MemberStep.{MemberStep}
 use Rattle.log_rule.specs.declared.group_view.Piece.{Piece}
 use Rattle.log_table.specs.declared.table.LogTable.{LogTable}
 use Rattle.log_table.specs.declared.table.Seat.{Seat}
+use Rattle.log_rule.specs.declared.view.Half.TheVariants.{Neither}
 use Rattle.log_rule.specs.declared.view.Role.TheVariants.{Active}
 use Rattle.log_rule.specs.declared.view.TakenJob.{TakenJob}
 use Rattle.log_rule.specs.declared.view.View.{View}
@@ -38,4 +39,5 @@ pub record GoesOn (number : ℕ) (view : View) : Type 0 where
   pub active : view.standing.role ≡ Active
   pub alone : view.contended ≡ false
   pub none_held : view.books.held ≡ []
+  pub whole : view.books.half ≡ Neither
   pub above : AllByRecursion (λ (taken : TakenJob). taken.number < number) view.books.jobs

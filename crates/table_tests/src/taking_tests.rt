@@ -54,7 +54,7 @@ fn an_account_is_held_until_it_is_given_back(rt: HostRuntime) -> Result<(), Fail
         return Err(Fail::new("the account was held"));
     };
     assert_eq!(rt; (taken.account, taken.balance, taken.mark), (0, 100, 0));
-    finds_held(&rt, &table, &mut two, AccountWord::taken(100, 0));
+    finds_held(&rt, &table, &mut two, AccountWord::taken(0));
     let (balance, mark) = (taken.balance, taken.mark);
     give(&table, &mut one, taken, balance, mark);
     finds_free(&rt, &table, &mut two, (100, 0));

@@ -37,7 +37,7 @@ module _ (table : LogTable) (number : ℕ) (job : Job) (units : List ℕ) (seat 
     MayPlace-noted = record {
       size = ap length units-noted;
       enters = subst (λ (b : Books). MayEnter (next_of b) b) (sym is)
-          (may-enter (Note number noted.0) books worker.free.txn.0 next (inl tt));
+          (may-enter (Note number noted.0) books worker.ready.rests.whole worker.free.txn.0 next (inl tt));
     }
 
 -- what a worker has that reserved for its next record

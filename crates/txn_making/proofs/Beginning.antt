@@ -11,6 +11,7 @@ use Rattle.lock_core.specs.Transactions.{recs_of, changes_in, has_commit, in_ord
 use Rattle.lock_core.specs.declared.job.Job.{Job}
 use Rattle.log_table.specs.declared.table.Seat.{Seat}
 use Rattle.log_rule.specs.declared.view.Books.{Books}
+use Rattle.log_rule.specs.declared.view.Half.TheVariants.{Neither}
 use Rattle.log_rule.specs.declared.view.Entry.{Entry}
 use Rattle.log_rule.specs.declared.view.TakenJob.{TakenJob}
 use Rattle.log_rule.specs.Books.{balance_taken, last_commit_taken, next_of, IsNext, MayEnter}
@@ -34,8 +35,8 @@ module _ (number : ℕ) (job : Job) (text : List ℕ) (old : Seat)
   next = subst (λ r. IsNext r (view_of old).books) (ap (λ (taken : TakenJob). Note taken.number text) last)
       (note-next (view_of old).books text none (ap (λ (taken : TakenJob). taken.job.note) last ∙ noted) some)
 
-  pub MayEnter-note : 1 ≤ number → MayEnter (next_of (view_of old).books) (view_of old).books
-  MayEnter-note least = may-enter (Note number text) (view_of old).books (subst (λ (taken : TakenJob). 1 ≤ taken.number) (sym last) least)
+  pub MayEnter-note : (view_of old).books.half ≡ Neither → 1 ≤ number → MayEnter (next_of (view_of old).books) (view_of old).books
+  MayEnter-note whole least = may-enter (Note number text) (view_of old).books whole (subst (λ (taken : TakenJob). 1 ≤ taken.number) (sym last) least)
       next (inl tt)
 
   pub note-spells_next : (units : List ℕ) → units ≡ spelling (Note number text) → units ≡ spelling (next_of (view_of old).books)

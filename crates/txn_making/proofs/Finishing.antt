@@ -10,6 +10,7 @@ use Rattle.lock_core.specs.Transactions.{recs_of, has_end}
 use Rattle.lock_core.specs.declared.job.Job.{Job}
 use Rattle.log_table.specs.declared.table.Seat.{Seat}
 use Rattle.log_rule.specs.declared.view.Books.{Books}
+use Rattle.log_rule.specs.declared.view.Half.TheVariants.{Neither}
 use Rattle.log_rule.specs.declared.view.Entry.{Entry}
 use Rattle.log_rule.specs.declared.view.TakenJob.{TakenJob}
 use Rattle.log_rule.specs.Books.{balance_taken, next_of, IsNext, MayEnter}
@@ -62,11 +63,12 @@ next-last : (number : ℕ) (job : Job) (answer : Answer) (holdings : List TakenA
 next-last number job answer holdings books reaches = record { rest = []; plan = reaches.left }
 
 pub MayEnter-last_record : (accounts number : ℕ) (job : Job) (answer : Answer) (holdings holdings' : List TakenAccount) (old between : Seat)
-    (before : List Entry)
+    (before : List Entry) → (view_of old).books.half ≡ Neither
     → Adds before old between → HoldsJob accounts number job holdings (view_of old).books
     → ReachesEnd answer number job holdings' (view_of between).books → MayEnter (next_of (view_of between).books) (view_of between).books
-MayEnter-last_record accounts number job answer holdings holdings' old between before adds holds reaches =
+MayEnter-last_record accounts number job answer holdings holdings' old between before whole adds holds reaches =
     IsLeft-may_enter (last_record number job answer) [] (view_of between).books
+    (ap (λ (books : Books). books.half) adds.entries.books_are ∙ whole)
     (subst (λ (last : TakenJob). 1 ≤ last.number) (sym still.last) holds.allowed.number.0)
     (HoldsJob-holds_accounts accounts number job holdings (view_of between).books still) reaches.left
   where

@@ -6,6 +6,7 @@ use Rattle.std.proofs.lemmas.List.{length-map, length-take, get_or-map, get_or-t
 use Rattle.std.proofs.lemmas.List.Elements.{All-push, All-from_get_or, recursion_from_All}
 use Rattle.log_table.specs.declared.table.Seat.{Seat}
 use Rattle.log_rule.specs.declared.view.Books.{Books}
+use Rattle.log_rule.specs.declared.view.Half.TheVariants.{Neither}
 use Rattle.log_rule.specs.declared.view.Entry.{Entry}
 use Rattle.log_rule.specs.declared.view.Taken.{Taken}
 use Rattle.log_rule.specs.Books.{taking}
@@ -63,12 +64,12 @@ module _ (accounts : List ℕ) (holdings : List TakenAccount) (first second thir
   }
 
   -- one more is taken
-  pub TakesAll-push : (more : List ℕ) (holding : TakenAccount) (all : List TakenAccount) → all ≡ holdings ++ holding ∷ []
+  pub TakesAll-push : (view_of first).books.half ≡ Neither → (more : List ℕ) (holding : TakenAccount) (all : List TakenAccount) → all ≡ holdings ++ holding ∷ []
       → more ≡ accounts ++ holding.taken.account ∷ []
       → holding.balance ≡ holding.taken.balance
       → HasEntries second third (view_of second).entries (taking (held_of holding.taken) (view_of second).books)
       → (view_of third).seen.stop ≡ 0 → TakesAll more all first third
-  TakesAll-push more holding all pushed is unchanged after runs = subst (λ list. TakesAll more list first third) (sym pushed) record {
+  TakesAll-push whole more holding all pushed is unchanged after runs = subst (λ list. TakesAll more list first third) (sym pushed) record {
     accounts_are = map-append account_of holdings (holding ∷ []) ∙ (λ i. before.accounts_are i ++ holding.taken.account ∷ []) ∙ sym is;
     unchanged = All-push (λ (holding : TakenAccount). holding.balance ≡ holding.taken.balance) holdings holding before.unchanged unchanged;
     entries = subst (λ (p : List Entry × Books). HasEntries first third p.0 p.1) (λ i. (before.entries.entries_are i, books i))
@@ -78,4 +79,4 @@ module _ (accounts : List ℕ) (holdings : List TakenAccount) (first second thir
     where
       books : taking (held_of holding.taken) (view_of second).books ≡ holding_all (holdings ++ holding ∷ []) (view_of first).books
       books = ap (taking (held_of holding.taken)) before.entries.books_are
-          ∙ (λ i. record (view_of first).books { held = sym (held-push holdings holding []) i })
+          ∙ (λ i. record (view_of first).books { held = sym (held-push holdings holding []) i; half = sym whole i })

@@ -1,17 +1,18 @@
 -- Accounts that are held, and given back in the order in which they were taken.
-use Rattle.std.proofs.Common.{◌≡◌, ◌≢◌, ◌==◌, ℕ, suc, ◌+◌, ◌<◌, ◌≤◌, inl, inr, cond, true, false, List, [], ◌∷◌, ◌++◌, length, get_or, map, All, Contains, sym, refl, ap, ◌∙◌, subst, arith, eq-eqb, ne_eqb, length-append, append_assoc}
+use Rattle.std.proofs.Common.{◌≡◌, ◌≢◌, ◌==◌, ℕ, suc, ◌+◌, ◌*◌, ◌<◌, ◌≤◌, inl, inr, cond, true, false, List, [], ◌∷◌, ◌++◌, length, get_or, map, All, Contains, sym, refl, ap, ◌∙◌, subst, arith, eq-eqb, ne_eqb, length-append, append_assoc}
 use Rattle.std.specs.List.{AllByRecursion}
 use Rattle.std.specs.List.Sorted.{IsStrictlyIncreasing}
 use Rattle.std.proofs.lemmas.List.{length-map, get_or-map}
 use Rattle.std.proofs.lemmas.List.Elements.{recursion_from_All, All-cons, Contains-append_left, Contains-append_right, Contains-append_cases, Contains-push, Contains-push_cases}
 use Rattle.log_table.specs.declared.table.Seat.{Seat}
 use Rattle.log_rule.specs.declared.view.Books.{Books}
+use Rattle.log_rule.specs.declared.view.Half.TheVariants.{Neither}
 use Rattle.log_rule.specs.declared.view.Given.{Given}
 use Rattle.log_rule.specs.declared.view.Taken.{Taken as TakenHere}
 use Rattle.log_rule.specs.declared.view.View.{View}
 use Rattle.log_rule.specs.Books.{times_held, balance_taken, last_commit_taken, without}
 use Rattle.log_table.specs.Seats.{Becomes, view_of}
-use Rattle.log_rule.specs.AccountViews.{gave_account}
+use Rattle.log_rule.specs.AccountViews.{stored_balance, gave_account}
 use Rattle.early_locks.specs.declared.taken.Taken.{Taken}
 use Rattle.early_locks.specs.Locks.{HoldsTaken, held_of, given_at}
 use Rattle.txn_parts.specs.declared.taken_account.TakenAccount.{TakenAccount}
@@ -162,23 +163,24 @@ module _ (first second : Seat) (back holdings rest : List TakenAccount) (holding
   pub HoldsTaken-with_held : HoldsTaken holding.taken (view_of second).books
   HoldsTaken-with_held = subst (λ m. HoldsTaken holding.taken m.0.books) (sym is-held) held-first
 
-  pub gave_account-with_held : (third : Seat) → Becomes second third (gave_account holding.taken.account (view_of second))
+  pub gave_account-with_held : (third : Seat) (balance : ℕ) → view.books.half ≡ Neither
+      → Becomes second third (gave_account holding.taken.account (stored_balance holding.taken.account balance (view_of second)))
       → Becomes first third (with_held (held_behind rest []) (back ++ holding ∷ []) view)
-  gave_account-with_held third after = record {
+  gave_account-with_held third balance whole after = record {
     table_is = after.table_is ∙ before.table_is;
     number = after.number ∙ before.number;
-    me = after.me ∙ ap (λ m. (gave_account holding.taken.account m.0, m.1)) is-held
+    me = after.me ∙ ap (λ m. (gave_account holding.taken.account (stored_balance holding.taken.account balance m.0), m.1)) is-held
         ∙ (λ i. (
           record view {
             seen = record view.seen { steps = total i };
-            books = record view.books { held = left i; given = gone i };
+            books = record view.books { held = left i; half = sym whole i; given = gone i };
           },
           first.base.me.1,
         ));
     worker = after.worker ∙ before.worker;
   }
     where
-      total : view.seen.steps + length back + 1 ≡ view.seen.steps + length (back ++ holding ∷ [])
+      total : view.seen.steps + 2 * length back + 1 + 1 ≡ view.seen.steps + 2 * length (back ++ holding ∷ [])
       total = omega (arith, length-append back (holding ∷ []))
 
       gone : record (given_at view holding.taken) { balance = balance_taken (held_behind (holding ∷ rest) []) holding.taken.account }

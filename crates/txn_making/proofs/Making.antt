@@ -6,6 +6,7 @@ use Rattle.log_record.specs.declared.rec.Rec.TheVariants.{Update}
 use Rattle.log_record.specs.Spelling.{spelling}
 use Rattle.log_table.specs.declared.table.Seat.{Seat}
 use Rattle.log_rule.specs.declared.view.Books.{Books}
+use Rattle.log_rule.specs.declared.view.Half.TheVariants.{Neither}
 use Rattle.log_rule.specs.Books.{last_commit_taken, next_of, HoldsAccounts, IsNext, MayEnter}
 use Rattle.log_table.specs.Seats.{view_of}
 use Rattle.log_rule.proofs.RecordsToPlace.{may-enter}
@@ -19,9 +20,9 @@ use Rattle.txn_making.proofs.Adding.{adds-trans, IsLeft-placing_all, uncommitted
 use Rattle.txn_making.proofs.Putting.{IsNext-spelling, IsNext-puts_record, IsNext-stops_for}
 
 -- with all accounts held the next record may be placed
-pub IsLeft-may_enter : (rec : Rec) (rest : List Rec) (books : Books) → 1 ≤ books.last.number → HoldsAccounts books
+pub IsLeft-may_enter : (rec : Rec) (rest : List Rec) (books : Books) → books.half ≡ Neither → 1 ≤ books.last.number → HoldsAccounts books
     → IsLeft (rec ∷ rest) books → MayEnter (next_of books) books
-IsLeft-may_enter rec rest books some_job holds left = may-enter rec books some_job record { rest = rest; plan = left } (inr holds)
+IsLeft-may_enter rec rest books whole some_job holds left = may-enter rec books whole some_job record { rest = rest; plan = left } (inr holds)
 
 module _ (accounts number : ℕ) (leg : ℕ × ℕ × ℕ) (holdings : List TakenAccount) (old : Seat)
     (may : MayMakeLeg accounts number leg holdings (view_of old).books) where
@@ -47,8 +48,8 @@ module _ (accounts number : ℕ) (leg : ℕ × ℕ × ℕ) (holdings : List Take
   next-less : IsNext less books
   next-less = record { rest = more ∷ may.rest; plan = may.left }
 
-  pub MayEnter-payer_update : MayEnter (next_of books) books
-  MayEnter-payer_update = IsLeft-may_enter less (more ∷ may.rest) books may.some_job may.holds may.left
+  pub MayEnter-payer_update : books.half ≡ Neither → MayEnter (next_of books) books
+  MayEnter-payer_update whole = IsLeft-may_enter less (more ∷ may.rest) books whole may.some_job may.holds may.left
 
   pub payer_update-spells_next : (units : List ℕ) (payer : TakenAccount)
       → units ≡ spelling (Update number payer.taken.account (neg_ℤ (pos leg.2)) payer.taken.mark) → Contains holdings payer
@@ -73,8 +74,9 @@ module _ (accounts number : ℕ) (leg : ℕ × ℕ × ℕ) (holdings : List Take
     next-more : IsNext more (view_of between).books
     next-more = record { rest = may.rest; plan = left-second }
 
-    pub MayEnter-payee_update : MayEnter (next_of (view_of between).books) (view_of between).books
-    MayEnter-payee_update = IsLeft-may_enter more may.rest (view_of between).books (subst (λ (b : Books). 1 ≤ b.last.number) (sym placed) may.some_job)
+    pub MayEnter-payee_update : books.half ≡ Neither → MayEnter (next_of (view_of between).books) (view_of between).books
+    MayEnter-payee_update whole = IsLeft-may_enter more may.rest (view_of between).books (ap (λ (b : Books). b.half) placed ∙ whole)
+        (subst (λ (b : Books). 1 ≤ b.last.number) (sym placed) may.some_job)
         (subst HoldsAccounts (sym placed) may.holds) left-second
 
     pub payee_update-spells_next : (units : List ℕ) (payee : TakenAccount)

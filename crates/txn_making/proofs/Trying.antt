@@ -51,7 +51,7 @@ Becomes-has_entries old new seen books idle becomes tail exposed durable steps =
 }
 
 pub HasTaken-balance_le : (old new : Seat) (account : ℕ) (taken : Taken) → HasTaken old new account taken → taken.balance ≤ MOST_BALANCE
-HasTaken-balance_le old new account taken has = omega (arith, has.balance, has.word.fits)
+HasTaken-balance_le old new account taken has = has.range
 
 either : {X Y Z : Type 0} (so : Bool) → MatchBool so X Y → (X → Z) → (Y → Z) → Z
 either true has f g = f has

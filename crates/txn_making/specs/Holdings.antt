@@ -1,5 +1,5 @@
 -- The accounts that a transfer holds.
-use Rattle.std.specs.Prelude.{◌≡◌, ◌≢◌, ℕ, ◌+◌, ◌<◌, ◌≤◌, Bool, true, List, [], ◌∷◌, ◌++◌, length, map, All}
+use Rattle.std.specs.Prelude.{◌≡◌, ◌≢◌, ℕ, ◌+◌, ◌*◌, ◌<◌, ◌≤◌, Bool, true, List, [], ◌∷◌, ◌++◌, length, map, All}
 use Rattle.std.specs.List.{AllByRecursion}
 use Rattle.std.specs.List.Sorted.{IsStrictlyIncreasing}
 use Rattle.lsn_space.specs.declared.opening.TheConstants.{MOST_BALANCE}
@@ -95,10 +95,10 @@ abbrev pub given_behind : View → List TakenAccount → List Given → List Giv
 given_behind view [] given = given
 given_behind view (holding ∷ holdings) given = given_behind view holdings (given_at view holding.taken ∷ given)
 
--- after these accounts were given back, in a step each, with those held
+-- after these accounts were given back, in two steps each, with those held
 abbrev pub with_held : List TakenHere → List TakenAccount → View → View
 with_held held back view = record view {
-  seen = record view.seen { steps = view.seen.steps + length back };
+  seen = record view.seen { steps = view.seen.steps + 2 * length back };
   books = record view.books { held = held; given = given_behind view back view.books.given };
 }
 

@@ -2,10 +2,9 @@
 ghost use Rattle.std.specs.Prelude.{◌≡◌, ◌<◌, ◌≤◌, false, All};
 ghost use Rattle.lsn_space.specs.declared.opening.TheConstants.{MOST_BALANCE};
 ghost use Rattle.lock_core.specs.Transactions.{recs_of, has_commit};
-ghost use Rattle.log_table.specs.Seats.{IsOf, Becomes, view_of};
-ghost use Rattle.log_rule.specs.AccountViews.{gave_account};
+ghost use Rattle.log_table.specs.Seats.{IsOf, view_of};
 ghost use Rattle.ring_buffer.specs.Calls.{IsReady};
-ghost use Rattle.early_locks.specs.Locks.{HoldsTaken, GivesBack};
+ghost use Rattle.early_locks.specs.Locks.{HoldsTaken, GivesBack, HasGivenBack};
 ghost use Rattle.txn_making.specs.Holdings.{HoldsKnown, GoesBack, MayGiveAs, ReturnsAll};
 
 use arrayvec::ArrayVec;
@@ -60,7 +59,7 @@ fn give_one(table: &LogTable, seat: &mut Seat, taken: Taken, balance: u64, mark:
     requires balance { balance ≤ MOST_BALANCE }
     requires values { GivesBack taken balance mark seat.old }
     requires durable { MayGiveAs durable (view_of seat.old) }
-    ensures { Becomes seat.old seat.new (gave_account taken.account (view_of seat.old)) }
+    ensures { HasGivenBack taken balance seat.old seat.new }
 {
     if durable {
         give_durable(table, seat, taken, balance, mark);

@@ -11,9 +11,14 @@ use Rattle.txn_parts.specs.declared.desk.Desk.{Desk}
 use Rattle.txn_parts.specs.declared.relief.Relief.{Ghosts}
 
 pub IsReady-same : (first second : Seat) → IsReady (view_of first) → IsSameWorker first second → (view_of second).call ≡ Idle
-    → (view_of second).contended ≡ (view_of first).contended → IsReady (view_of second)
-IsReady-same first second ready same idle contended = record {
-  rests = record { active = ap (λ standing. standing.role) same.standing ∙ ready.rests.active; idle = idle };
+    → (view_of second).contended ≡ (view_of first).contended → (view_of second).books.half ≡ (view_of first).books.half
+    → IsReady (view_of second)
+IsReady-same first second ready same idle contended half = record {
+  rests = record {
+    active = ap (λ standing. standing.role) same.standing ∙ ready.rests.active;
+    idle = idle;
+    whole = half ∙ ready.rests.whole;
+  };
   alone = contended ∙ ready.alone;
 }
 

@@ -1,14 +1,14 @@
 //! The accounts: who holds them, and with which balance and last commit.
 ghost use Rattle.std.specs.Prelude.{◌≡◌, ◌<◌};
-ghost use Rattle.log_rule.specs.May.{MayTake, MayGiveBack};
+ghost use Rattle.log_rule.specs.May.{MayTake, MayLoadBalance, MayStoreBalance, MayGiveBack};
 ghost use Rattle.log_table.specs.Seats.{IsOf, view_of};
-ghost use Rattle.log_table.specs.Steps.{LoadsAccount, ExchangesAccount, StoresAccount};
+ghost use Rattle.log_table.specs.Steps.{LoadsAccount, ExchangesAccount, LoadsBalance, StoresBalance, StoresAccount};
 
-use crate::plays::{ExchangeAccount, LoadAccount, Number, StoreAccount};
+use crate::plays::{ExchangeAccount, LoadAccount, LoadBalance, Number, StoreAccount, StoreBalance};
 use crate::table::{LogTable, Seat};
 use slot_word::AccountWord;
 use std::marker::Brand;
-use table_layout::account_place;
+use table_layout::{account_place, balance_place};
 
 /// The account's number, which a step can't see, comes by the type, here and below.
 fn load_account_as<N: Number>(table: &LogTable, seat: &mut Seat, account: u32) -> AccountWord
@@ -51,6 +51,20 @@ fn exchange_account_as<N: Number>(
     }
 }
 
+fn store_balance_as<N: Number>(table: &LogTable, seat: &mut Seat, account: u32, balance: u64)
+    requires seat { IsOf table.now seat.old }
+    requires account { account < table.now.accounts }
+    requires next { MayStoreBalance account balance (view_of seat.old) }
+    requires named { N.number ≡ account }
+    ensures { StoresBalance table.now account balance seat.old seat.new }
+{
+    let place = balance_place(table.ring, table.slots, account);
+    table
+        .table
+        .shared
+        .store::<StoreBalance<N>>(&mut seat.base, place, balance);
+}
+
 fn store_account_as<N: Number>(table: &LogTable, seat: &mut Seat, account: u32, word: AccountWord)
     requires seat { IsOf table.now seat.old }
     requires account { account < table.now.accounts }
@@ -91,8 +105,30 @@ impl LogTable {
         exchange_account_as::<Brand>(self, seat, account, from, to)
     }
 
-    /// Gives the account back: with the balance and last commit that the seat's last job made, where
-    /// it is committed, else as they were taken. Who listens for it is woken.
+    /// The balance of the account whose word the seat has just taken.
+    pub fn load_balance(&self, seat: &mut Seat, account: u32) -> u64
+        requires seat { IsOf self.now seat.old }
+        requires account { account < self.now.accounts }
+        requires next { MayLoadBalance account (view_of seat.old) }
+        ensures { LoadsBalance self.now account seat.old seat.new result }
+    {
+        let place = balance_place(self.ring, self.slots, account);
+        self.table.shared.load::<LoadBalance>(&mut seat.base, place)
+    }
+
+    /// Stores the balance with which the account goes back: the one that the seat's last job made,
+    /// where it is committed, else the one as it was taken.
+    pub fn store_balance(&self, seat: &mut Seat, account: u32, balance: u64)
+        requires seat { IsOf self.now seat.old }
+        requires account { account < self.now.accounts }
+        requires next { MayStoreBalance account balance (view_of seat.old) }
+        ensures { StoresBalance self.now account balance seat.old seat.new }
+    {
+        store_balance_as::<Brand>(self, seat, account, balance);
+    }
+
+    /// Gives the account back, whose balance is stored: with the last commit that the seat's last job
+    /// made, where it is committed, else as it was taken. Who listens for it is woken.
     pub fn store_account(&self, seat: &mut Seat, account: u32, word: AccountWord)
         requires seat { IsOf self.now seat.old }
         requires account { account < self.now.accounts }

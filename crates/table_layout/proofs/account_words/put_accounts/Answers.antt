@@ -8,5 +8,6 @@ loop-account-preserved c =
     let rows = c.args.accounts.now.rows in
     let below : c.loop-account.account < length rows = omega arith in
     let row-is = slice_get-get_or rows c.loop-account.account (0, 0) below in
-    puts-more c.args.ring c.args.slots rows c.loop-account.account c.pack-word.result c.account_place.result c.args.words.now.items c.loop-account.words.items
-    below c.requires.size c.account_place.ensures (grind arith steps 400000) c.loop-account.invariant
+    puts-more c.args.ring c.args.slots rows c.loop-account.account c.args.words.now.items c.loop-account.words.items below c.requires.size c.loop-account.invariant
+    c.pack.result _ c.account_place.result c.balance_place.result c.account_place.ensures c.balance_place.ensures
+    (grind arith steps 400000) (grind arith steps 400000)

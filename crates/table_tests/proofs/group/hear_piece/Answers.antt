@@ -24,7 +24,7 @@ returns-in-Base-clause-goes_on g c next may =
     let heard = c.in-Base.ensures.heard share.piece share.call in
     let same = heard.same share.first share.same share.tail_seen share.durable_seen in
     GoesOn-kept next (view_of c.args.seat.now) (view_of c.hear.new.seat) (same.standing ∙ sym share.same.standing) (heard.alone may.alone)
-    (ap (λ (books : Books). books.held) heard.books) (ap (λ (books : Books). books.jobs) heard.books) may
+    (ap (λ (books : Books). books.held) heard.books) (ap (λ (books : Books). books.half) heard.books) (ap (λ (books : Books). books.jobs) heard.books) may
 
 pub returns-in-Refused-clause-refused_goes_on : goal.returns-in-Refused-clause-refused_goes_on
 returns-in-Refused-clause-refused_goes_on g c next may =
@@ -32,4 +32,4 @@ returns-in-Refused-clause-refused_goes_on g c next may =
     let heard = c.in-Refused.ensures.heard share.piece share.call in
     let same = heard.same share.first share.same share.tail_seen share.durable_seen in
     GoesOn-kept next (view_of c.args.seat.now) (view_of c.hear.new.seat) (same.standing ∙ sym share.same.standing) (heard.alone may.alone)
-    (ap (λ (books : Books). books.held) heard.books) (ap (λ (books : Books). books.jobs) heard.books) may
+    (ap (λ (books : Books). books.held) heard.books) (ap (λ (books : Books). books.half) heard.books) (ap (λ (books : Books). books.jobs) heard.books) may

@@ -25,6 +25,6 @@ returns-clause-goes_on c =
     IfOk-weaker c.try_join.result _ _ (λ joined has next later.
     let joins = ap (λ me. me.0) has.becomes.me in
     GoesOn-kept next (view_of c.take_job.new.seat) (view_of c.try_join.new.seat) (ap (λ (v : View). v.standing) joins) c.try_join.ensures.alone
-    (ap (λ (v : View). v.books.held) joins) (ap (λ (v : View). v.books.jobs) joins)
+    (ap (λ (v : View). v.books.held) joins) (ap (λ (v : View). v.books.half) joins) (ap (λ (v : View). v.books.jobs) joins)
     (GoesOn-taken c.args.table.now c.args.number c.args.job.now c.args.seat.now c.take_job.new.seat c.take_job.result c.requires.worker
     c.take_job.ensures.view next later)) c.try_join.ensures.joined

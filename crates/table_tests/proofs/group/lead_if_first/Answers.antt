@@ -20,4 +20,4 @@ pub returns-clause-goes_on : goal.returns-clause-goes_on
 returns-clause-goes_on c next may =
     let stays = c.lead.ensures.stays in
     GoesOn-kept next (view_of c.args.seat.now) (view_of c.lead.new.seat) stays.same.standing (stays.contended ∙ may.alone)
-    (ap (λ (books : Books). books.held) stays.books) (ap (λ (books : Books). books.jobs) stays.books) may
+    (ap (λ (books : Books). books.held) stays.books) (ap (λ (books : Books). books.half) stays.books) (ap (λ (books : Books). books.jobs) stays.books) may

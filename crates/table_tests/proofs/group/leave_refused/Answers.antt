@@ -11,5 +11,5 @@ returns c =
     record {
       may = λ next txn may. MayInsert-idle c.args.table.now next c.leave_group.new.seat txn own has.idle
           (GoesOn-kept next (view_of c.args.seat.now) (view_of c.leave_group.new.seat) has.same.standing (has.contended ∙ may.alone)
-          (ap (λ (books : Books). books.held) has.books_are) (ap (λ (books : Books). books.jobs) has.books_are) may);
+          (ap (λ (books : Books). books.held) has.books_are) (ap (λ (books : Books). books.half) has.books_are) (ap (λ (books : Books). books.jobs) has.books_are) may);
     }

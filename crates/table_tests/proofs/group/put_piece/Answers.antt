@@ -14,4 +14,4 @@ returns-clause-may c next txn may =
     MayInsert-idle c.args.table.now next c.release.new.seat txn own has.idle
     (GoesOn-kept next (view_of c.args.seat.now) (view_of c.release.new.seat) (has.same.standing ∙ ap (λ (v : View). v.standing) fills)
     (has.contended ∙ (ap (λ (v : View). v.contended) fills ∙ may.alone))
-    (ap (λ (books : Books). books.held) books) (ap (λ (books : Books). books.jobs) books) may)
+    (ap (λ (books : Books). books.held) books) (ap (λ (books : Books). books.half) books) (ap (λ (books : Books). books.jobs) books) may)

@@ -7,7 +7,7 @@ use Rattle.txn_making.proofs.Making.{MayEnter-payer_update, payer_update-spells_
 use Rattle.txn_making.proofs.legs.make_leg.Goals as goal
 
 pub insert_units-requires-clause-next : goal.insert_units-requires-clause-next
-insert_units-requires-clause-next g c = MayEnter-payer_update _ _ _ _ c.args.desk.now.seat.now c.requires.leg
+insert_units-requires-clause-next g c = MayEnter-payer_update _ _ _ _ c.args.desk.now.seat.now c.requires.leg c.requires.work.ready.rests.whole
 
 pub insert_units-requires-clause-spelled : goal.insert_units-requires-clause-spelled
 insert_units-requires-clause-spelled g c =
@@ -27,6 +27,7 @@ returns-in_err-insert_units-clause-cut g c =
 pub insert_units-requires-2-clause-next : goal.insert_units-requires-2-clause-next
 insert_units-requires-2-clause-next g c =
     MayEnter-payee_update _ _ _ _ c.args.desk.now.seat.now c.requires.leg c.insert_units.new.desk.seat.now _ c.in_ok-insert_units.ensures.put
+    c.requires.work.ready.rests.whole
 
 pub insert_units-requires-2-clause-spelled : goal.insert_units-requires-2-clause-spelled
 insert_units-requires-2-clause-spelled g c =

@@ -45,7 +45,7 @@ returns-in-Err-clause-given g c = KeepsGiven-trans _ _ _
 pub accounts-preserved : goal.accounts-preserved
 accounts-preserved g c = (
   WorksOn-trans g.Q.Relief g.met.Q.Relief.later_trans _ _ _ c.accounts.invariant.0 c.take_one.ensures.work,
-  TakesAll-push _ _ _ _ _ c.accounts.invariant.1 _ _ _ c.push.ensures.items
+  TakesAll-push _ _ _ _ _ c.accounts.invariant.1 c.requires.work.ready.rests.whole _ _ _ c.push.ensures.items
       (take_more c.args.accounts.now c.accounts.account-index 0 c.accounts-test.true
       ∙ (λ i. take c.accounts.account-index c.args.accounts.now ++ sym c.in-Ok.ensures.taken.account_is i ∷ []))
       refl c.in-Ok.ensures.taken.entries c.in-Ok.ensures.runs,

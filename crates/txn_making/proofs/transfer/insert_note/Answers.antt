@@ -8,7 +8,8 @@ use Rattle.txn_making.proofs.transfer.insert_note.Goals as goal
 pub insert_units-requires-clause-next : goal.insert_units-requires-clause-next
 insert_units-requires-clause-next g c =
     let note = c.spell_job_note.ensures.noted c.if-not-spell_job_note.false in
-    MayEnter-note _ _ _ c.args.desk.now.seat.now c.requires.job note.noted c.requires.begins note.fits.0 c.requires.number.0
+    MayEnter-note _ _ _ c.args.desk.now.seat.now c.requires.job note.noted c.requires.begins note.fits.0 c.requires.work.ready.rests.whole
+    c.requires.number.0
 
 pub insert_units-requires-clause-spelled : goal.insert_units-requires-clause-spelled
 insert_units-requires-clause-spelled g c =

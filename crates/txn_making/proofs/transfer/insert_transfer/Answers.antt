@@ -48,7 +48,7 @@ pub insert_units-requires-clause-next : goal.insert_units-requires-clause-next
 insert_units-requires-clause-next g c =
     let noted = c.in_ok-insert_note.ensures.noted in
     let legs = c.in_ok-answer.ensures.added in
-    MayEnter-last_record _ _ _ _ _ _ _ _ _ (adds-trans _ _ _ _ _ noted.adds legs.1) c.requires.may.holds c.in_ok-answer.ensures.ended
+    MayEnter-last_record _ _ _ _ _ _ _ _ _ c.requires.work.ready.rests.whole (adds-trans _ _ _ _ _ noted.adds legs.1) c.requires.may.holds c.in_ok-answer.ensures.ended
 
 pub insert_units-requires-clause-spelled : goal.insert_units-requires-clause-spelled
 insert_units-requires-clause-spelled g c =

@@ -1,6 +1,7 @@
 use Rattle.std.proofs.Common.{ap, refl}
 use Rattle.job_queue.specs.Passes.{places_in}
 use Rattle.log_rule.specs.May.{MayTakeJob}
+use Rattle.log_rule.specs.declared.view.Books.{Books}
 use Rattle.txn_parts.specs.Desk.{view_at, accounts_at}
 use Rattle.txn_parts.proofs.DeskLemmas.{IsReady-same}
 use Rattle.ring_buffer.proofs.SameWorkers.{IsOf-same}
@@ -30,7 +31,7 @@ returns-clause-work g c = let t = taken g (goal.at.returns-clause-work g c).Afte
   relief = refl {a = c.args.desk.now.relief.ghost_name};
   at_work = record {
     seat = IsOf-same _ _ _ c.requires.work.seat t.same;
-    ready = IsReady-same _ _ c.requires.work.ready t.same t.idle t.contended;
+    ready = IsReady-same _ _ c.requires.work.ready t.same t.idle t.contended (ap (λ (books : Books). books.half) t.books_are);
     relief = c.rest_between.ensures.ready;
   };
   same = t.same;

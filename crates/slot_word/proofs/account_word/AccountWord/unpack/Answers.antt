@@ -1,4 +1,4 @@
-use Rattle.std.proofs.Common.{◌/◌, ◌^◌, ◌∙◌, rules}
+use Rattle.std.proofs.Common.{◌∙◌, rules}
 use Rattle.std.proofs.lemmas.Nat.{and_mask}
 use Rattle.slot_word.proofs.account_word.AccountWord.unpack.Goals as goal
 
@@ -7,12 +7,6 @@ returns-then-word-eq1-clause-held c = search rules steps 300000
 
 pub returns-else-word-eq1-clause-held : goal.returns-else-word-eq1-clause-held
 returns-else-word-eq1-clause-held c = search rules steps 300000
-
-pub returns-then-word-eq1-clause-balance : goal.returns-then-word-eq1-clause-balance
-returns-then-word-eq1-clause-balance c = c.taken.ensures.balance ∙ and_mask (c.args.word / 2 ^ 32) 31
-
-pub returns-else-word-eq1-clause-balance : goal.returns-else-word-eq1-clause-balance
-returns-else-word-eq1-clause-balance c = c.free.ensures.balance ∙ and_mask (c.args.word / 2 ^ 32) 31
 
 pub returns-then-word-eq1-clause-mark : goal.returns-then-word-eq1-clause-mark
 returns-then-word-eq1-clause-mark c = c.taken.ensures.mark ∙ and_mask c.args.word 32
