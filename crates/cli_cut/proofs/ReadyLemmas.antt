@@ -1,5 +1,6 @@
 -- A log that is written in batches: what is known before each record, at a call that fails, and once all batches are written.
-use Rattle.std.proofs.Common.{◌≡◌, ◌≤◌, ◌<◌, ◌↔◌, ◌^◌, ◌∙◌, inl, refl, ap, sym, subst, Err, ℕ, ◌+◌, ◌*◌, true, false, if◌then◌else◌, nat_le, List, [], ◌∷◌, ◌++◌, append-nil, length, length-append, map, take, drop, arith}
+use Rattle.std.proofs.Common.{◌≡◌, ◌≤◌, ◌<◌, ◌↔◌, ◌^◌, ◌∙◌, inl, refl, ap, sym, subst, Err, ℕ, ◌+◌, ◌*◌, true, false, if◌then◌else◌, nat_le, List, []}
+use Rattle.std.proofs.Common.{◌∷◌, ◌++◌, append-nil, length, length-append, map, take, drop, arith}
 use Rattle.std.specs.List.{AllByRecursion}
 use Rattle.std.proofs.Math.Seq.{take-append_seam}
 use Rattle.std.proofs.lemmas.List.{take-append-drop}
@@ -231,7 +232,8 @@ module _ {D : Type 0} (g : Ghosts D) (begun : D) (opening : Opening) (units : Li
         (honest : (g.honest now → g.honest new) × (g.honest new → g.honest now)) (attached : g.attached new ≡ g.attached now)
         (faults : g.faults new ≡ g.faults now) (more : 0 < length waiting) where
       flushed : ((records : List Rec) (are : AreUnitsOf units records)
-          → packed_behind MOST_UNITS (ready.writing records are).waits (ready.writing records are).left ≡ (ready.writing records are).waits ∷ packed_behind MOST_UNITS [] (ready.writing records are).left)
+          → packed_behind MOST_UNITS (ready.writing records are).waits (ready.writing records are).left ≡
+          (ready.writing records are).waits ∷ packed_behind MOST_UNITS [] (ready.writing records are).left)
           → IsReady g begun opening units new after [] room rest
       flushed one = record {
         writing = λ records are. writing-flushed g opening records begun now new tail after waiting rest (ready.writing records are)

@@ -1,5 +1,6 @@
 -- What `demo` answers: the log that it makes, what is promised of the transfers, and what was concluded.
-use Rattle.std.proofs.Common.{Bool, ◌≡◌, ◌≤◌, ◌⊎◌, ⊎_elim, inl, inr, refl, ap, sym, ◌∙◌, subst, ℕ, zero, suc, ◌+◌, ◌*◌, List, [], ◌∷◌, length, map, replicate, All, Option, Some, None, arith, append-nil}
+use Rattle.std.proofs.Common.{Bool, ◌≡◌, ◌≤◌, ◌⊎◌, ⊎_elim, inl, inr, refl, ap, sym, ◌∙◌, subst, ℕ, zero, suc, ◌+◌, ◌*◌, List, [], ◌∷◌, length, map}
+use Rattle.std.proofs.Common.{replicate, All, Option, Some, None, arith, append-nil}
 use Rattle.std.proofs.KnownBytes.{Appends-trans}
 use Rattle.std.proofs.lemmas.List.{length-replicate}
 use Rattle.std.proofs.lemmas.List.Elements.{All-replicate}
@@ -40,7 +41,9 @@ use Rattle.txn_jobs.specs.Places.{NumberedJobs}
 use Rattle.txn_script.specs.Generator.{generated_transfers}
 use Rattle.lock_core.specs.Transfers.{transfer_of}
 use Rattle.cli_shared.specs.declared.report.Detail.{Detail}
-use Rattle.cli_shared.specs.declared.report.Detail.TheVariants.{Fine, NoMemory, Usage, Script, Read, Write, Disk, NotALog, BadSnapshot, BadBatch, BadRec, Unlawful, LogEnd, TxnEnd, Exists, NoSuchLsn, BadStream, Gap, StreamUnlawful, NoAccount}
+use Rattle.cli_shared.specs.declared.report.Detail.TheVariants.{Fine, NoMemory, Usage, Script, Read, Write, Disk, NotALog, BadSnapshot, BadBatch}
+use Rattle.cli_shared.specs.declared.report.Detail.TheVariants.{BadRec, Unlawful, LogEnd, TxnEnd, Exists, NoSuchLsn, BadStream, Gap, StreamUnlawful}
+use Rattle.cli_shared.specs.declared.report.Detail.TheVariants.{NoAccount}
 use Rattle.cli_threads.specs.declared.transfers.ReadyRun.{ReadyRun}
 use Rattle.cli_ending.specs.declared.conclusion.RunEnd.{RunEnd}
 use Rattle.cli_threads.specs.declared.transfers.Prepared.{Prepared}
@@ -55,7 +58,9 @@ use Rattle.run_plan.specs.Summary.{summary_of}
 use Rattle.cli_shared.specs.Opening.{OnlyLooks}
 use Rattle.cli_threads.specs.Sharing.{IsSharedOut, Sharing}
 use Rattle.cli_threads.specs.Transferred.{IsOpened}
-use Rattle.cli_threads.proofs.EndingLemmas.{Concludes-cases, list, sharing, ended-counted, ended-drained, ended-keeps_log, ended-keeps_rows, ended-partly_serial_after, ended-shared_out, write_fault-voice_lines, ended-stops_at_log_end, ended-text_prefix, ended-runs_whole, ended-serial_after}
+use Rattle.cli_threads.proofs.EndingLemmas.{Concludes-cases, list, sharing, ended-counted, ended-drained, ended-keeps_log, ended-keeps_rows}
+use Rattle.cli_threads.proofs.EndingLemmas.{ended-partly_serial_after, ended-shared_out, write_fault-voice_lines, ended-stops_at_log_end}
+use Rattle.cli_threads.proofs.EndingLemmas.{ended-text_prefix, ended-runs_whole, ended-serial_after}
 use Rattle.cli_demo.proofs.GeneratedEnd.{end_of-partly_serial_le, never-log_end}
 use Rattle.cli_shared.proofs.GenesisLemmas.{end_of-genesis, genesis-holds_lawful, genesis-keeps_rows, genesis-lawful, genesis-spellable, opening_rows}
 use Rattle.cli_threads.proofs.RunBegun.{Leaves-before_or_run}

@@ -1,5 +1,6 @@
 -- The text of any number is digits, and no other number's text is that of one of 32 bits.
-use Rattle.std.proofs.Common.{◌≡◌, ◌<◌, ◌≤◌, ◌^◌, ◌/◌, ◌%◌, ◌+◌, ◌∙◌, sym, refl, ap, subst, ℕ, zero, suc, Bool, true, false, ◌==◌, if◌then◌else◌, List, [], ◌∷◌, length, arith, All, lt-ltb, ne_eqb, pow-suc, le-div_iff_mul-le}
+use Rattle.std.proofs.Common.{◌≡◌, ◌<◌, ◌≤◌, ◌^◌, ◌/◌, ◌%◌, ◌+◌, ◌∙◌, sym, refl, ap, subst, ℕ, zero, suc, Bool, true, false, ◌==◌, if◌then◌else◌}
+use Rattle.std.proofs.Common.{List, [], ◌∷◌, length, arith, All, lt-ltb, ne_eqb, pow-suc, le-div_iff_mul-le}
 use native.Mathlib.Nat.{one-le-pow}
 use mathlib.Core.Logic.{dite}
 use native.Mathlib.Decide.{dec_lt}

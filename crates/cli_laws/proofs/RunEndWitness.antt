@@ -1,5 +1,6 @@
 -- Transfers that find no room: the log is full of notes of one transaction, but for one unit. Each of two workers is cut off.
-use Rattle.std.proofs.Common.{◌≡◌, inl, inr, ◌<◌, ◌≤◌, ℕ, zero, suc, ◌+◌, ◌*◌, pos, negsuc, true, false, true≢false, List, [], ◌∷◌, ◌++◌, length, Some, None, slice_get, All, Contains, refl, ap, ◌∙◌, sym, subst, arith, append-nil, length-append}
+use Rattle.std.proofs.Common.{◌≡◌, inl, inr, ◌<◌, ◌≤◌, ℕ, zero, suc, ◌+◌, ◌*◌, pos, negsuc, true, false, true≢false, List, [], ◌∷◌, ◌++◌, length}
+use Rattle.std.proofs.Common.{Some, None, slice_get, All, Contains, refl, ap, ◌∙◌, sym, subst, arith, append-nil, length-append}
 use Rattle.std.specs.List.{AllByRecursion, flat_map}
 use Rattle.std.proofs.lemmas.List.Elements.{All-cons, All-nil}
 use mathlib.Core.Option.{some, some-injective, some-ne-none}

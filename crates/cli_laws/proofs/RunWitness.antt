@@ -1,5 +1,6 @@
 -- One transfer, made by the first of two workers, from the opened log to the closed table: all that is known of such a run holds of it.
-use Rattle.std.proofs.Common.{◌≡◌, ◌⊎◌, inl, inr, ◌+◌, ◌*◌, ◌<◌, ◌≤◌, ℕ, zero, suc, pos, negsuc, true, List, [], ◌∷◌, ◌++◌, length, Some, None, slice_get, refl, ap, ◌∙◌, sym, subst, arith, append-nil, length-append, Contains}
+use Rattle.std.proofs.Common.{◌≡◌, ◌⊎◌, inl, inr, ◌+◌, ◌*◌, ◌<◌, ◌≤◌, ℕ, zero, suc, pos, negsuc, true, List, [], ◌∷◌, ◌++◌, length, Some, None}
+use Rattle.std.proofs.Common.{slice_get, refl, ap, ◌∙◌, sym, subst, arith, append-nil, length-append, Contains}
 use Rattle.std.specs.List.{AllByRecursion}
 use Rattle.std.proofs.lemmas.List.Elements.{All-contains, All-from_recursion}
 use mathlib.Core.Option.{some, some-injective, some-ne-none}

@@ -1,5 +1,6 @@
 -- Lines that end with LF and have no other LF, in a text.
-use Rattle.std.proofs.Common.{◌≡◌, ◌≢◌, ◌⊎◌, inl, inr, ⊎_elim, ◌∙◌, sym, refl, ap, ℕ, Bool, true, false, ◌==◌, if◌then◌else◌, true≢false, List, [], ◌∷◌, ◌++◌, append_assoc, length, length-append, get_or, drop, codes, arith, eq-eqb}
+use Rattle.std.proofs.Common.{◌≡◌, ◌≢◌, ◌⊎◌, inl, inr, ⊎_elim, ◌∙◌, sym, refl, ap, ℕ, Bool, true, false, ◌==◌, if◌then◌else◌, true≢false, List, []}
+use Rattle.std.proofs.Common.{◌∷◌, ◌++◌, append_assoc, length, length-append, get_or, drop, codes, arith, eq-eqb}
 use Rattle.std.specs.List.{AllByRecursion}
 use Rattle.txn_script.specs.declared.lines.TheConstants.{LF}
 use Rattle.lsn_space.proofs.TilingLemmas.{all-append}

@@ -11,7 +11,9 @@ use Rattle.standby.specs.declared.fault.StandbyFault.TheVariants as stream
 use Rattle.cli_shared.specs.Answers.{recover_detail}
 use Rattle.cli_shared.specs.Outside.{Outside, OnlyReads}
 use Rattle.cli_shared.specs.declared.report.Detail.{Detail}
-use Rattle.cli_shared.specs.declared.report.Detail.TheVariants.{Fine, NoMemory, Usage, Script, Read, Write, Disk, NotALog, BadSnapshot, BadBatch, BadRec, Unlawful, LogEnd, TxnEnd, Exists, NoSuchLsn, BadStream, Gap, StreamUnlawful, NoAccount}
+use Rattle.cli_shared.specs.declared.report.Detail.TheVariants.{Fine, NoMemory, Usage, Script, Read, Write, Disk, NotALog, BadSnapshot, BadBatch}
+use Rattle.cli_shared.specs.declared.report.Detail.TheVariants.{BadRec, Unlawful, LogEnd, TxnEnd, Exists, NoSuchLsn, BadStream, Gap, StreamUnlawful}
+use Rattle.cli_shared.specs.declared.report.Detail.TheVariants.{NoAccount}
 use Rattle.cli_standby.specs.Feeding.{IsFeedingFault, IsUnopened, stream_detail}
 use Rattle.cli_standby.specs.Following.{AnswersFollow, Stopped}
 use Rattle.cli_standby.specs.Leaving.{LeavesFronts}

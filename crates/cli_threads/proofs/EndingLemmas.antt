@@ -28,7 +28,9 @@ use Rattle.txn_jobs.specs.declared.cause.Cause.TheVariants as cause
 use Rattle.txn_jobs.specs.declared.cause.Worked.{Worked}
 use Rattle.txn_jobs.specs.declared.cause.Worked.TheVariants as worked
 use Rattle.cli_shared.specs.declared.report.Detail.{Detail}
-use Rattle.cli_shared.specs.declared.report.Detail.TheVariants.{Fine, NoMemory, Usage, Script, Read, Write, Disk, NotALog, BadSnapshot, BadBatch, BadRec, Unlawful, LogEnd, TxnEnd, Exists, NoSuchLsn, BadStream, Gap, StreamUnlawful, NoAccount}
+use Rattle.cli_shared.specs.declared.report.Detail.TheVariants.{Fine, NoMemory, Usage, Script, Read, Write, Disk, NotALog, BadSnapshot, BadBatch}
+use Rattle.cli_shared.specs.declared.report.Detail.TheVariants.{BadRec, Unlawful, LogEnd, TxnEnd, Exists, NoSuchLsn, BadStream, Gap, StreamUnlawful}
+use Rattle.cli_shared.specs.declared.report.Detail.TheVariants.{NoAccount}
 use Rattle.cli_ending.specs.declared.conclusion.RunEnd.{RunEnd}
 use Rattle.cli_ending.specs.Conclusion.{AreWhole, Concludes, NoneStopped, NothingStopped, StoppedAs, IsFirstLogEnd}
 use Rattle.cli_threads.specs.declared.transfers.Prepared.{Prepared}
@@ -39,7 +41,9 @@ use Rattle.job_queue.specs.Passes.{jobs_of, workers_of}
 use Rattle.txn_jobs.specs.Places.{NumberedJobs}
 use Rattle.cli_threads.specs.Shares.{Share, sharing_of}
 use Rattle.cli_threads.specs.Sharing.{IsSharedOut, Sharing}
-use Rattle.cli_threads.proofs.RunLemmas.{transferred-sends_by, transferred-partly_serial_after, transferred-keeps_rows, transferred-serial_after, transferred-tally_counted, transferred-keeps_log, transferred-drained, transferred-runs_whole, transferred-stops_at_log_end, transferred-no_stop_cut, transferred-has_reason, transferred-same_daemon}
+use Rattle.cli_threads.proofs.RunLemmas.{transferred-sends_by, transferred-partly_serial_after, transferred-keeps_rows, transferred-serial_after}
+use Rattle.cli_threads.proofs.RunLemmas.{transferred-tally_counted, transferred-keeps_log, transferred-drained, transferred-runs_whole}
+use Rattle.cli_threads.proofs.RunLemmas.{transferred-stops_at_log_end, transferred-no_stop_cut, transferred-has_reason, transferred-same_daemon}
 use Rattle.cli_threads.proofs.RunHistory.{later_of}
 use Rattle.cli_threads.proofs.RunPlaces.{tasks_of}
 

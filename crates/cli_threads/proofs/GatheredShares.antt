@@ -36,7 +36,8 @@ use Rattle.cli_workers.specs.Workers.{Numbered}
 use Rattle.cli_threads.specs.Workers.{AreDone, HasServed, IsDoneAs}
 use Rattle.cli_threads.proofs.ServedLemmas.{IsDone-has_served}
 use Rattle.cli_threads.proofs.TakenPlaces.{Apart, AreOnce, worked_all-front_whole, front-once, once-apart, once-append_second, AreFront-shared_out}
-use Rattle.cli_threads.proofs.MergedEntries.{all-merged, merged_entries-all_split, contains-merged_left, contains-merged_right, contains-merged_either, LieInOrder-rises, own_records-merged_left, own_records-merged_right}
+use Rattle.cli_threads.proofs.MergedEntries.{all-merged, merged_entries-all_split, contains-merged_left, contains-merged_right}
+use Rattle.cli_threads.proofs.MergedEntries.{contains-merged_either, LieInOrder-rises, own_records-merged_left, own_records-merged_right}
 
 -- what was asked for, by a seat that another takes in, whose table has such a ring and so many slots too
 asked-first : (view other : View) (size total : ℕ) → IsTotalOfSeat view size total → IsTotalOfSeat (takes_in view other) size total

@@ -54,7 +54,8 @@ module _ (opened : OpenedList) (list : List Rec) (jobs : NumberedJobs) (lawful :
   later_of-numbered_from_first = no_others-numbers_from jobs.first (tasks_of jobs) (later_of opened list) (numbered-from jobs.first (transfers_of jobs)) serial.others
 
   pub later-shares_no_transaction : ShareNoTransaction (later_of opened list) (placed opened)
-  later-shares_no_transaction = numbers_apart-share_none jobs.first (later_of opened list) (placed opened) later_of-numbered_from_first (greatest_txn_below-all_below (placed opened) jobs.first (omega (arith, below)))
+  later-shares_no_transaction = numbers_apart-share_none jobs.first (later_of opened list) (placed opened) later_of-numbered_from_first
+      (greatest_txn_below-all_below (placed opened) jobs.first (omega (arith, below)))
 
   -- as their numbers are above the opened list's, they are lawful behind the opening that it leaves
   behind : IsLawful (opening_left opened) (later_of opened list)

@@ -61,7 +61,8 @@ use Rattle.cli_threads.proofs.RunBalances.{WentBack-had_balance}
 use Rattle.cli_threads.proofs.RunEnds.{worked_all-has_end, no_stop_word-no_stop_cut, log_end_cut-stops_at_log_end}
 use Rattle.cli_threads.proofs.RunHistory.{later_of}
 use Rattle.cli_threads.proofs.RunImages.{HoldsBoth, HoldsSome, SendsBy, AreSentBy, SendsBy-refl, AreSentBy-refl, Ran-sent_units, Ran-read_units, Ran-sends_by, Ran-are_sent_by}
-use Rattle.cli_threads.proofs.RunLedger.{base_of-base_left, later-shares_no_transaction, with_records-lawful, with_records-goes_on, has_end-runs_whole, KeepsRows-accounts_text, front-spellable, front-lawful, front-goes_on}
+use Rattle.cli_threads.proofs.RunLedger.{base_of-base_left, later-shares_no_transaction, with_records-lawful, with_records-goes_on}
+use Rattle.cli_threads.proofs.RunLedger.{has_end-runs_whole, KeepsRows-accounts_text, front-spellable, front-lawful, front-goes_on}
 use Rattle.cli_threads.proofs.RunRecords.{records-spellable, units_in-records, units_front-records_front, tiling-end}
 use Rattle.cli_threads.proofs.RunTurns.{front-in_turn, front-none_behind}
 use Rattle.cli_threads.proofs.RunPlaces.{tasks_of, numbered-all, taken-once, taken-among_tasks, taken-or_not}
@@ -206,7 +207,8 @@ module _ {D : Type 0} {K : Type 0} (g : Ghosts D) (h : SinkGhosts K) (opened : O
 
       left-first : g.honest old.flusher.disk.now → (bytes : List ℕ) → HoldsBoth opened transferred-sends_by.more bytes → IsLeftAs bytes
       left-first honest bytes held = record {
-        run = image-run transferred-sends_by.more (transferred-sends_by.cut ++ transferred-sends_by.rest) (transferred-sends_by.splits ∙ append_assoc transferred-sends_by.more transferred-sends_by.cut transferred-sends_by.rest) bytes held;
+        run = image-run transferred-sends_by.more (transferred-sends_by.cut ++ transferred-sends_by.rest) (transferred-sends_by.splits
+            ∙ append_assoc transferred-sends_by.more transferred-sends_by.cut transferred-sends_by.rest) bytes held;
         text = transferred-sends_by.text;
         count = transferred-sends_by.count honest;
         grows = GrowsAtMostTo-weaken g (most_end (place_of old) (end_of transferred-sends_by.more) (ring_of old)) _ old.flusher.disk.now new.flusher.disk.now

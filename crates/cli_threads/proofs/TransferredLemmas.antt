@@ -1,5 +1,6 @@
 -- A run's end: the seats are gathered, the table is closed, and what is known then.
-use Rattle.std.proofs.Common.{◌≡◌, ◌∙◌, ℕ, zero, suc, ◌+◌, ◌≤◌, Bool, true, cond, eqb, List, [], ◌∷◌, length, map, sym, refl, ap, subst, arith, add-one, add-zero, Option, None, Some, IsSome, IsSomeAnd}
+use Rattle.std.proofs.Common.{◌≡◌, ◌∙◌, ℕ, zero, suc, ◌+◌, ◌≤◌, Bool, true, cond, eqb, List, [], ◌∷◌, length, map, sym, refl, ap, subst, arith}
+use Rattle.std.proofs.Common.{add-one, add-zero, Option, None, Some, IsSome, IsSomeAnd}
 use Rattle.std.specs.List.{AllByRecursion, list_any}
 use Rattle.std.proofs.lemmas.List.{length-map}
 use Rattle.log_disk.specs.declared.disk.LogDisk.{Ghosts}

@@ -3,7 +3,8 @@ use Rattle.std.proofs.Common.{◌≡◌, ◌⊎◌, ◌<◌, ◌^◌, inl, inr, 
 use Rattle.std.specs.List.{find}
 use Rattle.std.specs.Str.{bytes_eq}
 use Rattle.clap.specs.Words.{Row, subcommand_of}
-use Rattle.command_line.specs.CommandLine.{aether_command, Answers, AreKnown, AreTaken, Asks, AsksNothing, AsksNumber, HasNumbers, IsCommandLine, IsDemo, IsMismatchOf, IsRefusalOf, NamesBadNumbers, NamesNumbers, NamesSubcommand, log_in, name_of}
+use Rattle.command_line.specs.CommandLine.{aether_command, Answers, AreKnown, AreTaken, Asks, AsksNothing, AsksNumber, HasNumbers, IsCommandLine}
+use Rattle.command_line.specs.CommandLine.{IsDemo, IsMismatchOf, IsRefusalOf, NamesBadNumbers, NamesNumbers, NamesSubcommand, log_in, name_of}
 use Rattle.command_line.specs.declared.command.Command.{Command}
 use Rattle.command_line.specs.declared.command.Command.TheVariants as command
 use Rattle.command_line.specs.declared.command.RefusedWords.{RefusedWords}

@@ -17,7 +17,9 @@ use Rattle.ledger_view.specs.Entries.{net_of, balance_after, is_commit_on, entry
 use Rattle.ledger_view.specs.ViewedAccounts.{balance_to, KeepsAccount, untouched}
 use Rattle.ledger_view.specs.Entering.{with_entry}
 use Rattle.ledger_view.proofs.EntryLemmas.{last_balance-append, balance_to-append_behind, balance_to-all, all_ends_le-weaken, add_up-append}
-use Rattle.ledger_view.proofs.HistoryLemmas.{accounts-grow, accounts-front, balance-if_known, balance-if_unknown, balance_up_to-below_end, balance_up_to-from_end, balance_after-no_commit, base_balance-one_entry_more, balance_after-all_genesis, entries-genesis}
+use Rattle.ledger_view.proofs.HistoryLemmas.{accounts-grow, accounts-front, balance-if_known, balance-if_unknown, balance_up_to-below_end}
+use Rattle.ledger_view.proofs.HistoryLemmas.{balance_up_to-from_end, balance_after-no_commit, base_balance-one_entry_more, balance_after-all_genesis}
+use Rattle.ledger_view.proofs.HistoryLemmas.{entries-genesis}
 
 -- what is kept of an account stands at or below an LSN
 pub record StandsBelow (lsn : ℕ) (kept : Account) : Type 0 where

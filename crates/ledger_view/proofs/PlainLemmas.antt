@@ -1,5 +1,6 @@
 -- The plain program, entry by entry.
-use Rattle.std.proofs.Common.{◌≡◌, ◌≤◌, ◌<◌, ◌==◌, ◌&&◌, ◌||◌, ℕ, zero, suc, ◌+ℤ◌, Bool, true, false, cond, List, [], ◌∷◌, ◌++◌, length, take, drop, reverse, get_or, refl, ap, ◌∙◌, sym, subst, arith, eq-eqb, ne_eqb, le_trans, lt_of_lt_of_le, zero-le}
+use Rattle.std.proofs.Common.{◌≡◌, ◌≤◌, ◌<◌, ◌==◌, ◌&&◌, ◌||◌, ℕ, zero, suc, ◌+ℤ◌, Bool, true, false, cond, List, [], ◌∷◌, ◌++◌, length, take, drop}
+use Rattle.std.proofs.Common.{reverse, get_or, refl, ap, ◌∙◌, sym, subst, arith, eq-eqb, ne_eqb, le_trans, lt_of_lt_of_le, zero-le}
 use Rattle.std.proofs.lemmas.List.{reverse-append, take-append-drop, get_or_past}
 use mathlib.Core.Logic.{dite}
 use native.Mathlib.Decide.{ℕ_discrete, dec_lt}

@@ -1,5 +1,6 @@
 -- Sums over the changes of one transaction, change by change; and the rows after a Commit.
-use Rattle.std.proofs.Common.{◌≡◌, ◌≢◌, ◌<◌, ◌==◌, ◌||◌, ℕ, zero, suc, ◌+◌, cond, ℤ, Bool, true, false, true≢false, List, [], ◌∷◌, ◌++◌, length, take, get_or, refl, ap, ◌∙◌, sym, subst, arith, eq-eqb, eqb-true}
+use Rattle.std.proofs.Common.{◌≡◌, ◌≢◌, ◌<◌, ◌==◌, ◌||◌, ℕ, zero, suc, ◌+◌, cond, ℤ, Bool, true, false, true≢false, List, [], ◌∷◌, ◌++◌, length, take}
+use Rattle.std.proofs.Common.{get_or, refl, ap, ◌∙◌, sym, subst, arith, eq-eqb, eqb-true}
 use Rattle.std.proofs.lemmas.List.{take_more, length-set, get_or-set_same, get_or-set_other}
 use mathlib.Core.Logic.{dite}
 use native.Mathlib.Decide.{ℕ_discrete}
@@ -98,7 +99,8 @@ applies_touched-push_untouched some changes change end old new newer off on insi
         absurd (other (sym (eqb-true change.account account (sym (ap (λ b. b || (change.account == account)) is) ∙ either))))
 
 -- with all changes, all rows are applied
-pub applies_touched-applies_changes : (changes : List Change) (end : ℕ) (old new : List (ℕ × ℕ)) → AreRowsInRange old → AppliesToTouched changes changes end old new → AppliesChanges changes end old new
+pub applies_touched-applies_changes : (changes : List Change) (end : ℕ) (old new : List (ℕ × ℕ)) → AreRowsInRange old
+    → AppliesToTouched changes changes end old new → AppliesChanges changes end old new
 applies_touched-applies_changes changes end old new range applied = record {
   count = applied.count;
   each = λ account inside. by_case account inside (touches account changes) refl;

@@ -1,5 +1,6 @@
 -- Transfers for which there is room are done, whatever their order, and what they leave doesn't depend on it.
-use Rattle.std.proofs.Common.{◌≡◌, ◌≤◌, ◌<◌, ℕ, zero, suc, ◌==◌, ◌||◌, ◌+◌, ◌-◌, cond, ℤ, pos, neg_ℤ, Bool, true, false, true≢false, ◌⊎◌, inl, inr, List, [], ◌∷◌, ◌++◌, length, take, Contains, refl, ap, ◌∙◌, sym, subst, arith, append_assoc, eq-eqb, ne_eqb}
+use Rattle.std.proofs.Common.{◌≡◌, ◌≤◌, ◌<◌, ℕ, zero, suc, ◌==◌, ◌||◌, ◌+◌, ◌-◌, cond, ℤ, pos, neg_ℤ, Bool, true, false, true≢false, ◌⊎◌, inl, inr}
+use Rattle.std.proofs.Common.{List, [], ◌∷◌, ◌++◌, length, take, Contains, refl, ap, ◌∙◌, sym, subst, arith, append_assoc, eq-eqb, ne_eqb}
 use Rattle.std.specs.List.{AllByRecursion}
 use Rattle.std.proofs.lemmas.Bool.{le-ltb}
 use Rattle.std.proofs.lemmas.List.{take_all}
@@ -24,7 +25,8 @@ use Rattle.lock_core.proofs.Apart.{own_records_of-none_append}
 use Rattle.lock_core.proofs.NextRecords.{size-without_prev}
 use Rattle.lock_core.proofs.Running.{note_and_updates-front_unended}
 use Rattle.lock_core.proofs.SerialFronts.{IsRunPartly, all-weaken, outcome_records-front_cut_short, has_end-without_prev, partly_serial-front, serial-partly}
-use Rattle.lock_core.proofs.Weighing.{has_number, AreDistinct, each_task, each_task-same, IgnoresPrev, weight_of-entry, weight_of-tasks, weight_of-append, weight_of-in_order, weight_of-without_prev, weight_of-history}
+use Rattle.lock_core.proofs.Weighing.{has_number, AreDistinct, each_task, each_task-same, IgnoresPrev, weight_of-entry, weight_of-tasks}
+use Rattle.lock_core.proofs.Weighing.{weight_of-append, weight_of-in_order, weight_of-without_prev, weight_of-history}
 
 nothing : (b : Bool) → cond {A = ℕ} b 0 0 ≡ 0
 nothing true = refl
@@ -271,7 +273,8 @@ pub distinct-numbered : (first : ℕ) (jobs : List PlainTransfer) → AreDistinc
 distinct-numbered first [] = tt
 distinct-numbered first (job ∷ jobs) = (has_number-below first (first + 1) jobs (omega arith), distinct-numbered (first + 1) jobs)
 
-allowed-numbered : (accounts first : ℕ) (jobs : List PlainTransfer) → AllByRecursion (IsAllowedTransfer accounts) jobs → AllByRecursion (λ (task : NumberedTransfer). IsAllowedTransfer accounts task.job) (numbered first jobs)
+allowed-numbered : (accounts first : ℕ) (jobs : List PlainTransfer) → AllByRecursion (IsAllowedTransfer accounts) jobs → AllByRecursion (λ
+    (task : NumberedTransfer). IsAllowedTransfer accounts task.job) (numbered first jobs)
 allowed-numbered accounts first [] all = tt
 allowed-numbered accounts first (job ∷ jobs) all = (all.0, allowed-numbered accounts (first + 1) jobs all.1)
 

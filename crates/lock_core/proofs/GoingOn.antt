@@ -12,7 +12,8 @@ use Rattle.lock_core.specs.Tests.{IsGenesis, HasNoGenesis, OpensLedger, AreAbove
 use Rattle.lock_core.specs.Lawful.{tests, with_genesis, base_with, Passes, IsLawful, base_state_of, opening_after}
 use Rattle.lock_core.proofs.Meeting.{MeetsTests, all_passed-meets_tests, meets_tests-all_passed, lawful-met}
 use Rattle.lock_core.proofs.Apart.{share_none-of_transaction_none, numbers_apart-share_none, greatest_txn_below-all_below}
-use Rattle.lock_core.proofs.Appending.{base_with-append_no_genesis, base_with-no_genesis, not_genesis-opens_ledger, lawful-no_genesis, lawful-above_opening_txn, numbers_from-are_above, balance_of-append, last_commit_of-append}
+use Rattle.lock_core.proofs.Appending.{base_with-append_no_genesis, base_with-no_genesis, not_genesis-opens_ledger, lawful-no_genesis}
+use Rattle.lock_core.proofs.Appending.{lawful-above_opening_txn, numbers_from-are_above, balance_of-append, last_commit_of-append}
 
 greatest-append : (h l : List Placed) → greatest_txn (h ++ l) ≡ max (greatest_txn h) (greatest_txn l)
 greatest-append [] l = omega arith

@@ -34,7 +34,8 @@ module _ (opening : Opening) where
       record {
         lawful = (passes, before.lawful);
         room = before.room;
-        rows = keeps_rows-first_unmoved accounts.rows (base_with opening h) h entry (λ side a. total-uncommitted side a entry h refl (has_commit-unended (own_records_of txn h) unended)) (λ a. refl) before.rows;
+        rows = keeps_rows-first_unmoved accounts.rows (base_with opening h) h entry (λ side a. total-uncommitted side a entry h refl
+            (has_commit-unended (own_records_of txn h) unended)) (λ a. refl) before.rows;
       }
   judged-first_same_accounts accounts h end (Short txn leg) other plain before passes =
       let entry : Placed = record { end = end; rec = Short txn leg } in

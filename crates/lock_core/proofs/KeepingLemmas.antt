@@ -1,5 +1,6 @@
 -- How what is kept of transactions goes on by one entry.
-use Rattle.std.proofs.Common.{◌≡◌, ◌≢◌, ◌<◌, ◌⊎◌, inl, inr, ⊎_elim, ℕ, ◌+◌, ◌-◌, ◌||◌, cond, true, false, true≢false, List, [], ◌∷◌, ◌++◌, length, take, refl, ap, ◌∙◌, sym, subst, arith, eq-eqb, ne_eqb, length-append}
+use Rattle.std.proofs.Common.{◌≡◌, ◌≢◌, ◌<◌, ◌⊎◌, inl, inr, ⊎_elim, ℕ, ◌+◌, ◌-◌, ◌||◌, cond, true, false, true≢false, List, [], ◌∷◌, ◌++◌, length}
+use Rattle.std.proofs.Common.{take, refl, ap, ◌∙◌, sym, subst, arith, eq-eqb, ne_eqb, length-append}
 use Rattle.std.specs.List.{AllByRecursion}
 use Rattle.std.proofs.lemmas.List.{get_or_append_left}
 use mathlib.Core.Logic.{dite}
@@ -51,7 +52,14 @@ ended-are_active : (newest newer : TxnTable) (updates : List UpdateLink) (active
     → AreActive (record { newest = newest; updates = updates; active = active }) list
     → (rest : List ℕ) × AreActive (record { newest = newer; updates = updates; active = less }) rest
 ended-are_active newest newer updates active less txn list puts unended same down are = dite (ℕ_discrete (value_at newest txn) 0)
-    (λ none. (list, record { count = let is = same none in let most = are.count in omega arith; fits = let is = same none in let fits = are.fits in omega arith; others = λ other all. after other (λ apart. are.others other all) }))
+    (λ none. (
+      list,
+      record {
+        count = let is = same none in let most = are.count in omega arith;
+        fits = let is = same none in let fits = are.fits in omega arith;
+        others = λ other all. after other (λ apart. are.others other all);
+      },
+    ))
     (λ some. ⊎_elim (λ all. absurd (⊎_elim some unended (are.others txn all)))
     (λ left. (
       left.rest,
@@ -101,7 +109,8 @@ module _ (txns : Transactions) (h : List Placed) (kept : KeepsTransactions txns 
         ended = λ is. absurd (omega arith);
         unended = λ other. let open' = (kept.each txn).unended other in record {
           unended = open'.unended;
-          chain = subst (HasChain (take 1 txns.updates) (value_at txns.newest txn)) (sym (changes_nothing (updates_of txn h) (subst (λ place. HasChain txns.updates place (updates_of txn h)) blank open'.chain))) blank;
+          chain = subst (HasChain (take 1 txns.updates) (value_at txns.newest txn)) (sym (changes_nothing (updates_of txn h) (subst
+              (λ place. HasChain txns.updates place (updates_of txn h)) blank open'.chain))) blank;
         };
       }
       again txn (inr is) = record { ended = (kept.each txn).ended; unended = λ other. absurd (other is) }

@@ -129,7 +129,8 @@ module _ (opening : Opening) where
   all_genesis-accounts_count [] all = omega arith
   all_genesis-accounts_count (entry ∷ h) all = by_kind entry.rec all.0 (all_genesis-accounts_count h all.1)
     where
-      by_kind : (rec : Rec) → IsGenesis rec → (base_with opening h).accounts ≡ opening.state.accounts + length h → (with_genesis rec (base_with opening h)).accounts ≡ opening.state.accounts + length (entry ∷ h)
+      by_kind : (rec : Rec) → IsGenesis rec → (base_with opening h).accounts ≡ opening.state.accounts + length h → (with_genesis rec
+          (base_with opening h)).accounts ≡ opening.state.accounts + length (entry ∷ h)
       by_kind (Genesis account balance) is before = omega arith
       by_kind (Update txn account delta prev) is before = absurd is
       by_kind (Commit txn legs) is before = absurd is

@@ -22,7 +22,9 @@ use Rattle.lock_core.specs.KeptLedger.{update_at, link_at, IsOpenAt, IsEndFault,
 use Rattle.lock_core.specs.Taking.{IsTakeFault}
 use Rattle.lock_core.proofs.ChainLemmas.{chain-count, paired_chain-paired_newest, paired_newest-paired_chain}
 use Rattle.lock_core.proofs.KindLemmas.{updates_of-accounts_have_rows}
-use Rattle.lock_core.proofs.TakingLemmas.{some_rows-some_account_or_record, fails-update-legs, fails-update-pair, fails-update-prev, takes-update, fails-commit-stale, fails-commit-balance, takes-short, takes-over, end_fault-no_memory_or_ended, keeps_ledger-same_accounts, keeps_ledger-same_parts}
+use Rattle.lock_core.proofs.TakingLemmas.{some_rows-some_account_or_record, fails-update-legs, fails-update-pair, fails-update-prev, takes-update}
+use Rattle.lock_core.proofs.TakingLemmas.{fails-commit-stale, fails-commit-balance, takes-short, takes-over, end_fault-no_memory_or_ended}
+use Rattle.lock_core.proofs.TakingLemmas.{keeps_ledger-same_accounts, keeps_ledger-same_parts}
 
 module _ (opening : Opening) (ledger : Ledger) (h : List Placed) (kept : KeepsLedger opening ledger h) where
   -- the newest Update of the transaction counts them all

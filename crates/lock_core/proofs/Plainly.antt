@@ -94,13 +94,15 @@ last_commit_of-plainly base (entry ∷ h) account met = head (last_commit_of-pla
         ∙ ap (λ z. cond (commits entry.rec && touches account (updates_of (txn_of entry.rec) h)) entry.end z) (rest ∙ before)
       where
         by_case : (b : Bool) → b ≡ commits entry.rec
-            → cond (commits entry.rec && touches account (updates_of (txn_of entry.rec) (entry ∷ h))) entry.end (last_commit_where (λ n. touches account (updates_of n (entry ∷ h))) (base.last_commit account) h)
+            → cond (commits entry.rec && touches account (updates_of (txn_of entry.rec) (entry ∷ h))) entry.end (last_commit_where
+            (λ n. touches account (updates_of n (entry ∷ h))) (base.last_commit account) h)
             ≡ cond (commits entry.rec && touches account (updates_of (txn_of entry.rec) h)) entry.end (last_commit_where (λ n. touches account (updates_of n (entry ∷ h))) (base.last_commit account) h)
         by_case true on =
             ap (λ changes. cond (commits entry.rec && touches account changes) entry.end (last_commit_where (λ n. touches account (updates_of n (entry ∷ h))) (base.last_commit account) h))
             (updates_of-first_own (txn_of entry.rec) entry h refl ∙ ap (λ changes. changes ++ updates_of (txn_of entry.rec) h) (changes_of-commit entry.rec (sym on)))
         by_case false off =
-            ap (λ z. cond (z && touches account (updates_of (txn_of entry.rec) (entry ∷ h))) entry.end (last_commit_where (λ n. touches account (updates_of n (entry ∷ h))) (base.last_commit account) h)) (sym off)
+            ap (λ z. cond (z && touches account (updates_of (txn_of entry.rec) (entry ∷ h))) entry.end (last_commit_where (λ n. touches account
+            (updates_of n (entry ∷ h))) (base.last_commit account) h)) (sym off)
             ∙ ap (λ z. cond (z && touches account (updates_of (txn_of entry.rec) h)) entry.end (last_commit_where (λ n. touches account (updates_of n (entry ∷ h))) (base.last_commit account) h)) off
 
 paired-newest : (before : List Change) (change : Change) (b : Bool) → newest_lowers before ≡ b → IsPaired before change

@@ -8,7 +8,8 @@ use Rattle.lsn_space.specs.declared.opening.TheConstants.{MOST_BALANCE}
 use Rattle.lock_core.specs.Records.{ends}
 use Rattle.lock_core.specs.Transactions.{has_end, all_without_prev, in_order}
 use Rattle.lock_core.proofs.OneMore.{or_false-both_false}
-use Rattle.lock_core.specs.Alone.{PlainTransfer, Outcome, Done, ShortAt, OverAt, lacks, overfills, after_leg, outcome_from, outcome_alone, with_note, leg_updates, legs_passed, end_record, outcome_records, planned_from, planned_records}
+use Rattle.lock_core.specs.Alone.{PlainTransfer, Outcome, Done, ShortAt, OverAt, lacks, overfills, after_leg, outcome_from, outcome_alone, with_note}
+use Rattle.lock_core.specs.Alone.{leg_updates, legs_passed, end_record, outcome_records, planned_from, planned_records}
 
 -- a last commit of 0 for each account
 abbrev pub no_commit : ℕ → ℕ

@@ -52,7 +52,8 @@ run_partly-before base entry h task (inl run) = by_later run.later run.whole run
         let fronts : h ≡ run.front = cc whole in
         inr (outcome_records-front_cut_short base entry h task
         (subst (λ (e : Placed). in_order (all_without_prev (e.rec ∷ own_records_of task.number h)) [] ≡ outcome_records task.number task.job (outcome_alone task.job (balance_of base h))) (sym entries)
-        (subst (λ (f : List Placed). in_order (all_without_prev (run.end.rec ∷ own_records_of task.number f)) [] ≡ outcome_records task.number task.job (outcome_alone task.job (balance_of base f))) (sym fronts)
+        (subst (λ (f : List Placed). in_order (all_without_prev (run.end.rec ∷ own_records_of task.number f)) []
+        ≡ outcome_records task.number task.job (outcome_alone task.job (balance_of base f))) (sym fronts)
         run.records)))
     by_later (newest ∷ later) whole last =
         let rest : h ≡ later ++ run.end ∷ run.front = cc whole in
@@ -93,7 +94,8 @@ pub has_end-without_prev : (records : List Rec) → has_end (all_without_prev re
 has_end-without_prev [] = refl
 has_end-without_prev (rec ∷ records) = λ i. ends-without_prev rec i || has_end-without_prev records i
 
-pub partly_serial-all_ended_serial : (base : BaseState) (tasks : List NumberedTransfer) (h : List Placed) → AllByRecursion (λ (task : NumberedTransfer). has_end (own_records_of task.number h) ≡ true) tasks
+pub partly_serial-all_ended_serial : (base : BaseState) (tasks : List NumberedTransfer) (h : List Placed) → AllByRecursion (λ
+    (task : NumberedTransfer). has_end (own_records_of task.number h) ≡ true) tasks
     → IsPartlySerialAfter base tasks h → IsSerialAfter base tasks h
 partly_serial-all_ended_serial base tasks h ended serial = record { each = each tasks ended serial.each; others = serial.others }
   where

@@ -24,7 +24,8 @@ use Rattle.lock_core.specs.Faults.{IsFirstFailing}
 use Rattle.lock_core.specs.AccountRows.{row, AppliesChanges, LeavesSome, KeepsRows, AreRowsInRange}
 use Rattle.lock_core.specs.Judging.{IsCommitting}
 use Rattle.lock_core.specs.KeptLedger.{IsEndFault, KeepsTransactions, KeepsLedger}
-use Rattle.lock_core.proofs.KindLemmas.{all_genesis-accounts_count, base_with-accounts_le, keeps_rows-first_genesis, passes-genesis, fails-stale, fails-balance, committing-applied_keeps_rows, passes-commit}
+use Rattle.lock_core.proofs.KindLemmas.{all_genesis-accounts_count, base_with-accounts_le, keeps_rows-first_genesis, passes-genesis, fails-stale}
+use Rattle.lock_core.proofs.KindLemmas.{fails-balance, committing-applied_keeps_rows, passes-commit}
 use Rattle.lock_core.proofs.JudgingLemmas.{judged-first_same_accounts}
 use Rattle.lock_core.proofs.KeepingLemmas.{first_idle-keeps_transactions}
 
@@ -80,7 +81,8 @@ module _ (opening : Opening) where
     unended-passes_ended txn above unended = ((λ other. let least = kept.least in omega arith), unended)
 
     pub some_rows-some_account_or_record : (length ledger.accounts.rows ≡ 0 → ⊥) → 0 < opening.state.accounts + length h
-    some_rows-some_account_or_record some = let same = counted in let most = base_with-accounts_le opening h in let none : (base_with opening h).accounts ≡ 0 → ⊥ = (λ is. some (same ∙ is)) in omega (arith, none)
+    some_rows-some_account_or_record some = let same = counted in let most = base_with-accounts_le opening h in let none :
+        (base_with opening h).accounts ≡ 0 → ⊥ = (λ is. some (same ∙ is)) in omega (arith, none)
 
     -- the first record is a Genesis
     pub no_accounts-fails_genesis : (entry : Placed) → (IsGenesis entry.rec → ⊥) → length ledger.accounts.rows ≡ 0 → IsFirstFailing (Passes opening h entry) why.Genesis

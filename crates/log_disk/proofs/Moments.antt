@@ -30,4 +30,5 @@ module _ {D : Type 0} (moment : D → ℕ) (images_since : D → ℕ → List �
       -- what a crash may leave now is one of those images
       pub Leaves-images_now : (P : List ℕ → Type 0) (old new : D) → ((disk : D) (c : List ℕ) → images_since disk (moment disk) c → images disk c)
           → ((c : List ℕ) → images old c → P c) → Leaves moment images_since P old new → (c : List ℕ) → images new c → P c
-      Leaves-images_now P old new only_now had run c now = ⊎_elim (λ since. had c (only_now old c since)) (λ has. has) (run.each (moment old) c (omega arith) (counts_now new (moment old) c run.later now))
+      Leaves-images_now P old new only_now had run c now = ⊎_elim (λ since. had c (only_now old c since)) (λ has. has) (run.each (moment old) c
+          (omega arith) (counts_now new (moment old) c run.later now))

@@ -16,7 +16,8 @@ use Rattle.lock_core.specs.Faults.{IsFirstFailing, IsUnlawfulAt}
 use Rattle.log_record.specs.declared.rec.Rec.TheVariants.{Genesis, Update, Commit, Short, Over, Note}
 use Rattle.log_record.proofs.SpellingLemmas.{spelling-append-injective, units_of-injective}
 use Rattle.segment_file.specs.Log.{Log, HoldsLog}
-use Rattle.segment_file.proofs.OneReading.{one_reading-log, HoldsLog-begins_as_log, HoldsLog-no_bad_snapshot, HoldsLog-no_bad_batch, bad_snapshot-no_bad_batch, bad_batch-unique, bad_batch-begins_as_log}
+use Rattle.segment_file.proofs.OneReading.{one_reading-log, HoldsLog-begins_as_log, HoldsLog-no_bad_snapshot, HoldsLog-no_bad_batch}
+use Rattle.segment_file.proofs.OneReading.{bad_snapshot-no_bad_batch, bad_batch-unique, bad_batch-begins_as_log}
 use Rattle.log_recovery.specs.declared.recovery.RecoverFault.{RecoverFault}
 use Rattle.log_recovery.specs.declared.recovery.RecoverFault.TheVariants as fault
 use Rattle.log_recovery.specs.ListedRecords.{IsBadRecAt}

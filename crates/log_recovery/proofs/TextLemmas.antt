@@ -1,5 +1,6 @@
 -- Texts that are written line by line.
-use Rattle.std.proofs.Common.{◌≡◌, ◌≤◌, ◌<◌, Some, slice_get, slice_index_or, sym, ap, subst, refl, ℕ, ◌+◌, zero, suc, List, [], ◌∷◌, ◌++◌, inl, inr, Option, length, arith, append_assoc, add-one, codes}
+use Rattle.std.proofs.Common.{◌≡◌, ◌≤◌, ◌<◌, Some, slice_get, slice_index_or, sym, ap, subst, refl, ℕ, ◌+◌, zero, suc, List, [], ◌∷◌, ◌++◌, inl, inr}
+use Rattle.std.proofs.Common.{Option, length, arith, append_assoc, add-one, codes}
 use Rattle.std.proofs.lemmas.List.{append-nil}
 use Rattle.std.proofs.lemmas.Option.{get_or_from_slice_get}
 use Rattle.std.proofs.lemmas.List.Concat.{flat_map-append}

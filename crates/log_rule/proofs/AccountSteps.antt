@@ -171,7 +171,8 @@ module _ (key : Start) (me : ℕ) (v : View) where
         (only_note-uncommitted v.books.placed may.begins.only_note) s.accounts);
   }
 
-  pub after_account-step : (accounts account : ℕ) → length key.accounts.rows ≡ accounts → account < accounts → (from to : AccountWord) → FitsWord from → FitsWord to → MayTake account from to v → (n : ℕ)
+  pub after_account-step : (accounts account : ℕ) → length key.accounts.rows ≡ accounts → account < accounts → (from to : AccountWord) → FitsWord from
+      → FitsWord to → MayTake account from to v → (n : ℕ)
       → IsStep key me (Account account) n (either (eqb n (word_of from)) (word_of to) n) v (after_account account (word_of from) n v) none
   after_account-step accounts account same below from to from-fits to-fits may n = dite (ℕ_discrete n (word_of from))
       (λ is. subst (λ (b : Bool). IsStep key me (Account account) n (either b (word_of to) n) v

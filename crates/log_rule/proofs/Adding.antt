@@ -5,7 +5,9 @@ use Rattle.log_rule.specs.declared.view.Call.TheVariants.{Idle}
 use Rattle.log_rule.specs.declared.view.Role.TheVariants.{Flusher}
 use Rattle.log_rule.specs.declared.view.View.{View}
 use Rattle.log_rule.specs.Log.{Log, ranges_of, parts_of}
-use Rattle.log_rule.specs.Sound.{EachView, EachPair, HasSeenBoundaries, SendsIfFlusher, StoresStop, HasReadStop, RestsIfQuiet, LookedIfQuiet, HasWorkingOwner, HasConstants, RestsUnlessActive, OwnsIfWorker, HoldsIfActive, HasSoundCrew, IsSound, base_of, history_in, books_of}
+use Rattle.log_rule.specs.Sound.{EachView, EachPair, HasSeenBoundaries, SendsIfFlusher, StoresStop, HasReadStop, RestsIfQuiet, LookedIfQuiet}
+use Rattle.log_rule.specs.Sound.{HasWorkingOwner, HasConstants, RestsUnlessActive, OwnsIfWorker, HoldsIfActive, HasSoundCrew, IsSound, base_of}
+use Rattle.log_rule.specs.Sound.{history_in, books_of}
 use Rattle.log_rule.specs.declared.view.Books.{Books}
 use Rattle.log_rule.specs.Accounts.{KeepsAccounts}
 use Rattle.log_rule.specs.Books.{no_books}
@@ -72,7 +74,14 @@ module _ (key : Start) (words : Words) (views : List View) (log : Log) (s : IsSo
     quiet = quiet;
     looked = each_view-push (λ _ z. LookedIfQuiet words.exposed z) (λ _ z. LookedIfQuiet words.exposed z) views new s.looked
         (λ f. absurd (not-flusher f)) (λ _ _ _ p. p);
-    unheld = each_view-push (λ _ z. HoldsIfActive z) (λ _ z. HoldsIfActive z) views new s.unheld ((λ _. (ap (λ (b : Books). b.held) books, ap (λ (b : Books). b.half) books)), (λ _. ap (λ (b : Books). b.jobs) books)) (λ _ _ _ p. p);
+    unheld = each_view-push (λ _ z. HoldsIfActive z) (λ _ z. HoldsIfActive z) views new s.unheld (
+      (λ _. (
+        ap (λ (b : Books). b.held) books,
+        ap (λ
+            (b : Books). b.half) books,
+      )),
+      (λ _. ap (λ (b : Books). b.jobs) books),
+    ) (λ _ _ _ p. p);
     accounts = subst (KeepsAccounts (base_of key) words.account (history_in key log.parts))
         (sym (map-append (books_of log.groups) views (new ∷ [])
         ∙ (λ i. map (books_of log.groups) views ++ books_in log.groups (call i) (books i) ∷ [])))

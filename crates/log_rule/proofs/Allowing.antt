@@ -10,7 +10,8 @@ use Rattle.log_rule.specs.declared.start.Start.{Start}
 use Rattle.log_rule.specs.declared.view.Role.TheVariants.{Flusher, Fresh}
 use Rattle.log_rule.specs.declared.view.View.{View}
 use Rattle.table_layout.specs.Layout.{Tail, Exposed, Durable, Stop, Crew, Ring, Mark, Account, Balance}
-use Rattle.log_rule.specs.May.{IsOwnWord, MayLeave, MayReserve, MayPlaceGroup, MayExchangeTail, MayFill, MayMark, MayLookMark, MayRaise, MayRead, MaySend, MayStop, MayTakeJob, MayTake, MayLoadBalance, MayStoreBalance, MayGiveBack}
+use Rattle.log_rule.specs.May.{IsOwnWord, MayLeave, MayReserve, MayPlaceGroup, MayExchangeTail, MayFill, MayMark, MayLookMark, MayRaise, MayRead}
+use Rattle.log_rule.specs.May.{MaySend, MayStop, MayTakeJob, MayTake, MayLoadBalance, MayStoreBalance, MayGiveBack}
 use Rattle.slot_word.specs.declared.account_word.AccountWord.{AccountWord}
 use Rattle.slot_word.specs.AccountWord.{word_of, IsAccountWord}
 use Rattle.lsn_space.specs.declared.opening.TheConstants.{MOST_BALANCE}
@@ -39,7 +40,8 @@ use Rattle.log_rule.proofs.Stopping.{stop_unchanged-step, stop-tells_read_stop, 
 use Rattle.log_rule.proofs.Reserving.{reserve_exchange-step}
 use Rattle.table_layout.proofs.WordPlaces.{Fits, shared_tail, shared_exposed, shared_durable, shared_stop, shared_crew, in_ring, in_marks, of_account, of_balance}
 use Rattle.log_rule.proofs.ViewChanges.{get_elem-below_length}
-use Rattle.log_rule.proofs.AccountSteps.{FitsWord, job-step, saw_account-step, account-tells_own_word, account-tells_account_word, balance-tells_range, after_account-step, load_balance-step, store_balance-step, give-step}
+use Rattle.log_rule.proofs.AccountSteps.{FitsWord, job-step, saw_account-step, account-tells_own_word, account-tells_account_word}
+use Rattle.log_rule.proofs.AccountSteps.{balance-tells_range, after_account-step, load_balance-step, store_balance-step, give-step}
 
 module _ (key : Start) (slots seat : ℕ) (me : Me (Unit {0}) View) where
   pub load_tail-allowed : Allows (Ruled key) slots seat me TAIL (λ n. n)

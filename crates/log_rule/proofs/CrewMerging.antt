@@ -8,7 +8,8 @@ use Rattle.log_rule.specs.declared.view.Role.{Role}
 use Rattle.log_rule.specs.declared.view.Role.TheVariants.{Flusher, Fresh, Active, Ended, Note, Spent}
 use Rattle.log_rule.specs.declared.view.View.{View}
 use Rattle.log_rule.specs.May.{MayMerge}
-use Rattle.log_rule.specs.Sound.{EachView, HasSoundRole, HasSoundRoles, HasSoundCrew, Knows, Lacks, is_active_view, HasSeenBoundaries, SendsIfFlusher, StoresStop, LookedIfQuiet, HasWorkingOwner, HasConstants, RestsUnlessActive, OwnsIfWorker, IsSound, Ruled}
+use Rattle.log_rule.specs.Sound.{EachView, HasSoundRole, HasSoundRoles, HasSoundCrew, Knows, Lacks, is_active_view, HasSeenBoundaries, SendsIfFlusher}
+use Rattle.log_rule.specs.Sound.{StoresStop, LookedIfQuiet, HasWorkingOwner, HasConstants, RestsUnlessActive, OwnsIfWorker, IsSound, Ruled}
 use Rattle.log_rule.specs.Roles.{has_ended, is_active, is_worker, is_spent}
 use Rattle.log_rule.specs.Views.{nobody}
 use Rattle.log_rule.specs.CrewViews.{takes_in}

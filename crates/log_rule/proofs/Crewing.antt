@@ -1,5 +1,6 @@
 -- A worker is counted as active, and no more.
-use Rattle.std.proofs.Common.{◌≡◌, ◌≢◌, ◌⊎◌, inl, inr, ⊎_elim, ℕ, zero, suc, eqb, ◌||◌, ◌+◌, ◌-◌, ◌%◌, ◌^◌, ◌≤◌, ◌<◌, cond, Bool, true, false, true≢false, List, [], ◌∷◌, length, set, sym, refl, ap, ◌∙◌, subst, arith, mod-eq_of_lt, eqb-true, ne_eqb}
+use Rattle.std.proofs.Common.{◌≡◌, ◌≢◌, ◌⊎◌, inl, inr, ⊎_elim, ℕ, zero, suc, eqb, ◌||◌, ◌+◌, ◌-◌, ◌%◌, ◌^◌, ◌≤◌, ◌<◌, cond, Bool, true, false}
+use Rattle.std.proofs.Common.{true≢false, List, [], ◌∷◌, length, set, sym, refl, ap, ◌∙◌, subst, arith, mod-eq_of_lt, eqb-true, ne_eqb}
 use Rattle.std.proofs.Math.Nat.{add-mod_right}
 use Rattle.std.specs.Prelude.{count_by}
 use Rattle.std.specs.List.{IsDistinct, AllByRecursion, list_any}

@@ -1,5 +1,7 @@
 -- The store of a unit into the ring: the machine's Fill.
-use Rattle.std.proofs.Common.{◌≡◌, ◌≢◌, ◌⊎◌, inl, inr, ⊎_elim, ℕ, ◌+◌, ◌/◌, ◌%◌, ◌<◌, ◌≤◌, cond, Bool, true, false, true≢false, List, [], ◌∷◌, ◌++◌, length, map, get_or, set, Some, None, sym, refl, ap, ◌∙◌, subst, arith, length-append, append-nil, append_assoc, slice_index, eq-eqb, ne_eqb}
+use Rattle.std.proofs.Common.{◌≡◌, ◌≢◌, ◌⊎◌, inl, inr, ⊎_elim, ℕ, ◌+◌, ◌/◌, ◌%◌, ◌<◌, ◌≤◌, cond, Bool, true, false, true≢false, List, [], ◌∷◌, ◌++◌}
+use Rattle.std.proofs.Common.{length, map, get_or, set, Some, None, sym, refl, ap, ◌∙◌, subst, arith, length-append, append-nil, append_assoc}
+use Rattle.std.proofs.Common.{slice_index, eq-eqb, ne_eqb}
 use Rattle.std.specs.List.{AllByRecursion, find}
 use Rattle.std.specs.Option.{IsSomeAnd}
 use Rattle.std.proofs.Math.Seq.{get_or-append_seam}
@@ -22,11 +24,14 @@ use Rattle.log_rule.specs.declared.view.Seen.{Seen}
 use Rattle.log_rule.specs.declared.view.View.{View}
 use Rattle.log_rule.specs.Events.{reservation_of, task_in, hands_of, slots_of, Leads, IsStep, fills}
 use Rattle.table_layout.specs.Layout.{Ring}
-use Rattle.log_rule.specs.Log.{Part, LogRange, Claim, Log, Tiles, ranges_of, own, owes, claim_of, part_of, parts_of, unreleased_in, inside, filled_inside, filled_in, is_released, SpellsRecord, records_in, StandsInRing, IsFullIfReleased, IsReleasedBelow, CountsRemaining, AgreesFrom, EndsWithPart, Laid}
+use Rattle.log_rule.specs.Log.{Part, LogRange, Claim, Log, Tiles, ranges_of, own, owes, claim_of, part_of, parts_of, unreleased_in, inside}
+use Rattle.log_rule.specs.Log.{filled_inside, filled_in, is_released, SpellsRecord, records_in, StandsInRing, IsFullIfReleased, IsReleasedBelow}
+use Rattle.log_rule.specs.Log.{CountsRemaining, AgreesFrom, EndsWithPart, Laid}
 use Rattle.log_rule.specs.Marks.{Carries, HasTrueEnds}
 use Rattle.log_rule.specs.May.{MayFillRun}
 use Rattle.log_rule.specs.Members.{LoadsForGroup, AwaitsPlace, HasTotalOfWorkers, HasSeenLast}
-use Rattle.log_rule.specs.Sound.{HasSeenBoundaries, SendsIfFlusher, StoresStop, HasReadStop, LookedIfQuiet, HasWorkingOwner, HasConstants, RestsUnlessActive, OwnsIfWorker, HoldsIfActive, IsSound, base_of, books_of}
+use Rattle.log_rule.specs.Sound.{HasSeenBoundaries, SendsIfFlusher, StoresStop, HasReadStop, LookedIfQuiet, HasWorkingOwner, HasConstants}
+use Rattle.log_rule.specs.Sound.{RestsUnlessActive, OwnsIfWorker, HoldsIfActive, IsSound, base_of, books_of}
 use Rattle.log_record.specs.Spelling.{spelling}
 use Rattle.lock_core.specs.History.{history_from}
 use Rattle.log_rule.specs.Accounts.{KeepsAccounts}
@@ -41,7 +46,9 @@ use Rattle.log_rule.proofs.Lists.{all-mid_replaced, all-middle, Last, picked-las
 use Rattle.log_rule.proofs.Loads.{all-tile}
 use Rattle.log_rule.proofs.Members.{KeepsView, one_step_more-keeps_seen, keeps-view}
 use Rattle.log_rule.proofs.OwnedParts.{LastPart, own-last_part, own-last_replaced, own-mid_replaced_others}
-use Rattle.log_rule.proofs.RangeLists.{RangesApart, append-assoc_four, tiles-le, laid-le, laid-split, laid-same_start_size, laid-all_replaced, unreleased_in-mid_replaced, filled_inside-starting_within, filled_inside-starting_elsewhere, filled_in-mid_replaced, filled_in-range_of_part}
+use Rattle.log_rule.proofs.RangeLists.{RangesApart, append-assoc_four, tiles-le, laid-le, laid-split, laid-same_start_size, laid-all_replaced}
+use Rattle.log_rule.proofs.RangeLists.{unreleased_in-mid_replaced, filled_inside-starting_within, filled_inside-starting_elsewhere}
+use Rattle.log_rule.proofs.RangeLists.{filled_in-mid_replaced, filled_in-range_of_part}
 use Rattle.log_rule.proofs.Roles.{crew-set_same, rests_if_quiet-set}
 use Rattle.log_rule.proofs.MachineShown.{hands_of-set_same, task_of-hands_of, find-reservation_at_base, reservation_of-range_changed, filled_at-others}
 use Rattle.log_rule.proofs.ViewChanges.{each_view-set_weaken, each_view-set, each_seat-set_weaken, each_seat-at}

@@ -17,7 +17,8 @@ use Rattle.log_rule.specs.Log.{Part, LogRange, Log, ranges_of, StandsInRing, Agr
 use Rattle.log_rule.specs.Marks.{HasTrueMark, HasTrueEnds}
 use Rattle.log_rule.specs.May.{MaySend}
 use Rattle.log_rule.specs.Members.{HasSeenInGroup, LoadsForGroup, AwaitsPlace, HasTotalOfWorkers, HasSeenLast}
-use Rattle.log_rule.specs.Sound.{HasSeenBoundaries, HasContiguousReservations, SendsInsertedUnits, SendsIfFlusher, StoresStop, HasReadStop, LookedIfQuiet, HasWorkingOwner, HasConstants, RestsUnlessActive, OwnsIfWorker, HoldsIfActive, IsSound}
+use Rattle.log_rule.specs.Sound.{HasSeenBoundaries, HasContiguousReservations, SendsInsertedUnits, SendsIfFlusher, StoresStop, HasReadStop}
+use Rattle.log_rule.specs.Sound.{LookedIfQuiet, HasWorkingOwner, HasConstants, RestsUnlessActive, OwnsIfWorker, HoldsIfActive, IsSound}
 use Rattle.log_rule.proofs.AccountsKept.{same_books-keeps_accounts}
 use Rattle.log_rule.specs.Roles.{is_spent}
 use Rattle.log_rule.specs.Views.{seen_durable, has_sent}

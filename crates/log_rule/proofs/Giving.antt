@@ -17,10 +17,13 @@ use Rattle.log_rule.specs.declared.view.Given.{Given}
 use Rattle.log_rule.specs.declared.view.Half.TheVariants.{Giving}
 use Rattle.log_rule.specs.declared.view.Books.{Books}
 use Rattle.log_rule.specs.Books.{times_half, times_held, times_holding, times_taken, giving}
-use Rattle.log_rule.specs.Accounts.{holders, IsMarked, IsAsTaken, IsHalf, HasOneHolder, moved_if_committed, commit_in, FollowsJobBalance, Follows, HalfFollows, IsUpToDate, WentBack, AccountsFollowList, KeepsAccounts}
+use Rattle.log_rule.specs.Accounts.{holders, IsMarked, IsAsTaken, IsHalf, HasOneHolder, moved_if_committed, commit_in, FollowsJobBalance, Follows}
+use Rattle.log_rule.specs.Accounts.{HalfFollows, IsUpToDate, WentBack, AccountsFollowList, KeepsAccounts}
 use Rattle.log_rule.specs.Words.{AccountWords, words_alone, put_word}
 use Rattle.log_rule.proofs.Bookings.{everywhere-set_weaken, everywhere-set, all-weaken_if_held, cond-one_if_equal, cond-zero_if_unequal}
-use Rattle.log_rule.proofs.Taking.{put-at_equal, put-at_unequal, as_taken-put_word_other, half-put_word_other, words-put_word, half_follows-put_word, free-put_word_other, distinct_jobs-before_set, AllTaken, HoldsByHalf, FollowsByHalf, Lasts, Ties, RunsPartly, FollowsAll, AllWentBack, LastIsOne}
+use Rattle.log_rule.proofs.Taking.{put-at_equal, put-at_unequal, as_taken-put_word_other, half-put_word_other, words-put_word, half_follows-put_word}
+use Rattle.log_rule.proofs.Taking.{free-put_word_other, distinct_jobs-before_set, AllTaken, HoldsByHalf, FollowsByHalf, Lasts, Ties, RunsPartly}
+use Rattle.log_rule.proofs.Taking.{FollowsAll, AllWentBack, LastIsOne}
 
 -- the account goes back as it was taken, with the tail at or below the end of the list
 pub record GoesBack (base : BaseState) (h : List Placed) (mine : Books) (taken : Taken) (given : Given) : Type 0 where

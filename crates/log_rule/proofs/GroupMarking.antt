@@ -1,5 +1,6 @@
 -- The store of a mark by the last of a group to release: the machine's Mark. The group's range is released, of which nothing remains.
-use Rattle.std.proofs.Common.{◌≡◌, ◌≢◌, inl, inr, ⊎_elim, ℕ, ◌+◌, ◌/◌, ◌%◌, ◌<◌, ◌≤◌, cond, true, false, true≢false, List, [], ◌∷◌, ◌++◌, length, map, set, Some, sym, refl, ap, ◌∙◌, subst, le_refl, arith, append-nil, eq-eqb, ne_eqb}
+use Rattle.std.proofs.Common.{◌≡◌, ◌≢◌, inl, inr, ⊎_elim, ℕ, ◌+◌, ◌/◌, ◌%◌, ◌<◌, ◌≤◌, cond, true, false, true≢false, List, [], ◌∷◌, ◌++◌, length, map}
+use Rattle.std.proofs.Common.{set, Some, sym, refl, ap, ◌∙◌, subst, le_refl, arith, append-nil, eq-eqb, ne_eqb}
 use Rattle.std.specs.List.{AllByRecursion, find}
 use Rattle.std.specs.Option.{IsSomeAnd}
 use mathlib.Core.Logic.{dite}
@@ -22,14 +23,17 @@ use Rattle.log_rule.specs.declared.view.View.{View}
 use Rattle.log_rule.specs.Events.{reservation_of, task_in, slots_of, Leads, IsStep, marks}
 use Rattle.log_rule.specs.GroupViews.{follow_up}
 use Rattle.table_layout.specs.Layout.{Mark}
-use Rattle.log_rule.specs.Log.{Part, Owed, Released, LogRange, Claim, Log, ranges_of, owed, owes, is_owed_by, claim_of, parts_of, unreleased_in, filled_in, is_released, IsFull, IsFullIfReleased, IsReleased, IsAtWork, CountsRemaining, Tiles, Laid, EndsWithPart, IsRangeBoundary}
+use Rattle.log_rule.specs.Log.{Part, Owed, Released, LogRange, Claim, Log, ranges_of, owed, owes, is_owed_by, claim_of, parts_of, unreleased_in}
+use Rattle.log_rule.specs.Log.{filled_in, is_released, IsFull, IsFullIfReleased, IsReleased, IsAtWork, CountsRemaining, Tiles, Laid, EndsWithPart}
+use Rattle.log_rule.specs.Log.{IsRangeBoundary}
 use Rattle.log_rule.specs.Marks.{FirstEnds, IsCurrentMark, HasReleaseMarks, HasTrueMark, HasTrueEnds}
 use Rattle.log_rule.specs.MarkViews.{marked}
 use Rattle.log_rule.specs.May.{MayMark, MayMarkRun, MayMarkGroup}
 use Rattle.log_rule.specs.Members.{LoadsForGroup, AwaitsPlace, HasTotalOfWorkers, HasSeenLast}
 use Rattle.log_rule.specs.Roles.{is_active}
 use Rattle.log_rule.specs.Slots.{pieces_at, is_shared_at, shared, phase_at}
-use Rattle.log_rule.specs.Sound.{HasSeenBoundaries, HasContiguousReservations, SendsIfFlusher, StoresStop, HasReadStop, LookedIfQuiet, HasWorkingOwner, HasConstants, RestsUnlessActive, OwnsIfWorker, HoldsIfActive, IsSound}
+use Rattle.log_rule.specs.Sound.{HasSeenBoundaries, HasContiguousReservations, SendsIfFlusher, StoresStop, HasReadStop, LookedIfQuiet}
+use Rattle.log_rule.specs.Sound.{HasWorkingOwner, HasConstants, RestsUnlessActive, OwnsIfWorker, HoldsIfActive, IsSound}
 use Rattle.log_rule.specs.Views.{run_in, entries_in, books_in, claims_in, counted}
 use Rattle.log_rule.specs.Words.{Words, put}
 use Rattle.log_rule.proofs.Boundaries.{range_size, part_size, boundary-append, boundary-start_le, boundary-end, range_boundary-part_boundary, boundary-mid_replaced}
@@ -41,7 +45,8 @@ use Rattle.log_rule.proofs.Loads.{all-tile}
 use Rattle.log_rule.proofs.Marking.{run_mark-step}
 use Rattle.log_rule.proofs.Members.{KeepsView, one_step_more-keeps_seen, seen_in_group-more, keeps-view}
 use Rattle.log_rule.proofs.OwnedParts.{duty-owed, owed-unreleased}
-use Rattle.log_rule.proofs.RangeLists.{append-assoc_four, tiles-le, tiles-split, tiles-same_base_size, unreleased_in_none-all_released, filled_inside-starting_within, filled_inside-starting_elsewhere, filled_in-apart}
+use Rattle.log_rule.proofs.RangeLists.{append-assoc_four, tiles-le, tiles-split, tiles-same_base_size, unreleased_in_none-all_released}
+use Rattle.log_rule.proofs.RangeLists.{filled_inside-starting_within, filled_inside-starting_elsewhere, filled_in-apart}
 use Rattle.log_rule.proofs.Roles.{crew-set_same, rests_if_quiet-set}
 use Rattle.log_rule.proofs.Sharing.{shared-mid_replaced_unshared, sound_slot-same_shared}
 use Rattle.log_rule.proofs.MachineShown.{hands_of-set, task_of-hands_of, find-reservation_at_base, reservation_of-range_changed, released_at-others}

@@ -1,5 +1,6 @@
 -- A group that gathers has a total of at most a member's size and 26 units for each further worker that was made.
-use Rattle.std.proofs.Common.{◌≡◌, ◌≢◌, ◌⊎◌, inl, inr, ⊎_elim, ℕ, ◌==◌, ◌+◌, ◌*◌, ◌/◌, ◌≤◌, ◌||◌, zero, suc, eqb, cond, Bool, true, false, true≢false, List, [], ◌∷◌, length, map, get_or, sym, refl, ap, ◌∙◌, subst, arith, eqb-true, eq-eqb}
+use Rattle.std.proofs.Common.{◌≡◌, ◌≢◌, ◌⊎◌, inl, inr, ⊎_elim, ℕ, ◌==◌, ◌+◌, ◌*◌, ◌/◌, ◌≤◌, ◌||◌, zero, suc, eqb, cond, Bool, true, false, true≢false}
+use Rattle.std.proofs.Common.{List, [], ◌∷◌, length, map, get_or, sym, refl, ap, ◌∙◌, subst, arith, eqb-true, eq-eqb}
 use Rattle.std.specs.List.{AllByRecursion, list_any}
 use mathlib.Core.Option.{some}
 use lib.ListN.{get_elem?}

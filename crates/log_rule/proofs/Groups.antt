@@ -16,7 +16,8 @@ use Rattle.log_rule.specs.Events.{group_shown, groups_from}
 use Rattle.log_rule.specs.Groups.{Outcome, GroupPhase, Vacant, Gathering, Closed, Placed, Ready, Told, Emptied, Piece, Member, Group, put_group}
 use Rattle.log_rule.specs.GroupViews.{unheard_entry, unheard_books, member_entry, member_books}
 use Rattle.log_rule.specs.Log.{LogRange, Shared, claim_of, IsSharedByMembers, IsAtWork}
-use Rattle.log_rule.specs.Slots.{own_pieces, pieces_at, is_led_by, known_phase, led_phase, phase_led, phase_at, KnowsPhase, KnowsGroup, is_shared_at, shares, shared, range_of, sum_of, HasRemaining, IsAtPhase}
+use Rattle.log_rule.specs.Slots.{own_pieces, pieces_at, is_led_by, known_phase, led_phase, phase_led, phase_at, KnowsPhase, KnowsGroup, is_shared_at}
+use Rattle.log_rule.specs.Slots.{shares, shared, range_of, sum_of, HasRemaining, IsAtPhase}
 use Rattle.log_rule.specs.Views.{entries_in, books_in}
 
 -- ---- the groups but one

@@ -1,5 +1,6 @@
 -- A leader exchanges the tail for its group: the machine's Place. Each member's piece enters the log as a part, and no other view changes.
-use Rattle.std.proofs.Common.{◌≡◌, ◌≢◌, ◌⊎◌, inl, inr, ⊎_elim, ℕ, ◌==◌, ◌&&◌, ◌+◌, ◌/◌, ◌<◌, ◌≤◌, cond, eqb, true, false, List, [], ◌∷◌, ◌++◌, length, map, set, get_or, sym, refl, ap, ◌∙◌, subst, arith, append-nil, append_assoc, add-zero, ne_eqb, le_refl}
+use Rattle.std.proofs.Common.{◌≡◌, ◌≢◌, ◌⊎◌, inl, inr, ⊎_elim, ℕ, ◌==◌, ◌&&◌, ◌+◌, ◌/◌, ◌<◌, ◌≤◌, cond, eqb, true, false, List, [], ◌∷◌, ◌++◌, length}
+use Rattle.std.proofs.Common.{map, set, get_or, sym, refl, ap, ◌∙◌, subst, arith, append-nil, append_assoc, add-zero, ne_eqb, le_refl}
 use Rattle.std.proofs.lemmas.Bool.{le-leb}
 use Rattle.std.specs.Prelude.{IsSomeAnd}
 use Rattle.std.specs.List.{AllByRecursion}
@@ -46,7 +47,10 @@ use Rattle.log_rule.specs.Words.{Words}
 use Rattle.log_rule.proofs.Bookings.{map-set_same}
 use Rattle.log_rule.proofs.Entering.{enters-spellable}
 use Rattle.log_rule.proofs.GroupEntering.{Entrant, history_with, books_with, MayEnterAs, EntersNot, EntersAs, enter_all-keeps_accounts, books_with-map_views}
-use Rattle.log_rule.proofs.GroupPlacing.{placed_parts, entries_at, own-placed, parts_of-append, laid-placed, empty-placed, unreleased-placed, all-placed, IsAmong, own_pieces-all_members, IsOneAtMost, pieces_at-one_at_most, IsMemberAt, member-at, seat-view_or_nobody, IsPlacedAt, knows_closed-placed_at, PlacesPiece, PlacesNone, OncePlaced, once-placed, entrant, entrants, all-entrants, enters-not, enters-as, entrants-are_apart, history-placed, records-append}
+use Rattle.log_rule.proofs.GroupPlacing.{placed_parts, entries_at, own-placed, parts_of-append, laid-placed, empty-placed, unreleased-placed}
+use Rattle.log_rule.proofs.GroupPlacing.{all-placed, IsAmong, own_pieces-all_members, IsOneAtMost, pieces_at-one_at_most, IsMemberAt, member-at}
+use Rattle.log_rule.proofs.GroupPlacing.{seat-view_or_nobody, IsPlacedAt, knows_closed-placed_at, PlacesPiece, PlacesNone, OncePlaced, once-placed}
+use Rattle.log_rule.proofs.GroupPlacing.{entrant, entrants, all-entrants, enters-not, enters-as, entrants-are_apart, history-placed, records-append}
 use Rattle.log_rule.proofs.Groups.{put_group-at, put_group-at_equal, put_group-other, range_of-some_members, at_work-put_group, groups_from-put_group}
 use Rattle.log_rule.proofs.AccountsKept.{history-end}
 use Rattle.log_rule.proofs.Lists.{picked-append}

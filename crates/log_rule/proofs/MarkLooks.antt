@@ -1,5 +1,6 @@
 -- What the mark at an LSN in hand tells: whether a released range begins there, and where it tells of none, that exposed is there.
-use Rattle.std.proofs.Common.{◌≡◌, ⊎_elim, ℕ, ◌+◌, ◌/◌, ◌%◌, ◌<◌, ◌≤◌, nat_lt, Bool, true, false, true≢false, lt-ltb, le-ltb, List, [], ◌∷◌, ◌++◌, map, Some, None, sym, refl, ap, ◌∙◌, subst, le_refl, arith, append_assoc}
+use Rattle.std.proofs.Common.{◌≡◌, ⊎_elim, ℕ, ◌+◌, ◌/◌, ◌%◌, ◌<◌, ◌≤◌, nat_lt, Bool, true, false, true≢false, lt-ltb, le-ltb, List, [], ◌∷◌, ◌++◌}
+use Rattle.std.proofs.Common.{map, Some, None, sym, refl, ap, ◌∙◌, subst, le_refl, arith, append_assoc}
 use Rattle.std.specs.List.{AllByRecursion, find}
 use Rattle.std.specs.Option.{option_map_or}
 use mathlib.Core.Logic.{dite}

@@ -1,5 +1,6 @@
 -- The store of a mark: the machine's Mark. The seat's range is released, wherever exposed is.
-use Rattle.std.proofs.Common.{◌≡◌, ◌≢◌, inl, inr, ⊎_elim, ℕ, ◌+◌, ◌/◌, ◌%◌, ◌<◌, ◌≤◌, cond, true, false, true≢false, List, [], ◌∷◌, ◌++◌, map, set, None, sym, refl, ap, ◌∙◌, subst, le_refl, arith, append-nil, eq-eqb, ne_eqb}
+use Rattle.std.proofs.Common.{◌≡◌, ◌≢◌, inl, inr, ⊎_elim, ℕ, ◌+◌, ◌/◌, ◌%◌, ◌<◌, ◌≤◌, cond, true, false, true≢false, List, [], ◌∷◌, ◌++◌, map, set}
+use Rattle.std.proofs.Common.{None, sym, refl, ap, ◌∙◌, subst, le_refl, arith, append-nil, eq-eqb, ne_eqb}
 use Rattle.std.specs.List.{AllByRecursion}
 use Rattle.std.specs.Option.{IsSomeAnd}
 use mathlib.Core.Logic.{dite}
@@ -22,13 +23,16 @@ use Rattle.log_rule.specs.declared.view.Role.TheVariants.{Flusher, Fresh, Active
 use Rattle.log_rule.specs.declared.view.View.{View}
 use Rattle.log_rule.specs.Events.{reservation_of, hands_of, slots_of, Leads, IsStep, marks}
 use Rattle.table_layout.specs.Layout.{Mark}
-use Rattle.log_rule.specs.Log.{Part, Owed, Released, LogRange, Claim, Log, ranges_of, own, owed, owes, is_owed_by, claim_of, part_of, parts_of, unreleased_in, inside, filled_in, is_released, IsFull, SpellsRecord, records_in, StandsInRing, IsFullIfReleased, IsReleasedBelow, IsReleased, IsAtWork, CountsRemaining, Tiles, Laid, AgreesFrom, EndsWithPart, IsRangeBoundary}
+use Rattle.log_rule.specs.Log.{Part, Owed, Released, LogRange, Claim, Log, ranges_of, own, owed, owes, is_owed_by, claim_of, part_of, parts_of}
+use Rattle.log_rule.specs.Log.{unreleased_in, inside, filled_in, is_released, IsFull, SpellsRecord, records_in, StandsInRing, IsFullIfReleased}
+use Rattle.log_rule.specs.Log.{IsReleasedBelow, IsReleased, IsAtWork, CountsRemaining, Tiles, Laid, AgreesFrom, EndsWithPart, IsRangeBoundary}
 use Rattle.log_rule.specs.Marks.{HasReleaseMarks, HasTrueMark, HasTrueEnds}
 use Rattle.log_rule.specs.GroupViews.{follow_up}
 use Rattle.log_rule.specs.MarkViews.{marked}
 use Rattle.log_rule.specs.May.{MayMarkRun}
 use Rattle.log_rule.specs.Members.{LoadsForGroup, AwaitsPlace, HasTotalOfWorkers, HasSeenLast}
-use Rattle.log_rule.specs.Sound.{HasSeenBoundaries, HasContiguousReservations, SendsIfFlusher, StoresStop, HasReadStop, LookedIfQuiet, HasWorkingOwner, HasConstants, RestsUnlessActive, OwnsIfWorker, HoldsIfActive, IsSound, base_of, books_of}
+use Rattle.log_rule.specs.Sound.{HasSeenBoundaries, HasContiguousReservations, SendsIfFlusher, StoresStop, HasReadStop, LookedIfQuiet}
+use Rattle.log_rule.specs.Sound.{HasWorkingOwner, HasConstants, RestsUnlessActive, OwnsIfWorker, HoldsIfActive, IsSound, base_of, books_of}
 use Rattle.lock_core.specs.History.{history_from}
 use Rattle.log_rule.specs.Accounts.{KeepsAccounts}
 use Rattle.log_rule.specs.Roles.{is_active, may_own}
@@ -42,7 +46,9 @@ use Rattle.log_rule.proofs.AccountsKept.{same_books-keeps_accounts, records-mid_
 use Rattle.log_rule.proofs.Lists.{all-mid_replaced, all-middle, picked-append, picked-mid_replaced}
 use Rattle.log_rule.proofs.Members.{KeepsView, one_step_more-keeps_seen, seen_in_group-more, keeps-view}
 use Rattle.log_rule.proofs.OwnedParts.{LastPart, own-last_part, own-last_replaced, own-mid_replaced_others, parts_of-push, duty-owed, owed-unreleased}
-use Rattle.log_rule.proofs.RangeLists.{append-assoc_four, tiles-le, tiles-split, tiles-same_base_size, tiles-all_replaced, laid-same_start_size, unreleased_in-mid_replaced, inside-starting_within, inside-starting_elsewhere, filled_in-mid_replaced, filled_in-range_of_part}
+use Rattle.log_rule.proofs.RangeLists.{append-assoc_four, tiles-le, tiles-split, tiles-same_base_size, tiles-all_replaced, laid-same_start_size}
+use Rattle.log_rule.proofs.RangeLists.{unreleased_in-mid_replaced, inside-starting_within, inside-starting_elsewhere, filled_in-mid_replaced}
+use Rattle.log_rule.proofs.RangeLists.{filled_in-range_of_part}
 use Rattle.log_rule.proofs.Roles.{crew-set_same, rests_if_quiet-set}
 use Rattle.log_rule.proofs.Sharing.{shared-mid_replaced_unshared, sound_slot-same_shared}
 use Rattle.log_rule.proofs.MachineShown.{hands_of-set, reservation_of-range_changed, released_at-others}

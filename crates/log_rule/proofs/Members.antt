@@ -20,7 +20,9 @@ use Rattle.log_rule.specs.declared.view.Standing.{Standing}
 use Rattle.log_rule.specs.declared.view.View.{View}
 use Rattle.log_rule.specs.Groups.{Outcome, Granted, Refused, GroupPhase, Vacant, Gathering, Closed, Placed, Ready, Told, Emptied, Piece, Member, Group, put_group}
 use Rattle.log_rule.specs.Log.{LogRange, Log, ranges_of, IsRangeBoundary}
-use Rattle.log_rule.specs.Members.{HadSeenUpTo, HasOutcome, HasPhaseOutcome, HasSeenInGroup, LoadedSince, LoadsAtStep, LoadsForGroup, SawLast, HasSeenLast, AwaitsAtStep, AwaitsPlace, IsTotalOf, IsTotalOfEach, HasTotalAtPhase, HasTotalOfWorkers, IsRefusalOf, HeardOfWorkers}
+use Rattle.log_rule.specs.Members.{HadSeenUpTo, HasOutcome, HasPhaseOutcome, HasSeenInGroup, LoadedSince, LoadsAtStep, LoadsForGroup, SawLast}
+use Rattle.log_rule.specs.Members.{HasSeenLast, AwaitsAtStep, AwaitsPlace, IsTotalOf, IsTotalOfEach, HasTotalAtPhase, HasTotalOfWorkers, IsRefusalOf}
+use Rattle.log_rule.specs.Members.{HeardOfWorkers}
 use Rattle.log_rule.specs.Roles.{is_spent}
 use Rattle.log_rule.specs.Slots.{led_phase, phase_led, phase_at}
 use Rattle.log_rule.specs.Sound.{EachView, EachPair, IsSound}

@@ -17,7 +17,9 @@ use Rattle.log_rule.specs.Log.{Part, Log, ranges_of, parts_of, SpellsRecord, Sta
 use Rattle.log_rule.specs.Marks.{Carries, HasTrueEnds}
 use Rattle.log_rule.specs.May.{MayMerge}
 use Rattle.log_rule.specs.Members.{LoadsForGroup, AwaitsPlace, HasTotalOfWorkers, IsRefusalOf, HeardOfWorkers, SawLast, HasSeenLast}
-use Rattle.log_rule.specs.Sound.{HasSeenBoundaries, SendsIfFlusher, StoresStop, HasReadStop, LookedIfQuiet, HasWorkingOwner, HasConstants, RestsUnlessActive, OwnsIfWorker, HoldsIfActive, base_of, history_in, books_of, IsSound, Ruled, EachView, EachPair, HasSoundRole, HasSoundRoles, HasSoundCrew, Knows, Lacks, is_active_view}
+use Rattle.log_rule.specs.Sound.{HasSeenBoundaries, SendsIfFlusher, StoresStop, HasReadStop, LookedIfQuiet, HasWorkingOwner, HasConstants}
+use Rattle.log_rule.specs.Sound.{RestsUnlessActive, OwnsIfWorker, HoldsIfActive, base_of, history_in, books_of, IsSound, Ruled, EachView, EachPair}
+use Rattle.log_rule.specs.Sound.{HasSoundRole, HasSoundRoles, HasSoundCrew, Knows, Lacks, is_active_view}
 use Rattle.log_rule.specs.Roles.{is_active, has_ended, is_worker, is_spent}
 use Rattle.log_rule.specs.Slots.{pieces_at, phase_at}
 use Rattle.log_rule.specs.Views.{nobody, entries_in, claims_in}
@@ -69,7 +71,17 @@ module _ (key : Start) (words : Words) (views : List View) (me other : ℕ) (v o
   owners : Rattle.log_rule.specs.Sound.EachSeat (HasWorkingOwner log.groups parts log.ahead) (set (without views other) me new)
   owners = each_seat-set_weaken Half (HasWorkingOwner log.groups parts log.ahead) (without views other) me v new (at-without views me other v at apart)
       (each_seat-set_weaken (HasWorkingOwner log.groups log.parts log.ahead) Half views other o nobody there s.owners
-      (inl (refl, record { owns = own-renamed-from other me log.parts apart; owes = his.owes ∙ ap claims_in idle'; joins = λ slot. his.joins slot ∙ ap (pieces_at slot) idle'; leads = λ slot. his.leads slot ∙ ap (phase_at other slot) idle'; knows = tt }))
+      (inl (
+        refl,
+        record {
+          owns = own-renamed-from other me log.parts apart;
+          owes = his.owes ∙ ap claims_in idle';
+          joins = λ slot. his.joins slot ∙ ap
+              (pieces_at slot) idle';
+          leads = λ slot. his.leads slot ∙ ap (phase_at other slot) idle';
+          knows = tt;
+        },
+      ))
       (λ j z differ h. inr (differ, h)))
       record {
         owns = own-renamed_merged other me _ _ log.parts v.entries o.entries s.contiguous.parts apart

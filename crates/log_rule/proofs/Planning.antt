@@ -218,7 +218,8 @@ module _ (task : NumberedTransfer) (P : ℕ → Type 0) (last_commit start : ℕ
       by_note [] is = planned_from-walk task.job.legs start 0 [] refl refl (λ change down. down) (omega (arith, few)) held range (λ account. refl)
           (ap (λ n. with_note txn n (leg_updates txn task.job.legs)) is)
       by_note (byte ∷ bytes) is =
-          let front : with_note txn (byte ∷ bytes) (leg_updates txn task.job.legs) ≡ with_note txn task.job.note (leg_updates txn task.job.legs) = ap (λ n. with_note txn n (leg_updates txn task.job.legs)) is in (
+          let front : with_note txn (byte ∷ bytes) (leg_updates txn task.job.legs) ≡ with_note txn task.job.note (leg_updates txn task.job.legs) = ap
+          (λ n. with_note txn n (leg_updates txn task.job.legs)) is in (
             record { own = refl; unended = refl; cut = record { rest = leg_updates txn task.job.legs; front = front } },
             planned_from-walk task.job.legs start 0 (Note txn (byte ∷ bytes) ∷ []) refl refl (λ change down. down) (omega (arith, few)) held range (λ account. refl) front,
           )

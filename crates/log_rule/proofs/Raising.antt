@@ -1,5 +1,6 @@
 -- Exposed is raised past the first range ahead: the machine's Raise, where the exchange is not lost.
-use Rattle.std.proofs.Common.{◌≡◌, ℕ, ◌==◌, ◌+◌, ◌/◌, ◌%◌, ◌<◌, ◌≤◌, cond, eqb, Bool, true, false, List, [], ◌∷◌, ◌++◌, map, set, sym, refl, ap, ◌∙◌, subst, le_refl, arith, append_assoc, eq-eqb, ne_eqb}
+use Rattle.std.proofs.Common.{◌≡◌, ℕ, ◌==◌, ◌+◌, ◌/◌, ◌%◌, ◌<◌, ◌≤◌, cond, eqb, Bool, true, false, List, [], ◌∷◌, ◌++◌, map, set, sym, refl, ap, ◌∙◌}
+use Rattle.std.proofs.Common.{subst, le_refl, arith, append_assoc, eq-eqb, ne_eqb}
 use Rattle.std.proofs.Math.Nat.{div-le_self}
 use Rattle.std.specs.Prelude.{is_some}
 use Rattle.std.specs.List.{AllByRecursion}
@@ -23,12 +24,14 @@ use Rattle.log_rule.specs.declared.view.View.{View}
 use Rattle.log_rule.specs.Events.{reservation_of, task_in, hands_of, slots_of, Leads, IsStep, raises}
 use Rattle.log_rule.specs.GroupViews.{slot_after}
 use Rattle.table_layout.specs.Layout.{Exposed}
-use Rattle.log_rule.specs.Log.{Part, LogRange, Log, ranges_of, owed, is_owed_by, claim_of, parts_of, unreleased_in, IsReleased, IsAtWork, IsReleasedBelow, CountsRemaining, EndsWithPart, IsRangeBoundary, Tiles}
+use Rattle.log_rule.specs.Log.{Part, LogRange, Log, ranges_of, owed, is_owed_by, claim_of, parts_of, unreleased_in, IsReleased, IsAtWork}
+use Rattle.log_rule.specs.Log.{IsReleasedBelow, CountsRemaining, EndsWithPart, IsRangeBoundary, Tiles}
 use Rattle.log_rule.specs.Marks.{IsReady, IsCurrentMark, HasTrueMark, IsFirstReleased, FirstEnds, HasTrueEnds}
 use Rattle.log_rule.specs.MarkViews.{call_with_exposed, after_raise}
 use Rattle.log_rule.specs.May.{MayRaise}
 use Rattle.log_rule.specs.Members.{LoadsForGroup, AwaitsPlace, HasTotalOfWorkers, HasSeenLast}
-use Rattle.log_rule.specs.Sound.{HasSeenBoundaries, HasContiguousReservations, SendsIfFlusher, StoresStop, HasReadStop, LookedIfQuiet, HasWorkingOwner, HasConstants, RestsUnlessActive, OwnsIfWorker, HoldsIfActive, IsSound}
+use Rattle.log_rule.specs.Sound.{HasSeenBoundaries, HasContiguousReservations, SendsIfFlusher, StoresStop, HasReadStop, LookedIfQuiet}
+use Rattle.log_rule.specs.Sound.{HasWorkingOwner, HasConstants, RestsUnlessActive, OwnsIfWorker, HoldsIfActive, IsSound}
 use Rattle.log_rule.specs.Slots.{pieces_at, is_shared_at, phase_at}
 use Rattle.log_rule.specs.Views.{entries_in, books_in, claims_in, seen_exposed}
 use Rattle.log_rule.specs.Words.{Words}

@@ -32,6 +32,8 @@ pub note-next : (books : Books) (text : List ℕ) → books.placed ≡ [] → bo
 note-next books [] none noted has = absurd (omega arith)
 note-next books (byte ∷ bytes) none noted has = record {
   rest = planned_from books.last.number (last_commit_taken books.held) (balance_taken books.held) 0 books.last.job.legs;
-  plan = ap (λ placed. in_order (recs_of placed) (Note books.last.number (byte ∷ bytes) ∷ planned_from books.last.number (last_commit_taken books.held) (balance_taken books.held) 0 books.last.job.legs)) none
-      ∙ sym (ap (λ (o : Option (List ℕ)). with_note books.last.number (note_of o) (planned_from books.last.number (last_commit_taken books.held) (balance_taken books.held) 0 books.last.job.legs)) noted);
+  plan = ap (λ placed. in_order (recs_of placed) (Note books.last.number (byte ∷ bytes) ∷ planned_from books.last.number
+      (last_commit_taken books.held) (balance_taken books.held) 0 books.last.job.legs)) none
+      ∙ sym (ap (λ (o : Option (List ℕ)). with_note books.last.number (note_of o) (planned_from books.last.number (last_commit_taken books.held)
+      (balance_taken books.held) 0 books.last.job.legs)) noted);
 }

@@ -15,7 +15,9 @@ use Rattle.log_rule.specs.Groups.{Group}
 use Rattle.log_rule.specs.Log.{Log, ranges_of, parts_of}
 use Rattle.log_rule.specs.Marks.{IsFirstReleased, Carries, HasTrueEnds}
 use Rattle.log_rule.specs.Members.{LoadsForGroup, AwaitsPlace, HasTotalOfWorkers, HasSeenLast}
-use Rattle.log_rule.specs.Sound.{EachView, EachPair, HasSeenBoundaries, SendsIfFlusher, StoresStop, HasReadStop, RestsIfQuiet, LookedIfQuiet, HasWorkingOwner, HasConstants, RestsUnlessActive, OwnsIfWorker, HoldsIfActive, base_of, history_in, books_of, HasSoundRole, HasSoundRoles, HasSoundCrew, IsSound, is_active_view}
+use Rattle.log_rule.specs.Sound.{EachView, EachPair, HasSeenBoundaries, SendsIfFlusher, StoresStop, HasReadStop, RestsIfQuiet, LookedIfQuiet}
+use Rattle.log_rule.specs.Sound.{HasWorkingOwner, HasConstants, RestsUnlessActive, OwnsIfWorker, HoldsIfActive, base_of, history_in, books_of}
+use Rattle.log_rule.specs.Sound.{HasSoundRole, HasSoundRoles, HasSoundCrew, IsSound, is_active_view}
 use Rattle.log_rule.specs.Roles.{is_active, is_worker, is_working}
 use Rattle.log_rule.specs.Slots.{pieces_at, phase_at, KnowsGroup}
 use Rattle.log_rule.specs.Views.{entries_in, books_in, claims_in}

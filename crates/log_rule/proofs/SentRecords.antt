@@ -1,6 +1,7 @@
 -- The units sent, and with them those read, are whole records, a front of the list that was inserted; so they run all jobs lawfully where no
 -- number was taken twice.
-use Rattle.std.proofs.Common.{◌≡◌, ⊎_elim, ℕ, zero, suc, ◌+◌, ◌<◌, ◌≤◌, List, [], ◌∷◌, ◌++◌, map, length, drop, take-append-drop, length-drop, length-append, sym, refl, ap, ◌∙◌, subst, append-nil, arith}
+use Rattle.std.proofs.Common.{◌≡◌, ⊎_elim, ℕ, zero, suc, ◌+◌, ◌<◌, ◌≤◌, List, [], ◌∷◌, ◌++◌, map, length, drop, take-append-drop, length-drop}
+use Rattle.std.proofs.Common.{length-append, sym, refl, ap, ◌∙◌, subst, append-nil, arith}
 use Rattle.std.specs.List.{AllByRecursion}
 use Rattle.std.proofs.lemmas.List.{nil_from_length}
 use Rattle.lsn_space.specs.Tiling.{IsTilingBoundary}

@@ -20,7 +20,8 @@ use Rattle.log_rule.specs.Marks.{Carries, HasTrueEnds}
 use Rattle.log_rule.specs.Members.{HasSeenInGroup, LoadsForGroup, AwaitsPlace, HasTotalOfWorkers, HeardOfWorkers, HasSeenLast}
 use Rattle.log_rule.specs.Roles.{is_active, may_own}
 use Rattle.log_rule.specs.Slots.{own_pieces, pieces_at, led_phase, phase_led, phase_at, KnowsPhase, KnowsGroup, range_of, IsAtPhase, IsSoundSlot}
-use Rattle.log_rule.specs.Sound.{EachSeat, HasSeenBoundaries, SendsIfFlusher, StoresStop, HasReadStop, LookedIfQuiet, HasWorkingOwner, HasConstants, RestsUnlessActive, OwnsIfWorker, HoldsIfActive, base_of, history_in, books_of, IsSound}
+use Rattle.log_rule.specs.Sound.{EachSeat, HasSeenBoundaries, SendsIfFlusher, StoresStop, HasReadStop, LookedIfQuiet, HasWorkingOwner, HasConstants}
+use Rattle.log_rule.specs.Sound.{RestsUnlessActive, OwnsIfWorker, HoldsIfActive, base_of, history_in, books_of, IsSound}
 use Rattle.log_rule.specs.Views.{entries_in, books_in, claims_in}
 use Rattle.log_rule.specs.Words.{Words}
 use Rattle.log_rule.proofs.Carriers.{carrier-set, true_ends-log_changes}

@@ -1,6 +1,7 @@
 -- A member of a placed group releases its piece: the machine's Release. Its part is released, as much less remains of the group's
 -- range, and the last to release has that range to mark.
-use Rattle.std.proofs.Common.{◌≡◌, ◌≢◌, ◌⊎◌, inl, inr, ⊎_elim, ℕ, ◌+◌, ◌-◌, ◌/◌, ◌%◌, ◌<◌, ◌≤◌, cond, true, false, true≢false, List, [], ◌∷◌, ◌++◌, length, map, set, sym, refl, ap, ◌∙◌, subst, le_refl, arith, append-nil, eq-eqb, ne_eqb, eqb-true}
+use Rattle.std.proofs.Common.{◌≡◌, ◌≢◌, ◌⊎◌, inl, inr, ⊎_elim, ℕ, ◌+◌, ◌-◌, ◌/◌, ◌%◌, ◌<◌, ◌≤◌, cond, true, false, true≢false, List, [], ◌∷◌, ◌++◌}
+use Rattle.std.proofs.Common.{length, map, set, sym, refl, ap, ◌∙◌, subst, le_refl, arith, append-nil, eq-eqb, ne_eqb, eqb-true}
 use Rattle.std.specs.List.{AllByRecursion}
 use Rattle.std.specs.Option.{IsSomeAnd}
 use mathlib.Core.Logic.{dite}
@@ -24,25 +25,30 @@ use Rattle.log_rule.specs.Accounts.{KeepsAccounts}
 use Rattle.log_rule.specs.Events.{reservation_of, task_in, group_shown, hands_of, slots_of, Leads, releases}
 use Rattle.log_rule.specs.Groups.{Granted, GroupPhase, Told, Emptied, Piece, Group, put_group}
 use Rattle.log_rule.specs.GroupViews.{placed_piece}
-use Rattle.log_rule.specs.Log.{Part, Duty, Shared, Owed, Released, LogRange, Claim, Log, ranges_of, own, owed, owes, is_owed_by, claim_of, part_of, parts_of, unreleased_in, inside, filled_in, is_released, SpellsRecord, records_in, StandsInRing, IsFullIfReleased, IsReleasedBelow, IsReleased, IsAtWork, CountsRemaining, Tiles, Laid, AgreesFrom, EndsWithPart, IsRangeBoundary}
+use Rattle.log_rule.specs.Log.{Part, Duty, Shared, Owed, Released, LogRange, Claim, Log, ranges_of, own, owed, owes, is_owed_by, claim_of, part_of}
+use Rattle.log_rule.specs.Log.{parts_of, unreleased_in, inside, filled_in, is_released, SpellsRecord, records_in, StandsInRing, IsFullIfReleased}
+use Rattle.log_rule.specs.Log.{IsReleasedBelow, IsReleased, IsAtWork, CountsRemaining, Tiles, Laid, AgreesFrom, EndsWithPart, IsRangeBoundary}
 use Rattle.log_rule.specs.Marks.{IsFirstReleased, FirstEnds, Carries, HasReleaseMarks, HasTrueMark, HasTrueEnds}
 use Rattle.log_rule.specs.Members.{HasSeenInGroup, LoadsForGroup, AwaitsPlace, HasTotalOfWorkers, HasSeenLast}
 use Rattle.log_rule.specs.Roles.{is_active, may_own}
 use Rattle.log_rule.specs.Slots.{own_pieces, pieces_at, led_phase, phase_at, is_shared_at, shares, shared, range_of, IsAtPhase, IsSoundSlot, told_word}
 use Rattle.log_rule.specs.SlotViews.{seen_slot}
-use Rattle.log_rule.specs.Sound.{HasSeenBoundaries, HasContiguousReservations, SendsIfFlusher, StoresStop, HasReadStop, LookedIfQuiet, HasWorkingOwner, HasConstants, RestsUnlessActive, OwnsIfWorker, HoldsIfActive, IsSound, base_of, books_of}
+use Rattle.log_rule.specs.Sound.{HasSeenBoundaries, HasContiguousReservations, SendsIfFlusher, StoresStop, HasReadStop, LookedIfQuiet}
+use Rattle.log_rule.specs.Sound.{HasWorkingOwner, HasConstants, RestsUnlessActive, OwnsIfWorker, HoldsIfActive, IsSound, base_of, books_of}
 use Rattle.log_rule.specs.Views.{entries_in, books_in, claims_in}
 use Rattle.log_rule.specs.Words.{Words, put}
 use Rattle.log_rule.proofs.Boundaries.{range_size, part_size, boundary-mid_replaced}
 use Rattle.log_rule.proofs.Carriers.{carrier-set, first_ends-mid_replaced, true_ends-log_changes}
 use Rattle.log_rule.proofs.Filling.{put-at, put-other}
 use Rattle.log_rule.proofs.GroupLeaving.{ToldMember, Left, left-keeps_members, picked-none_around, picked-none_front, picked-none_behind, task_in-left, group_shown-left}
-use Rattle.log_rule.proofs.Groups.{Others, HasAsBefore, as-before, put_group-at, put_group-at_equal, put_group-other, put_group-all, range_of-some_members, at_work-put_group, map-set_agreeing, groups_from-put_group, group_at-groups_from}
+use Rattle.log_rule.proofs.Groups.{Others, HasAsBefore, as-before, put_group-at, put_group-at_equal, put_group-other, put_group-all}
+use Rattle.log_rule.proofs.Groups.{range_of-some_members, at_work-put_group, map-set_agreeing, groups_from-put_group, group_at-groups_from}
 use Rattle.log_rule.proofs.AccountsKept.{records-mid_replaced}
 use Rattle.log_rule.proofs.Lists.{all-mid_replaced, all-middle, Last, picked-last, picked-mid_replaced}
 use Rattle.log_rule.proofs.Members.{KeepsMembers, seen_in_group-more, heard_of_workers-set_same, loads_for_group-put_group}
 use Rattle.log_rule.proofs.OwnedParts.{LastPart, own-last_part, own-last_replaced, own-mid_replaced_others, parts_of-push}
-use Rattle.log_rule.proofs.RangeLists.{append-assoc_four, tiles-le, tiles-split, tiles-same_base_size, tiles-all_replaced, laid-same_start_size, unreleased_in-mid_replaced, inside-starting_within, inside-starting_elsewhere, filled_in-mid_replaced}
+use Rattle.log_rule.proofs.RangeLists.{append-assoc_four, tiles-le, tiles-split, tiles-same_base_size, tiles-all_replaced, laid-same_start_size}
+use Rattle.log_rule.proofs.RangeLists.{unreleased_in-mid_replaced, inside-starting_within, inside-starting_elsewhere, filled_in-mid_replaced}
 use Rattle.log_rule.proofs.Roles.{crew-set_same, rests_if_quiet-set}
 use Rattle.log_rule.proofs.MachineShown.{hands_of-set, task_of-hands_of, reservation_of-same_filled}
 use Rattle.log_rule.proofs.SlotLeading.{joined-active}

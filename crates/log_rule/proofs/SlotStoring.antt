@@ -1,6 +1,7 @@
 -- A leader stores the base of its group's range: the machine's PutBase. By the numbers that it loaded the group may have no room: then it stores
 -- these, which is the machine's Place and PutBase in one.
-use Rattle.std.proofs.Common.{◌≡◌, ⊎_elim, ℕ, ◌+◌, ◌/◌, ◌^◌, ◌<◌, ◌≤◌, ◌==◌, ◌&&◌, nat_le, leb-true, zero, suc, cond, Bool, true, false, true≢false, List, [], ◌∷◌, set, get_or-set_same, sym, refl, ap, ◌∙◌, subst, arith, eq-eqb}
+use Rattle.std.proofs.Common.{◌≡◌, ⊎_elim, ℕ, ◌+◌, ◌/◌, ◌^◌, ◌<◌, ◌≤◌, ◌==◌, ◌&&◌, nat_le, leb-true, zero, suc, cond, Bool, true, false, true≢false}
+use Rattle.std.proofs.Common.{List, [], ◌∷◌, set, get_or-set_same, sym, refl, ap, ◌∙◌, subst, arith, eq-eqb}
 use Rattle.std.specs.Prelude.{IsSomeAnd}
 use Rattle.std.specs.List.{AllByRecursion}
 use mathlib.Core.Option.{some}

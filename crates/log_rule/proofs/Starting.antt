@@ -1,5 +1,7 @@
 -- A table starts at rest: nothing is reserved, and the log ends where it started.
-use Rattle.std.proofs.Common.{◌≡◌, ◌≢◌, inl, ℕ, zero, suc, ◌+◌, ◌*◌, ◌%◌, ◌<◌, ◌≤◌, nat_lt, true, true≢false, List, [], ◌∷◌, length, get_or, replicate, set, sym, refl, ap, ◌∙◌, subst, le_refl, arith, cond, Bool, false, lt-ltb, ltb-true, length-set, get_or-set_same, get_or-set_other}
+use Rattle.std.proofs.Common.{◌≡◌, ◌≢◌, inl, ℕ, zero, suc, ◌+◌, ◌*◌, ◌%◌, ◌<◌, ◌≤◌, nat_lt, true, true≢false, List, [], ◌∷◌, length, get_or}
+use Rattle.std.proofs.Common.{replicate, set, sym, refl, ap, ◌∙◌, subst, le_refl, arith, cond, Bool, false, lt-ltb, ltb-true, length-set}
+use Rattle.std.proofs.Common.{get_or-set_same, get_or-set_other}
 use Rattle.std.proofs.lemmas.List.{length-replicate, get_or-replicate}
 use mathlib.Core.Option.{some-injective, some-ne-none}
 use Rattle.atomic_table.specs.Table.{opening}
@@ -11,7 +13,8 @@ use Rattle.log_rule.specs.Groups.{empty_group}
 use Rattle.log_rule.specs.Log.{Log}
 use Rattle.log_rule.specs.Marks.{HasTrueEnds}
 use Rattle.log_rule.specs.Members.{LoadsForGroup, AwaitsPlace, HasTotalOfWorkers, HeardOfWorkers, HasSeenLast}
-use Rattle.log_rule.specs.Sound.{EachView, HasSeenBoundaries, SendsIfFlusher, StoresStop, HasReadStop, RestsIfQuiet, LookedIfQuiet, HasWorkingOwner, HasConstants, RestsUnlessActive, OwnsIfWorker, HoldsIfActive, base_of, HasSoundRole, HasSoundRoles, IsSound, Ruled}
+use Rattle.log_rule.specs.Sound.{EachView, HasSeenBoundaries, SendsIfFlusher, StoresStop, HasReadStop, RestsIfQuiet, LookedIfQuiet, HasWorkingOwner}
+use Rattle.log_rule.specs.Sound.{HasConstants, RestsUnlessActive, OwnsIfWorker, HoldsIfActive, base_of, HasSoundRole, HasSoundRoles, IsSound, Ruled}
 use Rattle.log_rule.specs.Views.{flusher, nobody}
 use Rattle.log_rule.specs.Words.{Words, words_in}
 use Rattle.slot_word.specs.AccountWord.{packed, held_in, last_commit_in, IsAccountWord}

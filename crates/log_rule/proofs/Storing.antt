@@ -16,8 +16,11 @@ use Rattle.log_rule.specs.declared.view.Books.{Books}
 use Rattle.log_rule.specs.Books.{times_half, times_held, times_holding, times_taken, balance_taken, last_commit_taken, without, half_giving}
 use Rattle.log_rule.specs.Accounts.{holders, IsMarked, IsAsTaken, HasOneHolder, FollowsJobBalance, Follows, AccountsFollowList, KeepsAccounts}
 use Rattle.log_rule.specs.Words.{AccountWords, balances_alone, put_balance}
-use Rattle.log_rule.proofs.Bookings.{everywhere-set_weaken, everywhere-set, all-weaken_if_held, cond-one_if_equal, cond-zero_if_unequal, times_held-found, all-without, times_held-without, times_held-without_other}
-use Rattle.log_rule.proofs.Taking.{put-at_equal, as_taken-put_balance_other, half-put_balance_other, words-put_balance, half_follows-put_balance, free-put_balance_other, distinct_jobs-before_set, AllTaken, HoldsByHalf, FollowsByHalf, Lasts, Ties, RunsPartly, FollowsAll, AllWentBack, LastIsOne}
+use Rattle.log_rule.proofs.Bookings.{everywhere-set_weaken, everywhere-set, all-weaken_if_held, cond-one_if_equal, cond-zero_if_unequal}
+use Rattle.log_rule.proofs.Bookings.{times_held-found, all-without, times_held-without, times_held-without_other}
+use Rattle.log_rule.proofs.Taking.{put-at_equal, as_taken-put_balance_other, half-put_balance_other, words-put_balance, half_follows-put_balance}
+use Rattle.log_rule.proofs.Taking.{free-put_balance_other, distinct_jobs-before_set, AllTaken, HoldsByHalf, FollowsByHalf, Lasts, Ties, RunsPartly}
+use Rattle.log_rule.proofs.Taking.{FollowsAll, AllWentBack, LastIsOne}
 
 module _ (base : BaseState) (words : ℕ → AccountWords) (h : List Placed) (all : List Books) (me : ℕ) (mine : Books) (at : get_elem? all me ≡ some mine)
     (holder : HasOneHolder base.accounts words all) (whole : mine.half ≡ Neither) (account balance : ℕ) (has : 1 ≤ times_held account mine.held)

@@ -1,5 +1,7 @@
 -- The tail moves: a range enters the log, with the parts that fill it. It is one seat's range, or a group's.
-use Rattle.std.proofs.Common.{◌≡◌, inl, inr, ⊎_elim, ℕ, ◌==◌, ◌&&◌, ◌+◌, ◌/◌, ◌%◌, ◌≤◌, nat_le, nat_lt, cond, eqb, Bool, true, false, true≢false, List, [], ◌∷◌, ◌++◌, length, map, set, sym, refl, ap, ◌∙◌, subst, le_refl, arith, append_assoc, add-zero, eq-eqb, ne_eqb}
+use Rattle.std.proofs.Common.{◌≡◌, inl, inr, ⊎_elim, ℕ, ◌==◌, ◌&&◌, ◌+◌, ◌/◌, ◌%◌, ◌≤◌, nat_le, nat_lt, cond, eqb, Bool, true, false, true≢false}
+use Rattle.std.proofs.Common.{List, [], ◌∷◌, ◌++◌, length, map, set, sym, refl, ap, ◌∙◌, subst, le_refl, arith, append_assoc, add-zero, eq-eqb}
+use Rattle.std.proofs.Common.{ne_eqb}
 use Rattle.std.specs.List.{AllByRecursion}
 use mathlib.Core.Logic.{dite}
 use mathlib.Core.Option.{some}
@@ -19,13 +21,16 @@ use Rattle.log_rule.specs.Accounts.{KeepsAccounts}
 use Rattle.log_rule.specs.Events.{Event, IsStep, reservation_of, none}
 use Rattle.log_rule.specs.Groups.{Group}
 use Rattle.table_layout.specs.Layout.{Tail}
-use Rattle.log_rule.specs.Log.{Part, Duty, Released, LogRange, Log, ranges_of, unreleased_in, filled_in, Laid, SpellsRecord, StandsInRing, IsFullIfReleased, IsReleasedBelow, IsAtWork, CountsRemaining, AgreesFrom, EndsWithPart, IsRangeBoundary, is_released}
+use Rattle.log_rule.specs.Log.{Part, Duty, Released, LogRange, Log, ranges_of, unreleased_in, filled_in, Laid, SpellsRecord, StandsInRing}
+use Rattle.log_rule.specs.Log.{IsFullIfReleased, IsReleasedBelow, IsAtWork, CountsRemaining, AgreesFrom, EndsWithPart, IsRangeBoundary, is_released}
 use Rattle.log_rule.specs.Marks.{HasTrueMark, Carries, HasTrueEnds}
 use Rattle.log_rule.specs.Members.{HasSeenInGroup, LoadsForGroup, AwaitsPlace, HasTotalOfWorkers, HasSeenLast}
 use Rattle.log_rule.specs.Roles.{is_active, may_own}
 use Rattle.log_rule.specs.Slots.{IsSoundSlot}
 use Rattle.log_rule.specs.SlotViews.{exchanged, contended_losing, lost_exchange, after_exchange}
-use Rattle.log_rule.specs.Sound.{EachView, EachSeat, HasSeenBoundaries, HasContiguousReservations, SendsIfFlusher, StoresStop, HasReadStop, LookedIfQuiet, HasWorkingOwner, HasConstants, RestsUnlessActive, OwnsIfWorker, HoldsIfActive, IsSound, base_of, history_in, books_of}
+use Rattle.log_rule.specs.Sound.{EachView, EachSeat, HasSeenBoundaries, HasContiguousReservations, SendsIfFlusher, StoresStop, HasReadStop}
+use Rattle.log_rule.specs.Sound.{LookedIfQuiet, HasWorkingOwner, HasConstants, RestsUnlessActive, OwnsIfWorker, HoldsIfActive, IsSound, base_of}
+use Rattle.log_rule.specs.Sound.{history_in, books_of}
 use Rattle.log_rule.specs.Views.{seen_tail}
 use Rattle.log_rule.specs.Words.{Words}
 use Rattle.log_rule.proofs.Boundaries.{range_size, part_size, boundary-append, laid-end}

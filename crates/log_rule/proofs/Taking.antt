@@ -21,7 +21,8 @@ use Rattle.log_rule.specs.declared.view.Half.{Half}
 use Rattle.log_rule.specs.declared.view.Half.TheVariants.{Neither, Taking, Giving}
 use Rattle.log_rule.specs.declared.view.Books.{Books}
 use Rattle.log_rule.specs.Books.{task_of, times_half, times_holding, times_taken, taking_job, half_taking}
-use Rattle.log_rule.specs.Accounts.{IsMarked, IsAsTaken, IsHalf, HasWords, MayBeTaken, HasOneHolder, HasDistinctJobs, moved_if_committed, Follows, HalfFollows, IsUpToDate, WentBack, AccountsFollowList, KeepsAccounts}
+use Rattle.log_rule.specs.Accounts.{IsMarked, IsAsTaken, IsHalf, HasWords, MayBeTaken, HasOneHolder, HasDistinctJobs, moved_if_committed, Follows}
+use Rattle.log_rule.specs.Accounts.{HalfFollows, IsUpToDate, WentBack, AccountsFollowList, KeepsAccounts}
 use Rattle.log_rule.specs.Words.{AccountWords, put, words_alone, balances_alone, put_word, put_balance}
 use Rattle.log_rule.proofs.Bookings.{everywhere-set_weaken, everywhere-set, all-weaken_if_held, all-weaken_if_taken, cond-one_if_equal, cond-zero_if_unequal}
 

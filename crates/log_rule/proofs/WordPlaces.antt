@@ -1,5 +1,6 @@
 -- A write of one word changes that word alone.
-use Rattle.std.proofs.Common.{◌≡◌, ◌≢◌, ℕ, ◌<◌, cond, nat_lt, Bool, true, false, List, length, get_or, set, get_or-set_same, get_or-set_other, sym, refl, ap, ◌∙◌, arith, eq-eqb, ne_eqb, ltb-true, lt-ltb}
+use Rattle.std.proofs.Common.{◌≡◌, ◌≢◌, ℕ, ◌<◌, cond, nat_lt, Bool, true, false, List, length, get_or, set, get_or-set_same, get_or-set_other, sym}
+use Rattle.std.proofs.Common.{refl, ap, ◌∙◌, arith, eq-eqb, ne_eqb, ltb-true, lt-ltb}
 use mathlib.Core.Logic.{dite}
 use native.Mathlib.Decide.{ℕ_discrete}
 use Rattle.table_layout.specs.Layout.{Word, Tail, Exposed, Durable, Stop, Crew, Ring, Mark, Slot, Base, Account, Balance, index_of, word_count}

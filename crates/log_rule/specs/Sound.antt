@@ -21,7 +21,8 @@ use Rattle.log_rule.specs.declared.view.Half.TheVariants.{Neither}
 use Rattle.log_rule.specs.Accounts.{KeepsAccounts}
 use Rattle.log_rule.specs.Groups.{Group}
 use Rattle.table_layout.specs.Layout.{word_count}
-use Rattle.log_rule.specs.Log.{Part, LogRange, Log, ranges_of, own, parts_of, owed, Tiles, Laid, SpellsRecord, records_in, StandsInRing, AgreesFrom, IsRangeBoundary, EndsWithPart, IsFullIfReleased, IsReleasedBelow, IsReleased, IsAtWork, CountsRemaining}
+use Rattle.log_rule.specs.Log.{Part, LogRange, Log, ranges_of, own, parts_of, owed, Tiles, Laid, SpellsRecord, records_in, StandsInRing, AgreesFrom}
+use Rattle.log_rule.specs.Log.{IsRangeBoundary, EndsWithPart, IsFullIfReleased, IsReleasedBelow, IsReleased, IsAtWork, CountsRemaining}
 use Rattle.log_rule.specs.Marks.{HasReleaseMarks, IsCarried, HasTrueEnds}
 use Rattle.log_rule.specs.Members.{HasSeenInGroup, LoadsForGroup, AwaitsPlace, HasTotalOfWorkers, HeardOfWorkers, HasSeenLast}
 use Rattle.log_rule.specs.Slots.{own_pieces, pieces_at, led_phase, phase_at, KnowsGroup, IsSoundSlot}

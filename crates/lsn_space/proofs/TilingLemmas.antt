@@ -93,7 +93,8 @@ module _ {A : Type 0} (base : A → ℕ) (size : A → ℕ) where
   tiling-push from [] to x tiles follows = (follows ∙ sym tiles, ap (λ n. n + size x) tiles)
   tiling-push from (y ∷ ys) to x tiles follows = (tiles.0, tiling-push (from + size y) ys to x tiles.1 follows)
 
-  pub tiling-map : (f : A → A) (from : ℕ) (xs : List A) (to : ℕ) → ((x : A) → base (f x) ≡ base x) → ((x : A) → size (f x) ≡ size x) → IsTiling base size from xs to → IsTiling base size from (map f xs) to
+  pub tiling-map : (f : A → A) (from : ℕ) (xs : List A) (to : ℕ) → ((x : A) → base (f x) ≡ base x) → ((x : A) → size (f x) ≡ size x)
+      → IsTiling base size from xs to → IsTiling base size from (map f xs) to
   tiling-map f from [] to bases sizes tiles = tiles
   tiling-map f from (x ∷ xs) to bases sizes tiles = (
     bases x ∙ tiles.0,
@@ -129,7 +130,8 @@ module _ {A : Type 0} (base : A → ℕ) (size : A → ℕ) where
       (found-cases p x xs r is)
 
   -- a boundary is the last end, or a range starts there
-  pub boundary-last_end_or_start : (from : ℕ) (xs : List A) (to : ℕ) (at : ℕ) → IsTiling base size from xs to → IsTilingBoundary size from xs at → (at ≡ to) ⊎ ((r : A) × (find (λ x. base x == at) xs ≡ Some r))
+  pub boundary-last_end_or_start : (from : ℕ) (xs : List A) (to : ℕ) (at : ℕ) → IsTiling base size from xs to → IsTilingBoundary size from xs at → (at
+      ≡ to) ⊎ ((r : A) × (find (λ x. base x == at) xs ≡ Some r))
   boundary-last_end_or_start from [] to at tiles is = inl (is ∙ tiles)
   boundary-last_end_or_start from (x ∷ xs) to at tiles is = ⊎_elim
       (λ here. inr (x, ap (λ b. cond b (Some x) (find (λ y. base y == at) xs)) (eq-eqb (base x) at (tiles.0 ∙ sym here))))

@@ -12,7 +12,8 @@ pub stage_of-with_same : (actor : ℕ) (stage : Stage) (hands : List Hand) → s
 stage_of-with_same actor stage [] = ap (λ b. cond b stage Idle) (eq-eqb actor actor refl)
 stage_of-with_same actor stage (hand ∷ hands) = by_test (hand.actor == actor) refl (stage_of-with_same actor stage hands)
   where
-    by_test : (b : Bool) → (hand.actor == actor) ≡ b → stage_of actor (with_stage actor stage hands) ≡ stage → stage_of actor (cond b (record { actor = actor; stage = stage } ∷ hands) (hand ∷ with_stage actor stage hands)) ≡ stage
+    by_test : (b : Bool) → (hand.actor == actor) ≡ b → stage_of actor (with_stage actor stage hands) ≡ stage → stage_of actor (cond b
+        (record { actor = actor; stage = stage } ∷ hands) (hand ∷ with_stage actor stage hands)) ≡ stage
     by_test true is rest = ap (λ b. cond b stage (stage_of actor hands)) (eq-eqb actor actor refl)
     by_test false is rest = ap (λ b. cond b hand.stage (stage_of actor (with_stage actor stage hands))) is ∙ rest
 
@@ -23,18 +24,21 @@ stage_of-with_other actor other stage (hand ∷ hands) differ = by_test (hand.ac
     not_other : (n : ℕ) → (n == actor) ≡ true → (n == other) ≡ false
     not_other n is = ne_eqb n other (λ e. differ (sym e ∙ eqb-true n actor is))
 
-    by_test : (b : Bool) → (hand.actor == actor) ≡ b → stage_of other (with_stage actor stage hands) ≡ stage_of other hands → stage_of other (cond b (record { actor = actor; stage = stage } ∷ hands) (hand ∷ with_stage actor stage hands)) ≡ cond (hand.actor == other) hand.stage (stage_of other hands)
+    by_test : (b : Bool) → (hand.actor == actor) ≡ b → stage_of other (with_stage actor stage hands) ≡ stage_of other hands → stage_of other (cond b
+        (record { actor = actor; stage = stage } ∷ hands) (hand ∷ with_stage actor stage hands)) ≡ cond (hand.actor == other) hand.stage (stage_of other hands)
     by_test true is rest = ap (λ b. cond b stage (stage_of other hands)) (ne_eqb actor other (λ e. differ (sym e))) ∙ sym (ap (λ b. cond b hand.stage (stage_of other hands)) (not_other hand.actor is))
     by_test false is rest = ap (λ l. cond (hand.actor == other) hand.stage l) rest
 
 -- what is in hand afterwards is the actor's new stage, or was in another's hand
-pub stage_of-with_cases : (actor other : ℕ) (stage now : Stage) (hands : List Hand) → stage_of other (with_stage actor stage hands) ≡ now → ((other ≡ actor) × (stage ≡ now)) ⊎ ((other ≢ actor) × (stage_of other hands ≡ now))
+pub stage_of-with_cases : (actor other : ℕ) (stage now : Stage) (hands : List Hand) → stage_of other (with_stage actor stage hands) ≡ now → ((other
+    ≡ actor) × (stage ≡ now)) ⊎ ((other ≢ actor) × (stage_of other hands ≡ now))
 stage_of-with_cases actor other stage now hands is = dite (ℕ_discrete other actor)
     (λ same. inl (same, sym (stage_of-with_same actor stage hands) ∙ (ap (λ n. stage_of n (with_stage actor stage hands)) (sym same) ∙ is)))
     (λ differ. inr (differ, sym (stage_of-with_other actor other stage hands differ) ∙ is))
 
 -- an owner keeps what it has, whatever another actor turns to
-pub one_owner-with_stage : (actor base : ℕ) (stage : Stage) (hands : List Hand) → HasOneOwner hands base → stage_of actor hands ≢ Works base → stage ≢ Works base → HasOneOwner (with_stage actor stage hands) base
+pub one_owner-with_stage : (actor base : ℕ) (stage : Stage) (hands : List Hand) → HasOneOwner hands base → stage_of actor hands ≢ Works base
+    → stage ≢ Works base → HasOneOwner (with_stage actor stage hands) base
 one_owner-with_stage actor base stage hands has others to_other = record {
   owner = has.owner;
   works = stage_of-with_other actor has.owner stage hands (λ same. others (ap (λ n. stage_of n hands) (sym same) ∙ has.works)) ∙ has.works;
@@ -77,13 +81,15 @@ pub on_the_way-has_carrier : (actor : ℕ) (stage : Stage) (hands : List Hand) (
 on_the_way-has_carrier actor stage hands place is = record { actor = actor; on_the_way = subst (IsOnTheWay place) (sym (stage_of-with_same actor stage hands)) is }
 
 -- a carrier that turns stays one, if it is on the way after it as before
-pub has_carrier-with_stage : (actor : ℕ) (stage : Stage) (hands : List Hand) (place : ℕ) → (IsOnTheWay place (stage_of actor hands) → IsOnTheWay place stage) → HasCarrier hands place → HasCarrier (with_stage actor stage hands) place
+pub has_carrier-with_stage : (actor : ℕ) (stage : Stage) (hands : List Hand) (place : ℕ) → (IsOnTheWay place (stage_of actor hands)
+    → IsOnTheWay place stage) → HasCarrier hands place → HasCarrier (with_stage actor stage hands) place
 has_carrier-with_stage actor stage hands place stays c = dite (ℕ_discrete c.actor actor)
     (λ same. on_the_way-has_carrier actor stage hands place (stays (subst (λ n. IsOnTheWay place (stage_of n hands)) same c.on_the_way)))
     (λ differ. record { actor = c.actor; on_the_way = subst (IsOnTheWay place) (sym (stage_of-with_other actor c.actor stage hands differ)) c.on_the_way })
 
 -- what is true of a stage in one log is true of it in another that passed no less, and where no mark is gone
-pub true_hand-more : (l l' : RingLog) → ((at : ℕ) → IsLogBoundary l at → IsLogBoundary l' at) → l.exposed ≤ l'.exposed → ((at : ℕ) → is_marked at l.reservations ≡ true → is_marked at l'.reservations ≡ true)
+pub true_hand-more : (l l' : RingLog) → ((at : ℕ) → IsLogBoundary l at → IsLogBoundary l' at) → l.exposed ≤ l'.exposed → ((at : ℕ)
+    → is_marked at l.reservations ≡ true → is_marked at l'.reservations ≡ true)
     → (stage : Stage) → IsTrueHand l stage → IsTrueHand l' stage
 true_hand-more l l' boundary forward marks Idle is = tt
 true_hand-more l l' boundary forward marks (Works base) is = tt

@@ -11,7 +11,8 @@ use Rattle.ring_core.specs.State.{Stage, Idle, Works, Marked, Holds, Raises, Han
 use Rattle.ring_core.specs.Machine.{MayReserve, start_state, turned, after_reserve, after_fill, after_mark, after_look_exposed, after_look_mark, after_raise}
 use Rattle.ring_core.specs.Laws.{HasOneOwner, IsOpen, HasOwners, IsPassed, IsTrueHand, IsOnTheWay, HasCarrier, IsAtRest, IsSound}
 use Rattle.ring_core.proofs.HandLemmas.{on_the_way-has_carrier, has_carrier-with_stage, true_hand-more, true_hands-with_stage}
-use Rattle.ring_core.proofs.LogKeeping.{found-marked_if_released, is_marked-append_fresh, is_marked-filled_at, is_marked-released_at, empty-sound, reserved-sound, filled-sound, marked-sound, raised-sound, raised-forward, flushed-sound}
+use Rattle.ring_core.proofs.LogKeeping.{found-marked_if_released, is_marked-append_fresh, is_marked-filled_at, is_marked-released_at, empty-sound}
+use Rattle.ring_core.proofs.LogKeeping.{reserved-sound, filled-sound, marked-sound, raised-sound, raised-forward, flushed-sound}
 use Rattle.ring_core.proofs.Owning.{owners-reserved, owners-filled, owners-marked, owners-turned}
 use Rattle.ring_core.proofs.RangeLemmas.{found-base}
 
@@ -63,7 +64,8 @@ fill-sound s r sound is unfilled = soundly (filled (log_of s) r.base) s.hands
     (λ marks. sound.carried (sym (is_marked-filled_at s.exposed r.base s.reservations) ∙ marks))
 
 -- whoever has just made a mark is on the way to expose whatever is marked
-pub mark-sound : (s : RingState) (actor : ℕ) (r : Reservation) → IsSound s → stage_of actor s.hands ≡ Works r.base → find (is_at r.base) s.reservations ≡ Some r → IsFull r → IsSound (after_mark s actor (Some r))
+pub mark-sound : (s : RingState) (actor : ℕ) (r : Reservation) → IsSound s → stage_of actor s.hands ≡ Works r.base → find (is_at r.base)
+    s.reservations ≡ Some r → IsFull r → IsSound (after_mark s actor (Some r))
 mark-sound s actor r sound works is full = soundly (marked (log_of s) r.base) (with_stage actor Marked s.hands)
     (marked-sound (log_of s) r.base sound.log (subst (λ o. IsSomeAnd o IsFull) (sym is) full))
     (owners-marked (log_of s) s.hands actor r.base r Marked sound.log sound.owners works is (λ b e. absurd (cc)))

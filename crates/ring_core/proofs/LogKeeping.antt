@@ -1,10 +1,13 @@
 -- Each change of the log keeps its laws, whoever makes it.
-use Rattle.std.proofs.Common.{◌≡◌, ◌≢◌, ◌⊎◌, ⊎_elim, ℕ, ◌==◌, ◌+◌, ◌/◌, ◌<◌, ◌≤◌, cond, Bool, true, false, true≢false, List, [], ◌∷◌, ◌++◌, map, Option, Some, None, refl, sym, ap, ◌∙◌, subst, arith, le_refl, eq-eqb, eqb-true, ne_eqb}
+use Rattle.std.proofs.Common.{◌≡◌, ◌≢◌, ◌⊎◌, ⊎_elim, ℕ, ◌==◌, ◌+◌, ◌/◌, ◌<◌, ◌≤◌, cond, Bool, true, false, true≢false, List, [], ◌∷◌, ◌++◌, map}
+use Rattle.std.proofs.Common.{Option, Some, None, refl, sym, ap, ◌∙◌, subst, arith, le_refl, eq-eqb, eqb-true, ne_eqb}
 use Rattle.std.specs.List.{AllByRecursion, find}
 use Rattle.std.specs.Option.{IsSomeAnd, option_map, option_map_or}
 use Rattle.lsn_space.specs.declared.lsn.TheConstants.{LAST}
-use Rattle.lsn_space.proofs.TilingLemmas.{all-found, find-append_unfound, all-weaken, all-both, all-map, all-push, tiling-push, tiling-map, tiling-within, boundary-push, boundary-map, boundary-end_of_found}
-use Rattle.ring_core.specs.RingLog.{Reservation, RingLog, base_of, size_of, is_at, is_marked, end_at, empty_log, fresh, HasRoom, reserved, HasUnfilled, filled_at, filled, IsFull, released_at, marked, raised, MayFlush, flushed}
+use Rattle.lsn_space.proofs.TilingLemmas.{all-found, find-append_unfound, all-weaken, all-both, all-map, all-push, tiling-push, tiling-map}
+use Rattle.lsn_space.proofs.TilingLemmas.{tiling-within, boundary-push, boundary-map, boundary-end_of_found}
+use Rattle.ring_core.specs.RingLog.{Reservation, RingLog, base_of, size_of, is_at, is_marked, end_at, empty_log, fresh, HasRoom, reserved}
+use Rattle.ring_core.specs.RingLog.{HasUnfilled, filled_at, filled, IsFull, released_at, marked, raised, MayFlush, flushed}
 use Rattle.ring_core.specs.LogLaws.{IsSoundLog}
 use Rattle.ring_core.proofs.RangeLemmas.{IsBeside, found-beside, found-base, find_at-map, all-map_at_found, filled_at-same, filled_at-other, released_at-same, released_at-other, some_and-some}
 
@@ -15,7 +18,8 @@ abbrev IsMarkedBelow : ℕ → Reservation → Type 0
 IsMarkedBelow exposed r = r.base < exposed → r.released ≡ true
 
 -- what is exposed is marked, and so filled
-exposed-filled : (exposed : ℕ) (rs : List Reservation) → AllByRecursion IsFullIfMarked rs → AllByRecursion (IsMarkedBelow exposed) rs → AllByRecursion (λ (r : Reservation). r.base < exposed → IsFull r) rs
+exposed-filled : (exposed : ℕ) (rs : List Reservation) → AllByRecursion IsFullIfMarked rs → AllByRecursion (IsMarkedBelow exposed) rs → AllByRecursion
+    (λ (r : Reservation). r.base < exposed → IsFull r) rs
 exposed-filled exposed rs full past = all-both _ _ _ rs (λ r f p below. f (p below)) full past
 
 pub sound_log-found_beside : (l : RingLog) (base : ℕ) (r : Reservation) → IsSoundLog l → find (is_at base) l.reservations ≡ Some r → AllByRecursion (λ q. (q ≡ r) ⊎ IsBeside r q) l.reservations
@@ -36,7 +40,8 @@ fresh-found_at_tail l n sound = find-append_unfound (is_at l.tail) l.reservation
 pub marked-found : (place : ℕ) (rs : List Reservation) → is_marked place rs ≡ true → (r : Reservation) × (find (is_at place) rs ≡ Some r) × (r.released ≡ true)
 marked-found place rs is = by_found (find (is_at place) rs) refl is
   where
-    by_found : (o : Option Reservation) → find (is_at place) rs ≡ o → option_map_or (λ (r : Reservation). r.released) o false ≡ true → (r : Reservation) × (find (is_at place) rs ≡ Some r) × (r.released ≡ true)
+    by_found : (o : Option Reservation) → find (is_at place) rs ≡ o → option_map_or (λ (r : Reservation). r.released) o false ≡ true →
+        (r : Reservation) × (find (is_at place) rs ≡ Some r) × (r.released ≡ true)
     by_found None found is = absurd (true≢false (sym is))
     by_found (Some r) found is = (r, found, is)
 
@@ -222,7 +227,8 @@ is_marked-append_fresh place base n [] = by_test (base == place)
 is_marked-append_fresh place base n (r ∷ rs) = by_test (r.base == place) (is_marked-append_fresh place base n rs)
   where
     by_test : (b : Bool) → is_marked place (rs ++ fresh base n ∷ []) ≡ is_marked place rs
-        → option_map_or (λ (q : Reservation). q.released) (cond b (Some r) (find (is_at place) (rs ++ fresh base n ∷ []))) false ≡ option_map_or (λ (q : Reservation). q.released) (cond b (Some r) (find (is_at place) rs)) false
+        → option_map_or (λ (q : Reservation). q.released) (cond b (Some r) (find (is_at place) (rs ++ fresh base n ∷ []))) false ≡ option_map_or (λ
+        (q : Reservation). q.released) (cond b (Some r) (find (is_at place) rs)) false
     by_test true rest = refl
     by_test false rest = rest
 

@@ -19,7 +19,8 @@ module _ {A : Type 0} where
   set-itself (y ∷ ys) (suc i) x is = ap (λ l. y ∷ l) (set-itself ys i x is)
 
 -- the reservation at a base is r, which was read at an index
-module _ (now l : RingLog) (is : l ≡ now) (sound : IsSoundLog l) (base at : ℕ) (found : find (is_at base) now.reservations ≡ slice_get now.reservations at) (within : at < length now.reservations) (r : Reservation) (read : r ≡ get_or l.reservations at r) where
+module _ (now l : RingLog) (is : l ≡ now) (sound : IsSoundLog l) (base at : ℕ) (found : find (is_at base) now.reservations
+    ≡ slice_get now.reservations at) (within : at < length now.reservations) (r : Reservation) (read : r ≡ get_or l.reservations at r) where
   there : slice_get l.reservations at ≡ Some r
   there = slice_get_read l.reservations (length l.reservations) at r refl (subst (λ z. at < length z.reservations) (sym is) within) read
 
@@ -63,8 +64,10 @@ changes-soundly : (may : Type 0) (b : Bool) (old after new : RingLog) → IsTrue
 changes-soundly may true old after new is_so done none sound keeps = subst IsSoundLog (sym done) (keeps (is_so.0 refl))
 changes-soundly may false old after new is_so done none sound keeps = subst IsSoundLog (sym none) sound
 
-pub fills-soundly : (b : Bool) (old new : RingLog) (base : ℕ) → IsTrue b ↔ IsSomeAnd (find (is_at base) old.reservations) HasUnfilled → OnTrue b (new ≡ filled old base) → OnFalse b (new ≡ old) → IsSoundLog old → IsSoundLog new
+pub fills-soundly : (b : Bool) (old new : RingLog) (base : ℕ) → IsTrue b ↔ IsSomeAnd (find (is_at base) old.reservations) HasUnfilled → OnTrue b (new
+    ≡ filled old base) → OnFalse b (new ≡ old) → IsSoundLog old → IsSoundLog new
 fills-soundly b old new base is_so done none sound = changes-soundly _ b old (filled old base) new is_so done none sound (filled-sound old base sound)
 
-pub marks-soundly : (b : Bool) (old new : RingLog) (base : ℕ) → IsTrue b ↔ IsSomeAnd (find (is_at base) old.reservations) IsFull → OnTrue b (new ≡ marked old base) → OnFalse b (new ≡ old) → IsSoundLog old → IsSoundLog new
+pub marks-soundly : (b : Bool) (old new : RingLog) (base : ℕ) → IsTrue b ↔ IsSomeAnd (find (is_at base) old.reservations) IsFull → OnTrue b (new
+    ≡ marked old base) → OnFalse b (new ≡ old) → IsSoundLog old → IsSoundLog new
 marks-soundly b old new base is_so done none sound = changes-soundly _ b old (marked old base) new is_so done none sound (marked-sound old base sound)

@@ -1,5 +1,6 @@
 -- What is found at an index, and where ranges end.
-use Rattle.std.proofs.Common.{◌≡◌, ◌≢◌, inl, inr, ⊎_elim, ℕ, ◌+◌, ◌≤◌, nat_lt, ◌||◌, cond, not, true≢false, Bool, true, false, List, [], ◌∷◌, length, set, map, Some, None, zero, suc, refl, sym, ap, ap₂, ◌∙◌, subst, arith, eq-eqb, eqb-true, ltb-false}
+use Rattle.std.proofs.Common.{◌≡◌, ◌≢◌, inl, inr, ⊎_elim, ℕ, ◌+◌, ◌≤◌, nat_lt, ◌||◌, cond, not, true≢false, Bool, true, false, List, [], ◌∷◌, length}
+use Rattle.std.proofs.Common.{set, map, Some, None, zero, suc, refl, sym, ap, ap₂, ◌∙◌, subst, arith, eq-eqb, eqb-true, ltb-false}
 use Rattle.std.specs.List.{AllByRecursion, find, position, position_or_len, slice_get, list_any}
 use Rattle.std.specs.Option.{option_and_then}
 use Rattle.std.proofs.lemmas.List.Folds.{find_at}
@@ -24,7 +25,8 @@ module _ {A : Type 0} where
   none-passes p [] long = tt
   none-passes p (x ∷ xs) long = by_test (p x) refl long (λ more. none-passes p xs more)
     where
-      by_test : (b : Bool) → p x ≡ b → suc (length xs) ≤ cond (not b) (1 + position_or_len p xs) 0 → (length xs ≤ position_or_len p xs → AllByRecursion (λ y. p y ≡ false) xs) → AllByRecursion (λ y. p y ≡ false) (x ∷ xs)
+      by_test : (b : Bool) → p x ≡ b → suc (length xs) ≤ cond (not b) (1 + position_or_len p xs) 0 → (length xs ≤ position_or_len p xs
+          → AllByRecursion (λ y. p y ≡ false) xs) → AllByRecursion (λ y. p y ≡ false) (x ∷ xs)
       by_test true is long rest = absurd (omega (arith, long))
       by_test false is long rest = (is, rest (omega (arith, long)))
 
@@ -45,7 +47,9 @@ module _ {A : Type 0} where
   map-others P f (x ∷ xs) same all = ap₂ (λ y ys. y ∷ ys) (same x all.0) (map-others P f xs same all.1)
 
 -- a change of the one reservation at a base is a write at its index
-pub map_at_base-set : (from to most : ℕ) (f : Reservation → Reservation) (rs : List Reservation) (i : ℕ) (r : Reservation) → IsTiling base_of size_of from rs to → AllByRecursion (IsAllowed most) rs → slice_get rs i ≡ Some r → ((q : Reservation) → q.base ≢ r.base → f q ≡ q) → map f rs ≡ set rs i (f r)
+pub map_at_base-set : (from to most : ℕ) (f : Reservation → Reservation) (rs : List Reservation) (i : ℕ) (r : Reservation)
+    → IsTiling base_of size_of from rs to → AllByRecursion (IsAllowed most) rs → slice_get rs i ≡ Some r → ((q : Reservation) → q.base ≢ r.base → f q
+    ≡ q) → map f rs ≡ set rs i (f r)
 map_at_base-set from to most f [] i r tiles sizes is others = absurd (cc)
 map_at_base-set from to most f (q ∷ rs) zero r tiles sizes is others =
     let same : q ≡ r = cc in
@@ -65,11 +69,13 @@ is_end-boundary from to (r ∷ rs) place tiles is = by_test (is_end place r) ref
     start from [] same = same
     start from (q ∷ qs) same = inl same
 
-    by_test : (b : Bool) → is_end place r ≡ b → (b || list_any (is_end place) rs) ≡ true → (list_any (is_end place) rs ≡ true → IsTilingBoundary size_of (from + r.size) rs place) → IsTilingBoundary size_of from (r ∷ rs) place
+    by_test : (b : Bool) → is_end place r ≡ b → (b || list_any (is_end place) rs) ≡ true → (list_any (is_end place) rs ≡ true
+        → IsTilingBoundary size_of (from + r.size) rs place) → IsTilingBoundary size_of from (r ∷ rs) place
     by_test true ends is rest = let at = eqb-true (r.base + r.size) place ends in inr (start (from + r.size) rs (omega (arith, at, tiles.0)))
     by_test false ends is rest = inr (rest is)
 
-pub boundary-is_end : (from to : ℕ) (rs : List Reservation) (place : ℕ) → IsTiling base_of size_of from rs to → IsTilingBoundary size_of from rs place → place ≢ from → list_any (is_end place) rs ≡ true
+pub boundary-is_end : (from to : ℕ) (rs : List Reservation) (place : ℕ) → IsTiling base_of size_of from rs to → IsTilingBoundary size_of from rs place
+    → place ≢ from → list_any (is_end place) rs ≡ true
 boundary-is_end from to [] place tiles is differs = absurd (differs is)
 boundary-is_end from to (r ∷ rs) place tiles is differs = ⊎_elim (λ here. absurd (differs here))
     (λ rest. by_test (is_end place r) refl (λ not_here. boundary-is_end (from + r.size) to rs place tiles.1 rest (λ same. not_here (omega (arith, same, tiles.0))))) is

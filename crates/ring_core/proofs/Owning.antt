@@ -19,7 +19,8 @@ tail-unowned l hands sound owners actor works =
     let below = all-found _ (is_at l.tail) l.reservations found.0 found.1 (bases-below_tail l sound) in omega (arith, at, below)
 
 -- the actor takes the next n units
-pub owners-reserved : (l : RingLog) (hands : List Hand) (actor n : ℕ) → IsSoundLog l → HasOwners hands l.reservations → stage_of actor hands ≡ Idle → HasOwners (with_stage actor (Works l.tail) hands) (l.reservations ++ fresh l.tail n ∷ [])
+pub owners-reserved : (l : RingLog) (hands : List Hand) (actor n : ℕ) → IsSoundLog l → HasOwners hands l.reservations → stage_of actor hands ≡ Idle
+    → HasOwners (with_stage actor (Works l.tail) hands) (l.reservations ++ fresh l.tail n ∷ [])
 owners-reserved l hands actor n sound owners idle = record {
   owned = all-push _ l.reservations new
       (all-both _ _ _ l.reservations
@@ -57,7 +58,8 @@ pub open-at_work : (hands : List Hand) (rs : List Reservation) (actor base : ℕ
 open-at_work hands rs actor base r owners works is = subst (λ o. IsSomeAnd o IsOpen) is (owners.at_work actor base works)
 
 -- the owner marks its reservation, and turns to something that isn't a reservation
-pub owners-marked : (l : RingLog) (hands : List Hand) (actor base : ℕ) (r : Reservation) (now : Stage) → IsSoundLog l → HasOwners hands l.reservations → stage_of actor hands ≡ Works base → find (is_at base) l.reservations ≡ Some r
+pub owners-marked : (l : RingLog) (hands : List Hand) (actor base : ℕ) (r : Reservation) (now : Stage) → IsSoundLog l → HasOwners hands l.reservations
+    → stage_of actor hands ≡ Works base → find (is_at base) l.reservations ≡ Some r
     → ((b : ℕ) → now ≢ Works b) → HasOwners (with_stage actor now hands) (map (released_at base) l.reservations)
 owners-marked l hands actor base r now sound owners works is elsewhere = record {
   owned = all-map_at_found IsOwned IsOwned' (released_at base) l.reservations r (sound_log-found_beside l base r sound is)
@@ -92,7 +94,8 @@ owners-marked l hands actor base r now sound owners works is elsewhere = record 
         (ap (λ (q : Reservation). q.released) (released_at-other base found.0 (λ same. differs (sym (found-base at l.reservations found.0 found.1) ∙ same))) ∙ found.2)
 
 -- an actor that works on nothing turns to something that isn't a reservation either
-pub owners-turned : (hands : List Hand) (rs : List Reservation) (actor : ℕ) (now : Stage) → HasOwners hands rs → ((base : ℕ) → stage_of actor hands ≢ Works base) → ((base : ℕ) → now ≢ Works base) → HasOwners (with_stage actor now hands) rs
+pub owners-turned : (hands : List Hand) (rs : List Reservation) (actor : ℕ) (now : Stage) → HasOwners hands rs → ((base : ℕ)
+    → stage_of actor hands ≢ Works base) → ((base : ℕ) → now ≢ Works base) → HasOwners (with_stage actor now hands) rs
 owners-turned hands rs actor now owners before after = record {
   owned = all-weaken _ _ rs (λ r has open'. one_owner-with_stage actor r.base now hands (has open') (before r.base) (after r.base)) owners.owned;
   at_work = λ other base works. ⊎_elim (λ turned. absurd (after base turned.1)) (λ still. owners.at_work other base still.1)

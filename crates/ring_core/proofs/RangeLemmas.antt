@@ -15,7 +15,8 @@ abbrev pub IsAllowed : ℕ → Reservation → Type 0
 IsAllowed most r = (1 ≤ r.size) × (r.size ≤ most)
 
 -- each reservation is the one that is found, or lies beside it
-pub found-beside : (from to most base : ℕ) (rs : List Reservation) (r : Reservation) → IsTiling base_of size_of from rs to → AllByRecursion (IsAllowed most) rs → find (is_at base) rs ≡ Some r → AllByRecursion (λ q. (q ≡ r) ⊎ IsBeside r q) rs
+pub found-beside : (from to most base : ℕ) (rs : List Reservation) (r : Reservation) → IsTiling base_of size_of from rs to → AllByRecursion
+    (IsAllowed most) rs → find (is_at base) rs ≡ Some r → AllByRecursion (λ q. (q ≡ r) ⊎ IsBeside r q) rs
 found-beside from to most base rs r tiles sizes is =
     let positive = all-found (IsAllowed most) (is_at base) rs r is sizes in all-both _ _ _ rs
     (λ q size apart. ⊎_elim inl (λ sides. inr (⊎_elim
@@ -24,7 +25,8 @@ found-beside from to most base rs r tiles sizes is =
     sizes (tiling-found_or_apart base_of size_of from rs to (is_at base) r tiles is)
 
 -- the one that is found changes, and those beside it do not
-pub all-map_at_found : (P Q : Reservation → Type 0) (f : Reservation → Reservation) (rs : List Reservation) (r : Reservation) → AllByRecursion (λ q. (q ≡ r) ⊎ IsBeside r q) rs → Q (f r) → ((q : Reservation) → IsBeside r q → P q → Q (f q)) → AllByRecursion P rs → AllByRecursion Q (map f rs)
+pub all-map_at_found : (P Q : Reservation → Type 0) (f : Reservation → Reservation) (rs : List Reservation) (r : Reservation) → AllByRecursion (λ q.
+    (q ≡ r) ⊎ IsBeside r q) rs → Q (f r) → ((q : Reservation) → IsBeside r q → P q → Q (f q)) → AllByRecursion P rs → AllByRecursion Q (map f rs)
 all-map_at_found P Q f rs r besides now others all = all-map Q f rs (all-both _ _ _ rs
     (λ q beside p. ⊎_elim (λ same. subst (λ z. Q (f z)) (sym same) now) (λ side. others q side p) beside) besides all)
 

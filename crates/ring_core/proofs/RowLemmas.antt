@@ -11,7 +11,8 @@ pub stage_of-at : (actor : ℕ) (hands : List Hand) (i : ℕ) (d : Hand) → pos
 stage_of-at actor hands i d is = let at = position-Some (is_of actor) hands i d is in
     found_at (stage_of actor) (is_of actor) (λ (h : Hand). h.stage) Idle refl (λ _ _. refl) hands i d at.0 at.2 at.1
 
-with_stage-index : (actor : ℕ) (stage : Stage) (hands : List Hand) (i : ℕ) (d : Hand) → i < length hands → is_of actor (get_or hands i d) ≡ true → ((k : ℕ) → k < i → is_of actor (get_or hands k d) ≡ false) → with_stage actor stage hands ≡ set hands i (row_of actor stage)
+with_stage-index : (actor : ℕ) (stage : Stage) (hands : List Hand) (i : ℕ) (d : Hand) → i < length hands → is_of actor (get_or hands i d) ≡ true →
+    ((k : ℕ) → k < i → is_of actor (get_or hands k d) ≡ false) → with_stage actor stage hands ≡ set hands i (row_of actor stage)
 with_stage-index actor stage [] i d within is before = absurd (omega (arith, within))
 with_stage-index actor stage (hand ∷ hands) zero d within is before = ap (λ b. cond b (row_of actor stage ∷ hands) (hand ∷ with_stage actor stage hands)) is
 with_stage-index actor stage (hand ∷ hands) (suc i) d within is before =

@@ -26,7 +26,8 @@ module _ (now s : RingState) (is : s ≡ now) (actor base : ℕ) (works : base_i
       → RingStep now (Fill actor) taken (state l s.hands)
   fill-step taken l is_left more same = subst (λ z. RingStep z (Fill actor) taken (state l s.hands)) is (by_answer taken is_left more same)
     where
-      by_answer : (taken : Bool) → IsTrue taken ↔ IsSomeAnd (find (is_at base) s.reservations) HasUnfilled → OnTrue taken (l ≡ filled (log_of s) base) → OnFalse taken (l ≡ log_of s) → RingStep s (Fill actor) taken (state l s.hands)
+      by_answer : (taken : Bool) → IsTrue taken ↔ IsSomeAnd (find (is_at base) s.reservations) HasUnfilled → OnTrue taken (l ≡ filled (log_of s) base)
+          → OnFalse taken (l ≡ log_of s) → RingStep s (Fill actor) taken (state l s.hands)
       by_answer true is_left more same = (
         subst (λ o. IsSomeAnd o HasUnfilled) (sym in_hand-is) (is_left.0 refl),
         ap (λ z. state z s.hands) more ∙ done-at HasUnfilled (after_fill s) (λ b. state (filled (log_of s) b) s.hands) (λ r. refl) (is_left.0 refl),
@@ -70,13 +71,15 @@ pub raise-marked : (s : RingState) (actor from : ℕ) → IsSound s → raises_f
 raise-marked s actor from sound raises =
     let known : IsTrueHand (log_of s) (Raises from) = subst (IsTrueHand (log_of s)) (raises_from-some (stage_of actor s.hands) from raises) (sound.hands actor) in known.1
 
-pub reserve-step : (now s : RingState) (is : s ≡ now) (actor n : ℕ) → MayReserve now actor n → (l : RingLog) (hands : List Hand) → l ≡ reserved (log_of s) n → hands ≡ with_stage actor (Works s.tail) s.hands → RingStep now (Reserve actor n) true (state l hands)
+pub reserve-step : (now s : RingState) (is : s ≡ now) (actor n : ℕ) → MayReserve now actor n → (l : RingLog) (hands : List Hand) → l ≡ reserved
+    (log_of s) n → hands ≡ with_stage actor (Works s.tail) s.hands → RingStep now (Reserve actor n) true (state l hands)
 reserve-step now s is actor n may l hands pushed taken_up = (
   may,
   (λ i. state (pushed i) (taken_up i)) ∙ ap (λ z. after_reserve z actor n) is,
 )
 
-pub flush-step : (now s : RingState) (is : s ≡ now) (to : ℕ) (taken : Bool) (l : RingLog) → IsTrue taken ↔ MayFlush (log_of s) to → OnTrue taken (l ≡ flushed (log_of s) to) → OnFalse taken (l ≡ log_of s) → RingStep now (Flushed to) taken (state l s.hands)
+pub flush-step : (now s : RingState) (is : s ≡ now) (to : ℕ) (taken : Bool) (l : RingLog) → IsTrue taken ↔ MayFlush (log_of s) to → OnTrue taken (l
+    ≡ flushed (log_of s) to) → OnFalse taken (l ≡ log_of s) → RingStep now (Flushed to) taken (state l s.hands)
 flush-step now s is to taken l may done none = subst (λ z. RingStep z (Flushed to) taken (state l s.hands)) is (by_answer taken may done none)
   where
     by_answer : (taken : Bool) → IsTrue taken ↔ MayFlush (log_of s) to → OnTrue taken (l ≡ flushed (log_of s) to) → OnFalse taken (l ≡ log_of s) → RingStep s (Flushed to) taken (state l s.hands)

@@ -47,7 +47,11 @@ module _ (at : ℕ) (images : List ℕ → Type 0) (shut : IsShut at images) whe
     pub midway-gate_kept_or_body_whole : (c : List ℕ) → Midway at body file images c
         → ((old : List ℕ) × images old × (c ≡ take at old ++ shut.gate ∷ drop (at + 1) c)) ⊎ ((byte : ℕ) × (c ≡ take at file ++ byte ∷ (body ++ behind)))
     midway-gate_kept_or_body_whole c (inl torn) = inl (torn.0, torn.1, kept torn.0 c (length body) torn.1 torn.2)
-    midway-gate_kept_or_body_whole c (inr torn) = inr (get_or c at 0, torn_byte-front_and_rest_kept at (take at file) (length-front file image) shut.gate (body ++ behind) c (subst (λ old. IsTorn at 1 old c) put-body torn))
+    midway-gate_kept_or_body_whole c (inr torn) = inr (
+      get_or c at 0,
+      torn_byte-front_and_rest_kept at (take at file) (length-front file image)
+          shut.gate (body ++ behind) c (subst (λ old. IsTorn at 1 old c) put-body torn),
+    )
 
     -- the whole body behind the open gate
     pub put-gate : put at (OPEN ∷ []) (put (at + 1) body file) ≡ take at file ++ OPEN ∷ (body ++ behind)

@@ -116,7 +116,10 @@ module _ (units : List ℕ) (len : ℕ) (rest : List ℕ) (gathering : IsGatheri
       left = gathering.left;
       list = record { spellable = all-append IsSpellable gathering.waits gathering.left gathering.waiting gathering.each; units_are = gathering.whole };
       first = gathering.packed ∙ ap (packed_behind SHIPPED_UNITS gathering.waits) gathering_left-first_record.2
-          ∙ packed_behind-full_from_none SHIPPED_UNITS gathering.waits gathering_left-first_record.0 gathering_left-first_record.1 (omega (arith, length-spelling gathering_left-first_record.0 spellable.0))
+          ∙ packed_behind-full_from_none SHIPPED_UNITS gathering.waits gathering_left-first_record.0 gathering_left-first_record.1 (omega (
+            arith,
+            length-spelling gathering_left-first_record.0 spellable.0,
+          ))
           (omega (arith, full, size-size_of_first_record, gathering.count))
           ∙ ap (λ left. gathering.waits ∷ frames_of left) (sym gathering_left-first_record.2);
       count = gathering.count;

@@ -6,8 +6,11 @@ use Rattle.ring_core.specs.State.{looks_at, raises_from, worked_on}
 use Rattle.ring_core.specs.declared.event.RingEvent.{RingEvent}
 use Rattle.ring_core.specs.declared.event.RingEvent.TheVariants.{Reserve, Fill, Mark, LookExposed, LookMark, Raise, Flushed}
 use Rattle.ring_core.proofs.Deciding.{IsDecided, decided-both, decided-same, eq-decided, le-decided, idle-decided, marked-decided, room-decided, flush-decided}
-use Rattle.slot_core.specs.State.{Idle, Works, Marked, Holds, Raises, GroupPhase, Vacant, Gathering, Closed, Placed, Ready, Told, Emptied, MemberStage, Closes, Waits, Places, Stores, Tells, Fills, Leaves, Membership, Task, Joined, InRing, SlotState, nothing, task_of, membership, ring_stage, reopening, group_at}
-use Rattle.slot_core.specs.Machine.{GroupEvent, Join, Close, Place, PutBase, Tell, Hear, Release, Reopen, Ring, HasPlace, MayJoin, fits, closed_total, MayPlace, told_outcome, MayHear, HasUnfilledPiece, MayFill, HasDone, IsRingEnabled, IsEnabled}
+use Rattle.slot_core.specs.State.{Idle, Works, Marked, Holds, Raises, GroupPhase, Vacant, Gathering, Closed, Placed, Ready, Told, Emptied}
+use Rattle.slot_core.specs.State.{MemberStage, Closes, Waits, Places, Stores, Tells, Fills, Leaves, Membership, Task, Joined, InRing, SlotState}
+use Rattle.slot_core.specs.State.{nothing, task_of, membership, ring_stage, reopening, group_at}
+use Rattle.slot_core.specs.Machine.{GroupEvent, Join, Close, Place, PutBase, Tell, Hear, Release, Reopen, Ring, HasPlace, MayJoin, fits, closed_total}
+use Rattle.slot_core.specs.Machine.{MayPlace, told_outcome, MayHear, HasUnfilledPiece, MayFill, HasDone, IsRingEnabled, IsEnabled}
 use Rattle.slot_parts.specs.declared.task.TheConstants.{LONGEST_PIECE}
 
 lt-decided : (m n : ℕ) → IsDecided (m < n)

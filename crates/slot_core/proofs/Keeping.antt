@@ -1,5 +1,6 @@
 -- Each event that is enabled keeps the laws.
-use Rattle.std.proofs.Common.{◌≡◌, ◌≢◌, ℕ, ◌==◌, ◌+◌, ◌-◌, ◌/◌, ◌≤◌, nat_le, cond, Bool, true, false, true≢false, [], ◌∷◌, ◌++◌, set, IsSome, IsSomeAnd, Option, Some, None, refl, sym, ap, ◌∙◌, subst, arith, leb-true, eq-eqb, eqb-true}
+use Rattle.std.proofs.Common.{◌≡◌, ◌≢◌, ℕ, ◌==◌, ◌+◌, ◌-◌, ◌/◌, ◌≤◌, nat_le, cond, Bool, true, false, true≢false, [], ◌∷◌, ◌++◌, set, IsSome}
+use Rattle.std.proofs.Common.{IsSomeAnd, Option, Some, None, refl, sym, ap, ◌∙◌, subst, arith, leb-true, eq-eqb, eqb-true}
 use mathlib.Core.Logic.{dite}
 use native.Mathlib.Decide.{ℕ_discrete}
 use Rattle.lsn_space.specs.declared.lsn.TheConstants.{LAST}
@@ -7,15 +8,24 @@ use Rattle.ring_core.specs.RingLog.{reserved, IsFull}
 use Rattle.ring_core.specs.State.{base_in, looks_at, raises_from, worked_on}
 use Rattle.ring_core.specs.declared.event.RingEvent.{RingEvent}
 use Rattle.ring_core.specs.declared.event.RingEvent.TheVariants.{Reserve, Fill, Mark, LookExposed, LookMark, Raise, Flushed}
-use Rattle.slot_core.specs.State.{Stage, Idle, Works, Marked, Holds, Raises, Outcome, Granted, Refused, GroupPhase, Vacant, Gathering, Closed, Placed, Ready, Told, Emptied, MemberStage, Closes, Waits, Places, Stores, Tells, Fills, Leaves, Membership, Task, Joined, InRing, SlotState, nothing, joined, task_of, with_task, membership, ring_stage, reopening, member, group, group_at, without}
+use Rattle.slot_core.specs.State.{Stage, Idle, Works, Marked, Holds, Raises, Outcome, Granted, Refused, GroupPhase, Vacant, Gathering, Closed, Placed}
+use Rattle.slot_core.specs.State.{Ready, Told, Emptied, MemberStage, Closes, Waits, Places, Stores, Tells, Fills, Leaves, Membership, Task, Joined}
+use Rattle.slot_core.specs.State.{InRing, SlotState, nothing, joined, task_of, with_task, membership, ring_stage, reopening, member, group, group_at}
+use Rattle.slot_core.specs.State.{without}
 use Rattle.slot_core.specs.Members.{ToClose, ToPlace, ToStore, ToTell, ToReopen}
 use Rattle.slot_core.specs.Laws.{IsSound}
-use Rattle.slot_core.specs.Machine.{GroupEvent, Join, Close, Place, PutBase, Tell, Hear, Release, Reopen, Ring, HasPlace, MayJoin, fits, closed_total, MayPlace, told_outcome, MayHear, HasUnfilledPiece, MayFill, HasDone, IsMemberAt, IsRingEnabled, MayReopen, IsEnabled, turned, moved, at_stage, in_ring, gathered, stage_joined, phase_joined, next_stage, next_phase, after_lead, placed_group, after_place, stage_heard, after_hear, stage_filled, log_filled, granted_base, after_fill, task_emptying, phase_released, task_released, after_release, after_mark, after_look_mark, after_raise, after_reopen, ring_after, state_after}
+use Rattle.slot_core.specs.Machine.{GroupEvent, Join, Close, Place, PutBase, Tell, Hear, Release, Reopen, Ring, HasPlace, MayJoin, fits, closed_total}
+use Rattle.slot_core.specs.Machine.{MayPlace, told_outcome, MayHear, HasUnfilledPiece, MayFill, HasDone, IsMemberAt, IsRingEnabled, MayReopen}
+use Rattle.slot_core.specs.Machine.{IsEnabled, turned, moved, at_stage, in_ring, gathered, stage_joined, phase_joined, next_stage, next_phase}
+use Rattle.slot_core.specs.Machine.{after_lead, placed_group, after_place, stage_heard, after_hear, stage_filled, log_filled, granted_base}
+use Rattle.slot_core.specs.Machine.{after_fill, task_emptying, phase_released, task_released, after_release, after_mark, after_look_mark, after_raise}
+use Rattle.slot_core.specs.Machine.{after_reopen, ring_after, state_after}
 use Rattle.slot_core.proofs.Groups.{join_first-sound, join_later-sound, close-sound, place_refused-sound, put_base-sound, tell-sound, reopen-sound, hear_granted-sound, hear_refused-sound}
 use Rattle.slot_core.proofs.Lists.{and-left, and-right}
 use Rattle.slot_core.proofs.Members.{single_seat-left}
 use Rattle.slot_core.proofs.Moving.{sound-link, sound-group}
-use Rattle.slot_core.proofs.Phases.{to_close-gathering, to_place-closed, to_store-placed, to_tell-ready, to_reopen-emptied, membership_some_and-joined, step_at-step_of, group_at-with_phase, fills-told_granted, leaves-told_refused}
+use Rattle.slot_core.proofs.Phases.{to_close-gathering, to_place-closed, to_store-placed, to_tell-ready, to_reopen-emptied}
+use Rattle.slot_core.proofs.Phases.{membership_some_and-joined, step_at-step_of, group_at-with_phase, fills-told_granted, leaves-told_refused}
 use Rattle.slot_core.proofs.Pieces.{cond_equal-single}
 use Rattle.slot_core.proofs.Ring.{reserve-sound, mark-sound, fill-sound, look_exposed-sound, look_mark-sound, raise-sound, flush-sound}
 use Rattle.slot_core.proofs.Slots.{place-sound, fill_piece-sound, release_granted-sound, release_refused-sound, release_last_refused-sound, release_last_granted-sound}
@@ -50,17 +60,20 @@ module _ (s : SlotState) (j : ℕ) (sound : IsSound s) where
   close-event : IsMemberAt Closes (task_of j s.hands) → IsSound (state_after s (Close j))
   close-event h = let x = membership_some_and-joined (task_of j s.hands) (λ m. m.stage ≡ Closes) h in let m = x.0 in let is = x.1 ∙ ap (joined m.slot m.offset m.size) x.3 in
       let p = to_close-gathering j (group_at m.slot s.groups).phase (step_at-step_of s j m Closes ToClose sound is refl) in
-      led s j m Closes (Gathering p.0 p.1) x.2 x.3 p.2 (close-sound s j m.slot m.offset m.size p.0 p.1 (group_at m.slot s.groups).members sound is (group_at-with_phase s m.slot (Gathering p.0 p.1) p.2))
+      led s j m Closes (Gathering p.0 p.1) x.2 x.3 p.2 (close-sound s j m.slot m.offset m.size p.0 p.1 (group_at m.slot s.groups).members sound is
+      (group_at-with_phase s m.slot (Gathering p.0 p.1) p.2))
 
   put-event : IsMemberAt Stores (task_of j s.hands) → IsSound (state_after s (PutBase j))
   put-event h = let x = membership_some_and-joined (task_of j s.hands) (λ m. m.stage ≡ Stores) h in let m = x.0 in let is = x.1 ∙ ap (joined m.slot m.offset m.size) x.3 in
       let p = to_store-placed j (group_at m.slot s.groups).phase (step_at-step_of s j m Stores ToStore sound is refl) in
-      led s j m Stores (Placed p.0 p.1 p.2) x.2 x.3 p.3 (put_base-sound s j m.slot m.offset m.size p.0 p.1 p.2 (group_at m.slot s.groups).members sound is (group_at-with_phase s m.slot (Placed p.0 p.1 p.2) p.3))
+      led s j m Stores (Placed p.0 p.1 p.2) x.2 x.3 p.3 (put_base-sound s j m.slot m.offset m.size p.0 p.1 p.2
+      (group_at m.slot s.groups).members sound is (group_at-with_phase s m.slot (Placed p.0 p.1 p.2) p.3))
 
   tell-event : IsMemberAt Tells (task_of j s.hands) → IsSound (state_after s (Tell j))
   tell-event h = let x = membership_some_and-joined (task_of j s.hands) (λ m. m.stage ≡ Tells) h in let m = x.0 in let is = x.1 ∙ ap (joined m.slot m.offset m.size) x.3 in
       let p = to_tell-ready j (group_at m.slot s.groups).phase (step_at-step_of s j m Tells ToTell sound is refl) in
-      led s j m Tells (Ready p.0 p.1 p.2) x.2 x.3 p.3 (tell-sound s j m.slot m.offset m.size p.0 p.1 p.2 (group_at m.slot s.groups).members sound is (group_at-with_phase s m.slot (Ready p.0 p.1 p.2) p.3))
+      led s j m Tells (Ready p.0 p.1 p.2) x.2 x.3 p.3 (tell-sound s j m.slot m.offset m.size p.0 p.1 p.2 (group_at m.slot s.groups).members sound is
+      (group_at-with_phase s m.slot (Ready p.0 p.1 p.2) p.3))
 
 -- a group is placed or refused
 abbrev pub placing : SlotState → ℕ → ℕ → ℕ → Membership → ℕ → Bool → SlotState
@@ -73,14 +86,20 @@ placing s j x d m total is_granted = record {
 place-event : (s : SlotState) (j x d : ℕ) → IsSound s → IsSomeAnd (membership (task_of j s.hands)) (MayPlace s x d) → IsSound (state_after s (Place j x d))
 place-event s j x d sound h = let f = membership_some_and-joined (task_of j s.hands) (MayPlace s x d) h in subst (λ o. IsSound (after_place s j x d o)) (sym f.2) (by_member f.0 f.1 f.3)
   where
-    by_test : (m : Membership) (l t : ℕ) → task_of j s.hands ≡ joined m.slot m.offset m.size Places → group_at m.slot s.groups ≡ group (group_at m.slot s.groups).members (Closed l t) → MayPlace s x d m
+    by_test : (m : Membership) (l t : ℕ) → task_of j s.hands ≡ joined m.slot m.offset m.size Places → group_at m.slot s.groups ≡ group
+        (group_at m.slot s.groups).members (Closed l t) → MayPlace s x d m
         → (b : Bool) → fits s.log t x d ≡ b → (b ≡ true → x ≡ s.log.tail) → IsSound (placing s j x d m t b)
     by_test m l t is at may true fit present =
         let here = present refl in let old = sound-group s m.slot (group (group_at m.slot s.groups).members (Closed l t)) sound at in
         let log = leb-true (x + t) LAST (and-left (nat_le (x + t) LAST) (nat_le (x + t) (d + s.log.ring)) fit) in
         let ring = leb-true (x + t) (d + s.log.ring) (and-right (nat_le (x + t) LAST) (nat_le (x + t) (d + s.log.ring)) fit) in
         let low = may.durable_seen in
-        place-sound s j m.slot m.offset m.size l t (group_at m.slot s.groups).members sound is at record { positive = old.positive; quarter = old.within_quarter; within_log = omega (arith, log, here); within_ring = omega (arith, ring, here, low) }
+        place-sound s j m.slot m.offset m.size l t (group_at m.slot s.groups).members sound is at record {
+          positive = old.positive;
+          quarter = old.within_quarter;
+          within_log = omega (arith, log, here);
+          within_ring = omega (arith, ring, here, low);
+        }
     by_test m l t is at may false fit present =
         let tail = may.tail_seen in let low = may.durable_seen in let last = sound.log.within_log in let f = sound.log.flushed in let e = sound.log.exposed in
         place_refused-sound s j m.slot m.offset m.size l t x d (group_at m.slot s.groups).members sound is at (omega (arith, tail, last)) (omega (arith, low, f, e, last))
@@ -92,9 +111,11 @@ place-event s j x d sound h = let f = membership_some_and-joined (task_of j s.ha
         (by_test m p.0 p.1 is (group_at-with_phase s m.slot (Closed p.0 p.1) p.2) may (fits s.log p.1 x d) refl (λ yes. may.present (ap (λ z. fits s.log (closed_total z) x d) p.2 ∙ yes)))
 
 hear-event : (s : SlotState) (j : ℕ) → IsSound s → IsSomeAnd (membership (task_of j s.hands)) (MayHear s) → IsSound (state_after s (Hear j))
-hear-event s j sound h = let f = membership_some_and-joined (task_of j s.hands) (MayHear s) h in subst (λ o. IsSound (after_hear s j o)) (sym f.2) (by_phase f.0 (f.1 ∙ ap (joined f.0.slot f.0.offset f.0.size) f.3.waits) (group_at f.0.slot s.groups).phase refl f.3.told)
+hear-event s j sound h = let f = membership_some_and-joined (task_of j s.hands) (MayHear s) h in subst (λ o. IsSound (after_hear s j o)) (sym f.2)
+    (by_phase f.0 (f.1 ∙ ap (joined f.0.slot f.0.offset f.0.size) f.3.waits) (group_at f.0.slot s.groups).phase refl f.3.told)
   where
-    by_phase : (m : Membership) → task_of j s.hands ≡ joined m.slot m.offset m.size Waits → (p : GroupPhase) → (group_at m.slot s.groups).phase ≡ p → IsSome (told_outcome p) → IsSound (after_hear s j (Some m))
+    by_phase : (m : Membership) → task_of j s.hands ≡ joined m.slot m.offset m.size Waits → (p : GroupPhase) → (group_at m.slot s.groups).phase ≡ p
+        → IsSome (told_outcome p) → IsSound (after_hear s j (Some m))
     by_phase m is (Told t (Granted b) r) p told = subst (λ z. IsSound (turned s j (joined m.slot m.offset m.size (stage_heard (told_outcome z))))) (sym p)
         (hear_granted-sound s j m.slot m.offset m.size t b r (group_at m.slot s.groups).members sound is (group_at-with_phase s m.slot (Told t (Granted b) r) p))
     by_phase m is (Told t (Refused x y) r) p told = subst (λ z. IsSound (turned s j (joined m.slot m.offset m.size (stage_heard (told_outcome z))))) (sym p)
@@ -136,7 +157,8 @@ fill-event s j sound may = by_task (task_of j s.hands) refl may
     by_task (InRing q (Raises e)) is may = absurd may
 
 release-event : (s : SlotState) (j : ℕ) → IsSound s → IsSomeAnd (membership (task_of j s.hands)) (λ m. HasDone m.size m.stage) → IsSound (state_after s (Release j))
-release-event s j sound may = let f = membership_some_and-joined (task_of j s.hands) (λ m. HasDone m.size m.stage) may in subst (λ o. IsSound (after_release s j o)) (sym f.2) (by_stage f.0 f.0.stage f.1 f.3)
+release-event s j sound may = let f = membership_some_and-joined (task_of j s.hands) (λ m. HasDone m.size m.stage) may in subst (λ o. IsSound
+    (after_release s j o)) (sym f.2) (by_stage f.0 f.0.stage f.1 f.3)
   where
     leaving : Membership → GroupPhase → SlotState
     leaving m p = moved s j m.slot (task_released m.slot m.size p) (group (without j (group_at m.slot s.groups).members) (phase_released j m.size p))
@@ -147,23 +169,29 @@ release-event s j sound may = let f = membership_some_and-joined (task_of j s.ha
     -- what remains is at least the actor's own size
     own-size : (m : Membership) (t r : ℕ) (st : MemberStage) (o : Outcome) → task_of j s.hands ≡ joined m.slot m.offset m.size st → (group_at m.slot s.groups).phase ≡ Told t o r → m.size ≤ r
     own-size m t r st o is p = let at = group_at-with_phase s m.slot (Told t o r) p in let told = sound-group s m.slot (group (group_at m.slot s.groups).members (Told t o r)) sound at in
-        let left = single_seat-left j m.offset m.size (group_at m.slot s.groups).members ((sound-link s j m.slot (joined m.slot m.offset m.size st) (group_at m.slot s.groups) sound is refl).joins ∙ cond_equal-single {A = ℕ × ℕ} (m.offset, m.size) m.slot) in
+        let left = single_seat-left j m.offset m.size (group_at m.slot s.groups).members ((sound-link s j m.slot (joined m.slot m.offset m.size st)
+        (group_at m.slot s.groups) sound is refl).joins ∙ cond_equal-single {A = ℕ × ℕ} (m.offset, m.size) m.slot) in
         let e = left.sum in let sum = told.sum in omega (arith, e, sum)
 
     some-left : (r n : ℕ) → n ≤ r → r ≢ n → 1 ≤ r - n
     some-left r n le ne = dite (ℕ_discrete r n) (λ e. absurd (ne e)) (λ d. omega (arith, le, d))
 
-    granted : (m : Membership) (t b r : ℕ) (c : Bool) → (r == m.size) ≡ c → task_of j s.hands ≡ joined m.slot m.offset m.size (Fills m.size) → (group_at m.slot s.groups).phase ≡ Told t (Granted b) r → IsSound (released m t (Granted b) r c)
+    granted : (m : Membership) (t b r : ℕ) (c : Bool) → (r == m.size) ≡ c → task_of j s.hands ≡ joined m.slot m.offset m.size (Fills m.size) →
+        (group_at m.slot s.groups).phase ≡ Told t (Granted b) r → IsSound (released m t (Granted b) r c)
     granted m t b r true same is p = let e = eqb-true r m.size same in
         release_last_granted-sound s j m.slot m.offset m.size t b (group_at m.slot s.groups).members sound is (group_at-with_phase s m.slot (Told t (Granted b) m.size) (p ∙ ap (Told t (Granted b)) e))
     granted m t b r false same is p = let le = own-size m t r (Fills m.size) (Granted b) is p in let ne : r ≢ m.size = (λ e. true≢false (sym (eq-eqb r m.size e) ∙ same)) in
-        release_granted-sound s j m.slot m.offset m.size t b r (r - m.size) (group_at m.slot s.groups).members sound is (group_at-with_phase s m.slot (Told t (Granted b) r) p) (omega (arith, le)) (some-left r m.size le ne)
+        release_granted-sound s j m.slot m.offset m.size t b r (r - m.size) (group_at m.slot s.groups).members sound is (group_at-with_phase s m.slot
+        (Told t (Granted b) r) p) (omega (arith, le)) (some-left r m.size le ne)
 
-    refused : (m : Membership) (t x y r : ℕ) (c : Bool) → (r == m.size) ≡ c → task_of j s.hands ≡ joined m.slot m.offset m.size Leaves → (group_at m.slot s.groups).phase ≡ Told t (Refused x y) r → IsSound (released m t (Refused x y) r c)
+    refused : (m : Membership) (t x y r : ℕ) (c : Bool) → (r == m.size) ≡ c → task_of j s.hands ≡ joined m.slot m.offset m.size Leaves →
+        (group_at m.slot s.groups).phase ≡ Told t (Refused x y) r → IsSound (released m t (Refused x y) r c)
     refused m t x y r true same is p = let e = eqb-true r m.size same in
-        release_last_refused-sound s j m.slot m.offset m.size t x y (group_at m.slot s.groups).members sound is (group_at-with_phase s m.slot (Told t (Refused x y) m.size) (p ∙ ap (Told t (Refused x y)) e))
+        release_last_refused-sound s j m.slot m.offset m.size t x y (group_at m.slot s.groups).members sound is (group_at-with_phase s m.slot (Told t
+        (Refused x y) m.size) (p ∙ ap (Told t (Refused x y)) e))
     refused m t x y r false same is p = let le = own-size m t r Leaves (Refused x y) is p in let ne : r ≢ m.size = (λ e. true≢false (sym (eq-eqb r m.size e) ∙ same)) in
-        release_refused-sound s j m.slot m.offset m.size t x y r (r - m.size) (group_at m.slot s.groups).members sound is (group_at-with_phase s m.slot (Told t (Refused x y) r) p) (omega (arith, le)) (some-left r m.size le ne)
+        release_refused-sound s j m.slot m.offset m.size t x y r (r - m.size) (group_at m.slot s.groups).members sound is
+        (group_at-with_phase s m.slot (Told t (Refused x y) r) p) (omega (arith, le)) (some-left r m.size le ne)
 
     by_stage : (m : Membership) (st : MemberStage) → task_of j s.hands ≡ joined m.slot m.offset m.size st → HasDone m.size st → IsSound (after_release s j (Some m))
     by_stage m (Fills f) is full = let is' = is ∙ ap (λ x. joined m.slot m.offset m.size (Fills x)) full in let h = fills-told_granted s j m.slot m.offset m.size m.size sound is' in

@@ -19,7 +19,8 @@ module _ {A : Type 0} {B : Type 0} where
   picked-append f g [] ys = refl
   picked-append f g (x ∷ xs) ys = by-case (f x) (picked-append f g xs ys)
     where
-      by-case : (b : Bool) → picked f g (xs ++ ys) ≡ picked f g xs ++ picked f g ys → cond b (g x ∷ picked f g (xs ++ ys)) (picked f g (xs ++ ys)) ≡ cond b (g x ∷ picked f g xs) (picked f g xs) ++ picked f g ys
+      by-case : (b : Bool) → picked f g (xs ++ ys) ≡ picked f g xs ++ picked f g ys → cond b (g x ∷ picked f g (xs ++ ys)) (picked f g (xs ++ ys))
+          ≡ cond b (g x ∷ picked f g xs) (picked f g xs) ++ picked f g ys
       by-case true e = ap (λ l. g x ∷ l) e
       by-case false e = e
 
@@ -29,7 +30,16 @@ module _ {A : Type 0} {B : Type 0} where
     where
       by-case : (b : Bool) → f x ≡ b → cond b (g x ∷ picked f g xs) (picked f g xs) ≡ y ∷ [] → (picked f g xs ≡ y ∷ [] → Split f g xs y) → Split f g (x ∷ xs) y
       by-case true h e go = record { ls = []; x = x; rs = xs; split = refl; has = h; is = cc; before = refl; after = cc }
-      by-case false h e go = let s = go e in record { ls = x ∷ s.ls; x = s.x; rs = s.rs; split = ap (λ l. x ∷ l) s.split; has = s.has; is = s.is; before = ap (λ b. cond b (g x ∷ picked f g s.ls) (picked f g s.ls)) h ∙ s.before; after = s.after }
+      by-case false h e go = let s = go e in record {
+        ls = x ∷ s.ls;
+        x = s.x;
+        rs = s.rs;
+        split = ap (λ l. x ∷ l) s.split;
+        has = s.has;
+        is = s.is;
+        before = ap (λ b. cond b (g x ∷ picked f g s.ls) (picked f g s.ls)) h ∙ s.before;
+        after = s.after;
+      }
 
 module _ {A : Type 0} where
   pub all-left_of_append : (P : A → Type 0) (xs ys : List A) → AllByRecursion P (xs ++ ys) → AllByRecursion P xs

@@ -47,7 +47,8 @@ pub full-pushed : (rs : List Reservation) (new : Reservation) (b : ℕ) → IsSo
 full-pushed [] new b is = absurd is
 full-pushed (r ∷ rs) new b is = by_test (r.base == b) is (full-pushed rs new b)
   where
-    by_test : (t : Bool) → IsSomeAnd (cond t (Some r) (find (is_at b) rs)) IsFull → (IsSomeAnd (find (is_at b) rs) IsFull → IsSomeAnd (find (is_at b) (rs ++ new ∷ [])) IsFull) → IsSomeAnd (cond t (Some r) (find (is_at b) (rs ++ new ∷ []))) IsFull
+    by_test : (t : Bool) → IsSomeAnd (cond t (Some r) (find (is_at b) rs)) IsFull → (IsSomeAnd (find (is_at b) rs) IsFull → IsSomeAnd (find (is_at b)
+        (rs ++ new ∷ [])) IsFull) → IsSomeAnd (cond t (Some r) (find (is_at b) (rs ++ new ∷ []))) IsFull
     by_test true is rest = is
     by_test false is rest = rest is
 

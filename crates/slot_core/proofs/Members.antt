@@ -14,7 +14,8 @@ without-split : (me : ℕ) (ls rs : List Member) (x : Member) → seats_of me ls
 without-split me [] rs x none has = ap (λ b. cond b rs (x ∷ without me rs)) has
 without-split me (l ∷ ls) rs x none has = by_case (l.actor == me) refl none (without-split me ls rs x)
   where
-    by_case : (b : Bool) → (l.actor == me) ≡ b → cond b (extent_of l ∷ seats_of me ls) (seats_of me ls) ≡ [] → (seats_of me ls ≡ [] → is_of me x ≡ true → without me (ls ++ x ∷ rs) ≡ ls ++ rs) → without me (l ∷ (ls ++ x ∷ rs)) ≡ l ∷ (ls ++ rs)
+    by_case : (b : Bool) → (l.actor == me) ≡ b → cond b (extent_of l ∷ seats_of me ls) (seats_of me ls) ≡ [] → (seats_of me ls ≡ [] → is_of me x
+        ≡ true → without me (ls ++ x ∷ rs) ≡ ls ++ rs) → without me (l ∷ (ls ++ x ∷ rs)) ≡ l ∷ (ls ++ rs)
     by_case true is none go = absurd (cc)
     by_case false is none go = ap (λ b. cond b (ls ++ x ∷ rs) (l ∷ without me (ls ++ x ∷ rs))) is ∙ ap (λ z. l ∷ z) (go none has)
 
@@ -55,14 +56,17 @@ single_seat-left me a n ms h = let s = picked_single-split (is_of me) extent_of 
       others = λ j ne. ap (seats_of j) is ∙ (picked-without_unpicked (is_of j) extent_of s.ls s.rs s.x (ne_eqb s.x.actor j (λ e. ne (sym e ∙ actor))) ∙ ap (seats_of j) (sym s.split));
       sum = ap (λ l. sum_of l + n) is ∙ (ap (λ z. sum_of (s.ls ++ s.rs) + z) (sym size) ∙ (sum-gone s.x s.ls s.rs ∙ ap sum_of (sym s.split)));
       apart = λ b o. subst (λ l. LieApart 0 l b) (sym is) (apart-gone 0 b s.x s.ls s.rs (subst (λ l. LieApart 0 l b) s.split o));
-      units = λ k new hands. let e = ap (units_of k (with_task me new hands)) is ∙ units-append k (with_task me new hands) s.ls s.rs in let l = units-with_task_absent k me new hands s.ls s.before in let r = units-with_task_absent k me new hands s.rs s.after in
+      units = λ k new hands. let e = ap (units_of k (with_task me new hands)) is ∙ units-append k (with_task me new hands)
+          s.ls s.rs in let l = units-with_task_absent k me new hands s.ls s.before in let r = units-with_task_absent k me new hands s.rs s.after in
           let f = ap (units_of k hands) s.split ∙ units-mid k hands s.ls s.rs s.x in let mid = ap (λ i. units_in k (task_of i hands)) actor in omega (arith, e, l, r, f, mid);
     }
 
 -- where the actor fills
-pub units-with_task_member : (k me a n : ℕ) (new : Task) (hands : List Hand) (ms : List Member) → seats_of me ms ≡ (a, n) ∷ [] → units_of k (with_task me new hands) ms + units_in k (task_of me hands) ≡ units_of k hands ms + units_in k new
+pub units-with_task_member : (k me a n : ℕ) (new : Task) (hands : List Hand) (ms : List Member) → seats_of me ms ≡ (a, n) ∷ [] → units_of k
+    (with_task me new hands) ms + units_in k (task_of me hands) ≡ units_of k hands ms + units_in k new
 units-with_task_member k me a n new hands ms h = let s = picked_single-split (is_of me) extent_of ms (a, n) h in let actor : s.x.actor ≡ me = eqb-true s.x.actor me s.has in
-    let e = ap (units_of k (with_task me new hands)) s.split ∙ units-mid k (with_task me new hands) s.ls s.rs s.x in let l = units-with_task_absent k me new hands s.ls s.before in let r = units-with_task_absent k me new hands s.rs s.after in
+    let e = ap (units_of k (with_task me new hands)) s.split ∙ units-mid k (with_task me new hands)
+    s.ls s.rs s.x in let l = units-with_task_absent k me new hands s.ls s.before in let r = units-with_task_absent k me new hands s.rs s.after in
     let f = ap (units_of k hands) s.split ∙ units-mid k hands s.ls s.rs s.x in let mid = ap (λ i. units_in k (task_of i hands)) actor in
     let now = ap (λ i. units_in k (task_of i (with_task me new hands))) actor ∙ ap (units_in k) (task_of-with_task_self me new hands) in omega (arith, e, l, r, f, mid, now)
 
@@ -110,18 +114,21 @@ abbrev HasBound : ℕ → List Hand → Member → Type 0
 HasBound k hands m = units_in k (task_of m.actor hands) ≤ m.size
 
 -- where one has units to fill, the group has
-pub unfilled_member-unfilled_group : (k me a n : ℕ) (hands : List Hand) (l : RingLog) (ms : List Member) → ((j : ℕ) → seats_of j ms ≡ seat_in k (task_of j hands)) → ((j : ℕ) → IsTrueTask l (task_of j hands))
+pub unfilled_member-unfilled_group : (k me a n : ℕ) (hands : List Hand) (l : RingLog) (ms : List Member) → ((j : ℕ) → seats_of j ms ≡ seat_in k
+    (task_of j hands)) → ((j : ℕ) → IsTrueTask l (task_of j hands))
     → seats_of me ms ≡ (a, n) ∷ [] → units_in k (task_of me hands) + 1 ≤ n → units_of k hands ms + 1 ≤ sum_of ms
 unfilled_member-unfilled_group k me a n hands l ms joins held h less =
     let s = picked_single-split (is_of me) extent_of ms (a, n) h in let actor : s.x.actor ≡ me = eqb-true s.x.actor me s.has in let size : s.x.size ≡ n = ap (λ (p : ℕ × ℕ). p.1) s.is in
     let all = subst (AllByRecursion (HasBound k hands)) s.split (each-split (HasBound k hands) ms bounded) in
-    let left = units-le k hands s.ls (all-left_of_append (HasBound k hands) s.ls (s.x ∷ s.rs) all) in let right = units-le k hands s.rs ((all-right_of_append (HasBound k hands) s.ls (s.x ∷ s.rs) all).1) in
+    let left = units-le k hands s.ls (all-left_of_append (HasBound k hands) s.ls (s.x ∷ s.rs) all) in let right = units-le k hands s.rs
+    ((all-right_of_append (HasBound k hands) s.ls (s.x ∷ s.rs) all).1) in
     let f = ap (units_of k hands) s.split ∙ units-mid k hands s.ls s.rs s.x in let g = ap sum_of s.split ∙ sum-mid s.ls s.rs s.x in let mid = ap (λ i. units_in k (task_of i hands)) actor in
     omega (arith, left, right, f, g, mid, size, less)
   where
     bounded : (ls rs : List Member) (x : Member) → ms ≡ ls ++ x ∷ rs → HasBound k hands x
     bounded ls rs x e = unit-bound k (task_of x.actor hands) l (seats_of x.actor ls) (seats_of x.actor rs) x.offset x.size
-        ((ap (λ q. seats_of x.actor ls ++ cond {A = List (ℕ × ℕ)} q (extent_of x ∷ seats_of x.actor rs) (seats_of x.actor rs)) (sym (eq-eqb x.actor x.actor refl))) ∙ (sym (picked-append (is_of x.actor) extent_of ls (x ∷ rs)) ∙ (ap (seats_of x.actor) (sym e) ∙ joins x.actor)))
+        ((ap (λ q. seats_of x.actor ls ++ cond {A = List (ℕ × ℕ)} q (extent_of x ∷ seats_of x.actor rs) (seats_of x.actor rs)) (sym
+        (eq-eqb x.actor x.actor refl))) ∙ (sym (picked-append (is_of x.actor) extent_of ls (x ∷ rs)) ∙ (ap (seats_of x.actor) (sym e) ∙ joins x.actor)))
         (held x.actor)
 
 -- where no granted group is told, nobody has filled any
@@ -142,4 +149,5 @@ not_granted-no_units k (Joined m) p n h = by_test (m.slot == k) refl m.stage h
 -- one that is no member has heard nothing there
 pub no_seat-has_heard_at : (k : ℕ) (z : Task) (p : GroupPhase) → seat_in k z ≡ [] → HasHeardAt k z p
 no_seat-has_heard_at k (InRing q z) p e = tt
-no_seat-has_heard_at k (Joined m) p e = λ same. let h : cond {A = List (ℕ × ℕ)} true ((m.offset, m.size) ∷ []) [] ≡ [] = ap (λ b. cond {A = List (ℕ × ℕ)} b ((m.offset, m.size) ∷ []) []) (sym (eq-eqb m.slot k same)) ∙ e in absurd (cc)
+no_seat-has_heard_at k (Joined m) p e = λ same. let h : cond {A = List (ℕ × ℕ)} true ((m.offset, m.size) ∷ []) [] ≡ [] = ap (λ b. cond {A = List (ℕ
+    × ℕ)} b ((m.offset, m.size) ∷ []) []) (sym (eq-eqb m.slot k same)) ∙ e in absurd (cc)

@@ -26,7 +26,12 @@ pub record IsOff (q : ℕ) (task : Task) : Type 0 where
 off : (k q : ℕ) (task : Task) → OnSlot k task → q ≢ k → IsOff q task
 off k q (Joined m) on ne =
     let test : (m.slot == q) ≡ false = ne_eqb m.slot q (λ e. ne (sym e ∙ on)) in
-    record { seat = ap (λ b. cond {A = List (ℕ × ℕ)} b ((m.offset, m.size) ∷ []) []) test; step = ap (λ b. cond b (step_at m.stage) []) test; units = ap (λ b. cond b (units_at m.stage) 0) test; told = λ p e. absurd (ne (sym e ∙ on)) }
+    record {
+      seat = ap (λ b. cond {A = List (ℕ × ℕ)} b ((m.offset, m.size) ∷ []) []) test;
+      step = ap (λ b. cond b (step_at m.stage) []) test;
+      units = ap (λ b. cond b (units_at m.stage) 0) test;
+      told = λ p e. absurd (ne (sym e ∙ on));
+    }
 off k q (InRing None z) on ne = record { seat = refl; step = refl; units = refl; told = λ p. tt }
 off k q (InRing (Some s) z) on ne = record { seat = refl; step = ap (λ b. cond b (ToReopen ∷ []) []) (ne_eqb s q (λ e. ne (sym e ∙ on))); units = refl; told = λ p. tt }
 
@@ -37,13 +42,15 @@ away me k q old new z on on' ne l = let a = off k q old on ne in let b = off k q
 units-away : (k q : ℕ) (old new : Task) → OnSlot k old → OnSlot k new → q ≢ k → units_in q new ≡ units_in q old
 units-away k q old new on on' ne = (off k q new on' ne).units ∙ sym (off k q old on ne).units
 
-pub links-moved_on_slot : (me k : ℕ) (old new : Task) (g : Group) (hands : List Hand) (groups : List Group) → task_of me hands ≡ old → k < length groups → OnSlot k old → OnSlot k new → AllLinked hands groups
+pub links-moved_on_slot : (me k : ℕ) (old new : Task) (g : Group) (hands : List Hand) (groups : List Group) → task_of me hands ≡ old
+    → k < length groups → OnSlot k old → OnSlot k new → AllLinked hands groups
     → Link me k new g → ((j : ℕ) (z : Task) → j ≢ me → Link j k z (group_at k groups) → Link j k z g) → AllLinked (with_task me new hands) (set groups k g)
 links-moved_on_slot me k old new g hands groups is within on on' all mine others = links-moved me k new g hands groups within all mine
     (λ q z ne l. away me k q old new z on on' ne (subst (λ st. Link me q st z) is l)) others
 
 -- the groups at the other slots, where the log is the same for them
-pub groups-moved_on_slot : (most me k : ℕ) (old new : Task) (g : Group) (hands : List Hand) (groups : List Group) (rs rs' : List Reservation) → task_of me hands ≡ old → k < length groups → OnSlot k old → OnSlot k new → AllGroups most rs hands groups
+pub groups-moved_on_slot : (most me k : ℕ) (old new : Task) (g : Group) (hands : List Hand) (groups : List Group) (rs rs' : List Reservation)
+    → task_of me hands ≡ old → k < length groups → OnSlot k old → OnSlot k new → AllGroups most rs hands groups
     → ((q b : ℕ) → q ≢ k → placed_at b (group_at q groups).phase ≡ true → find (is_at b) rs' ≡ find (is_at b) rs)
     → IsGroup most rs' (units_of k (with_task me new hands) g.members) g.members g.phase → AllGroups most rs' (with_task me new hands) (set groups k g)
 groups-moved_on_slot most me k old new g hands groups rs rs' is within on on' all found mine = set_group-each_slot
@@ -108,7 +115,8 @@ turned-sound s me old new sound t = record {
   shares = sound.shares;
   owned = sound.owned;
   links = links-turned me new s.hands s.groups sound.links (λ q l. t.mine q (subst (λ z. Link me q z (group_at q s.groups)) t.is l));
-  groups = λ q. group-same (s.log.ring / 4) s.log.reservations s.log.reservations (units_of q s.hands (group_at q s.groups).members) (units_of q (with_task me new s.hands) (group_at q s.groups).members) (group_at q s.groups).members (group_at q s.groups).phase
+  groups = λ q. group-same (s.log.ring / 4) s.log.reservations s.log.reservations (units_of q s.hands (group_at q s.groups).members) (units_of q
+      (with_task me new s.hands) (group_at q s.groups).members) (group_at q s.groups).members (group_at q s.groups).phase
       (units-with_task_same q me new s.hands (group_at q s.groups).members (t.units q ∙ ap (units_in q) (sym t.is))) (λ b e. refl) (sound.groups q);
   tasks = with_task-each_actor (λ j z. IsTrueTask s.log z) (λ j z. IsTrueTask s.log z) me new s.hands sound.tasks t.held (λ j z ne h. h);
   carried = t.carries;

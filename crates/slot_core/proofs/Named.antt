@@ -23,13 +23,16 @@ sound-has_owners s sound b r found flag = by_owner (sound.owner b) refl (sym (so
 
 -- and no other
 pub sound-works_alone : (s : SlotState) → IsSound s → WorksAlone s
-sound-works_alone s sound b i j x y = let a = is_actor_true-actor i (sound.owner b) (sym x ∙ sound.works i b) in let c = is_actor_true-actor j (sound.owner b) (sym y ∙ sound.works j b) in let e : Actor i ≡ Actor j = sym a ∙ c in cc
+sound-works_alone s sound b i j x y = let a = is_actor_true-actor i (sound.owner b) (sym x ∙ sound.works i b) in let c = is_actor_true-actor j
+    (sound.owner b) (sym y ∙ sound.works j b) in let e : Actor i ≡ Actor j = sym a ∙ c in cc
 
 pub sound-of_one_slot : (s : SlotState) → IsSound s → IsOfOneSlot s
-sound-of_one_slot s sound b i j x y = let a = is_slot_true-shared i (sound.owner b) (sym x ∙ sound.shares i b) in let c = is_slot_true-shared j (sound.owner b) (sym y ∙ sound.shares j b) in let e : Shared i ≡ Shared j = sym a ∙ c in cc
+sound-of_one_slot s sound b i j x y = let a = is_slot_true-shared i (sound.owner b) (sym x ∙ sound.shares i b) in let c = is_slot_true-shared j
+    (sound.owner b) (sym y ∙ sound.shares j b) in let e : Shared i ≡ Shared j = sym a ∙ c in cc
 
 pub sound-of_one_kind : (s : SlotState) → IsSound s → IsOfOneKind s
-sound-of_one_kind s sound b i k x y = let a = is_actor_true-actor i (sound.owner b) (sym x ∙ sound.works i b) in let c = is_slot_true-shared k (sound.owner b) (sym y ∙ sound.shares k b) in let e : Actor i ≡ Shared k = sym a ∙ c in cc
+sound-of_one_kind s sound b i k x y = let a = is_actor_true-actor i (sound.owner b) (sym x ∙ sound.works i b) in let c = is_slot_true-shared k
+    (sound.owner b) (sym y ∙ sound.shares k b) in let e : Actor i ≡ Shared k = sym a ∙ c in cc
 
 -- a member's piece lies within its group
 pub seat-within : (lo hi j a n : ℕ) (ms : List Member) → LieApart lo ms hi → seats_of j ms ≡ (a, n) ∷ [] → (lo ≤ a) × (1 ≤ n) × (a + n ≤ hi)
@@ -40,8 +43,10 @@ seat-within lo hi j a n (m ∷ ms) o e = by_test (m.actor == j) e (seat-within (
     end lo [] o = o
     end lo (m ∷ ms) o = let rest = end (m.offset + m.size) ms o.2 in let first = o.0 in omega (arith, rest, first)
 
-    by_test : (b : Bool) → cond b (extent_of m ∷ seats_of j ms) (seats_of j ms) ≡ (a, n) ∷ [] → (seats_of j ms ≡ (a, n) ∷ [] → (m.offset + m.size ≤ a) × (1 ≤ n) × (a + n ≤ hi)) → (lo ≤ a) × (1 ≤ n) × (a + n ≤ hi)
-    by_test true e rest = let pair : extent_of m ≡ (a, n) = cc in let at : m.offset ≡ a = ap (λ (p : ℕ × ℕ). p.0) pair in let size : m.size ≡ n = ap (λ (p : ℕ × ℕ). p.1) pair in let first = o.0 in let some' = o.1 in let last = end (m.offset + m.size) ms o.2 in
+    by_test : (b : Bool) → cond b (extent_of m ∷ seats_of j ms) (seats_of j ms) ≡ (a, n) ∷ [] → (seats_of j ms ≡ (a, n) ∷ [] → (m.offset + m.size ≤ a)
+        × (1 ≤ n) × (a + n ≤ hi)) → (lo ≤ a) × (1 ≤ n) × (a + n ≤ hi)
+    by_test true e rest = let pair : extent_of m ≡ (a, n) = cc in let at : m.offset ≡ a = ap (λ (p : ℕ × ℕ). p.0) pair in let size : m.size ≡ n = ap
+        (λ (p : ℕ × ℕ). p.1) pair in let first = o.0 in let some' = o.1 in let last = end (m.offset + m.size) ms o.2 in
         (omega (arith, at, first), omega (arith, size, some'), omega (arith, at, size, last))
     by_test false e rest = let r = rest e in let low = r.0 in let first = o.0 in (omega (arith, low, first), r.1, r.2)
 
@@ -50,11 +55,16 @@ pub pieces-apart : (lo hi i j a n a' n' : ℕ) (ms : List Member) → i ≢ j �
 pieces-apart lo hi i j a n a' n' [] ne o x y = absurd (cc)
 pieces-apart lo hi i j a n a' n' (m ∷ ms) ne o x y = by_test (m.actor == i) (m.actor == j) refl refl x y (pieces-apart (m.offset + m.size) hi i j a n a' n' ms ne o.2)
   where
-    by_test : (b c : Bool) → (m.actor == i) ≡ b → (m.actor == j) ≡ c → cond b (extent_of m ∷ seats_of i ms) (seats_of i ms) ≡ (a, n) ∷ [] → cond c (extent_of m ∷ seats_of j ms) (seats_of j ms) ≡ (a', n') ∷ []
+    by_test : (b c : Bool) → (m.actor == i) ≡ b → (m.actor == j) ≡ c → cond b (extent_of m ∷ seats_of i ms) (seats_of i ms) ≡ (a, n) ∷ [] → cond c
+        (extent_of m ∷ seats_of j ms) (seats_of j ms) ≡ (a', n') ∷ []
         → (seats_of i ms ≡ (a, n) ∷ [] → seats_of j ms ≡ (a', n') ∷ [] → (a + n ≤ a') ⊎ (a' + n' ≤ a)) → (a + n ≤ a') ⊎ (a' + n' ≤ a)
     by_test true true is is' x y rest = absurd (ne (sym (eqb-true m.actor i is) ∙ eqb-true m.actor j is'))
-    by_test true false is is' x y rest = let pair : extent_of m ≡ (a, n) = cc in let at : m.offset ≡ a = ap (λ (p : ℕ × ℕ). p.0) pair in let size : m.size ≡ n = ap (λ (p : ℕ × ℕ). p.1) pair in let w = seat-within (m.offset + m.size) hi j a' n' ms o.2 y in let low = w.0 in inl (omega (arith, at, size, low))
-    by_test false true is is' x y rest = let pair : extent_of m ≡ (a', n') = cc in let at : m.offset ≡ a' = ap (λ (p : ℕ × ℕ). p.0) pair in let size : m.size ≡ n' = ap (λ (p : ℕ × ℕ). p.1) pair in let w = seat-within (m.offset + m.size) hi i a n ms o.2 x in let low = w.0 in inr (omega (arith, at, size, low))
+    by_test true false is is' x y rest = let pair : extent_of m ≡ (a, n) = cc in let at : m.offset ≡ a = ap (λ (p : ℕ × ℕ). p.0)
+        pair in let size : m.size ≡ n = ap (λ (p : ℕ × ℕ). p.1) pair in let w = seat-within (m.offset + m.size)
+        hi j a' n' ms o.2 y in let low = w.0 in inl (omega (arith, at, size, low))
+    by_test false true is is' x y rest = let pair : extent_of m ≡ (a', n') = cc in let at : m.offset ≡ a' = ap (λ (p : ℕ × ℕ). p.0)
+        pair in let size : m.size ≡ n' = ap (λ (p : ℕ × ℕ). p.1) pair in let w = seat-within (m.offset + m.size)
+        hi i a n ms o.2 x in let low = w.0 in inr (omega (arith, at, size, low))
     by_test false false is is' x y rest = rest x y
 
 -- so they lie in every phase
@@ -71,7 +81,8 @@ group-apart most u rs ms (Told t o r) h = (t, h.apart)
 group-apart most u rs ms (Emptied l) h = (0, nobody-apart ms h)
 
 pub sound-pieces_apart : (s : SlotState) → IsSound s → HasPiecesApart s
-sound-pieces_apart s sound k i j a n b m ne x y = let g = group_at k s.groups in let h = group-apart (s.log.ring / 4) (units_of k s.hands g.members) s.log.reservations g.members g.phase (sound.groups k) in
+sound-pieces_apart s sound k i j a n b m ne x y = let g = group_at k s.groups in let h = group-apart (s.log.ring / 4) (units_of k s.hands g.members)
+    s.log.reservations g.members g.phase (sound.groups k) in
     pieces-apart 0 h.0 i j a n b m g.members ne h.1 x y
 
 -- a range that a group was granted is as long as its total
@@ -91,7 +102,8 @@ group-range most u b rs ms (Emptied l) h at = absurd (true≢false (sym at))
 
 -- a member's piece lies within the group's range
 pub sound-pieces_in_range : (s : SlotState) → IsSound s → HasPiecesInRange s
-sound-pieces_in_range s sound k j a n b at seat = let g = group_at k s.groups in let h = group-range (s.log.ring / 4) (units_of k s.hands g.members) b s.log.reservations g.members g.phase (sound.groups k) at in
+sound-pieces_in_range s sound k j a n b at seat = let g = group_at k s.groups in let h = group-range (s.log.ring / 4) (units_of k s.hands g.members)
+    b s.log.reservations g.members g.phase (sound.groups k) at in
     let w = seat-within 0 h.0 j a n g.members h.1 seat in let last = w.2 in let size = h.2.2 in (h.2.0, h.2.1, omega (arith, last, size))
 
 -- what remains of a told group is what its members have who haven't released

@@ -52,7 +52,8 @@ pub works-put : (owner : ℕ → Owner) (me x : ℕ) (o' : Owner) (old new : Tas
     → ((j b : ℕ) → works_on b (task_of j hands) ≡ is_actor j (owner b))
     → ((j : ℕ) → j ≢ me → is_actor j (owner x) ≡ is_actor j o') → works_on x new ≡ is_actor me o' → ((b : ℕ) → b ≢ x → works_on b new ≡ works_on b old)
     → (j b : ℕ) → works_on b (task_of j (with_task me new hands)) ≡ is_actor j (put owner x o' b)
-works-put owner me x o' old new hands is works own here else' = with_task-each_actor (λ j z. (b : ℕ) → works_on b z ≡ is_actor j (owner b)) (λ j z. (b : ℕ) → works_on b z ≡ is_actor j (put owner x o' b)) me new hands works
+works-put owner me x o' old new hands is works own here else' = with_task-each_actor (λ j z. (b : ℕ) → works_on b z ≡ is_actor j (owner b)) (λ j z.
+    (b : ℕ) → works_on b z ≡ is_actor j (put owner x o' b)) me new hands works
     (put-each (λ b o. works_on b new ≡ is_actor me o) owner x o' here (λ b ne. else' b ne ∙ (ap (works_on b) (sym is) ∙ works me b)))
     (λ j z ne h. put-each (λ b o. works_on b z ≡ is_actor j o) owner x o' (h x ∙ own j ne) (λ b _. h b))
 
@@ -60,7 +61,8 @@ pub shares-put_new_group : (owner : ℕ → Owner) (k x : ℕ) (o' : Owner) (g g
     → ((q b : ℕ) → placed_at b (group_at q groups).phase ≡ is_slot q (owner b))
     → ((q : ℕ) → q ≢ k → is_slot q (owner x) ≡ is_slot q o') → placed_at x g'.phase ≡ is_slot k o' → ((b : ℕ) → b ≢ x → placed_at b g'.phase ≡ placed_at b g.phase)
     → (q b : ℕ) → placed_at b (group_at q (set groups k g')).phase ≡ is_slot q (put owner x o' b)
-shares-put_new_group owner k x o' g g' groups at within shares own here else' = set_group-each_slot (λ q z. (b : ℕ) → placed_at b z.phase ≡ is_slot q (owner b)) (λ q z. (b : ℕ) → placed_at b z.phase ≡ is_slot q (put owner x o' b)) k g' groups within shares
+shares-put_new_group owner k x o' g g' groups at within shares own here else' = set_group-each_slot (λ q z. (b : ℕ) → placed_at b z.phase ≡ is_slot q
+    (owner b)) (λ q z. (b : ℕ) → placed_at b z.phase ≡ is_slot q (put owner x o' b)) k g' groups within shares
     (put-each (λ b o. placed_at b g'.phase ≡ is_slot k o) owner x o' here (λ b ne. else' b ne ∙ (ap (λ (z : Group). placed_at b z.phase) (sym at) ∙ shares k b)))
     (λ q z ne h. put-each (λ b o. placed_at b z.phase ≡ is_slot q o) owner x o' (h x ∙ own q ne) (λ b _. h b))
 
@@ -91,11 +93,13 @@ pub groups-turned_at_no_slot : (most me : ℕ) (new : Task) (hands : List Hand) 
     → ((q b : ℕ) → placed_at b (group_at q groups).phase ≡ true → find (is_at b) rs' ≡ find (is_at b) rs)
     → AllGroups most rs' (with_task me new hands) groups
 groups-turned_at_no_slot most me new hands groups rs rs' all units found q = let g = group_at q groups in
-    group-same most rs rs' (units_of q hands g.members) (units_of q (with_task me new hands) g.members) g.members g.phase (units-with_task_same q me new hands g.members (units q)) (λ b at. found q b at) (all q)
+    group-same most rs rs' (units_of q hands g.members) (units_of q (with_task me new hands) g.members) g.members g.phase
+    (units-with_task_same q me new hands g.members (units q)) (λ b at. found q b at) (all q)
 
 -- what is in hand, where the log changes
 pub true_task-log_grows : (l l' : RingLog) (z : Task) → ((b : ℕ) → works_on b z ≡ true → IsSomeAnd (find (is_at b) l.reservations) IsFull → IsSomeAnd (find (is_at b) l'.reservations) IsFull)
-    → ((e : ℕ) → IsLogBoundary l e → IsLogBoundary l' e) → ((e : ℕ) → is_marked e l.reservations ≡ true → is_marked e l'.reservations ≡ true) → l.exposed ≤ l'.exposed → IsTrueTask l z → IsTrueTask l' z
+    → ((e : ℕ) → IsLogBoundary l e → IsLogBoundary l' e) → ((e : ℕ) → is_marked e l.reservations ≡ true → is_marked e l'.reservations ≡ true)
+    → l.exposed ≤ l'.exposed → IsTrueTask l z → IsTrueTask l' z
 true_task-log_grows l l' (Joined m) full bound marks le h = h
 true_task-log_grows l l' (InRing q Idle) full bound marks le h = tt
 true_task-log_grows l l' (InRing None (Works b)) full bound marks le h = tt

@@ -1,6 +1,7 @@
 -- The phase of a slot, by the step that an actor makes next, and by what a member has heard.
 use Rattle.std.proofs.Common.{◌≡◌, ℕ, ◌==◌, cond, Bool, true, false, [], ◌∷◌, IsSomeAnd, Some, refl, ap, ◌∙◌, eq-eqb}
-use Rattle.slot_core.specs.State.{Outcome, Granted, Refused, GroupPhase, Vacant, Gathering, Closed, Placed, Ready, Told, Emptied, MemberStage, Fills, Leaves, Membership, Task, Joined, InRing, SlotState, joined, task_of, membership, group, group_at}
+use Rattle.slot_core.specs.State.{Outcome, Granted, Refused, GroupPhase, Vacant, Gathering, Closed, Placed, Ready, Told, Emptied, MemberStage, Fills}
+use Rattle.slot_core.specs.State.{Leaves, Membership, Task, Joined, InRing, SlotState, joined, task_of, membership, group, group_at}
 use Rattle.slot_core.specs.Members.{NextStep, ToClose, ToPlace, ToStore, ToTell, ToReopen, step_of, step_at, IsGranted, IsRefused}
 use Rattle.slot_core.specs.Laws.{IsSound}
 use Rattle.slot_core.proofs.Moving.{sound-link}
@@ -61,8 +62,10 @@ membership_some_and-joined (Joined m) P h = (m, refl, refl, h)
 membership_some_and-joined (InRing q z) P h = absurd h
 
 -- its slot's next step, where it makes it
-pub step_at-step_of : (s : SlotState) (j : ℕ) (m : Membership) (st : MemberStage) (x : NextStep) → IsSound s → task_of j s.hands ≡ joined m.slot m.offset m.size st → step_at st ≡ x ∷ [] → step_of j (group_at m.slot s.groups).phase ≡ x ∷ []
-step_at-step_of s j m st x sound is step = (sound-link s j m.slot (joined m.slot m.offset m.size st) (group_at m.slot s.groups) sound is refl).leads ∙ (ap (λ b. cond b (step_at st) []) (eq-eqb m.slot m.slot refl) ∙ step)
+pub step_at-step_of : (s : SlotState) (j : ℕ) (m : Membership) (st : MemberStage) (x : NextStep) → IsSound s → task_of j s.hands
+    ≡ joined m.slot m.offset m.size st → step_at st ≡ x ∷ [] → step_of j (group_at m.slot s.groups).phase ≡ x ∷ []
+step_at-step_of s j m st x sound is step = (sound-link s j m.slot (joined m.slot m.offset m.size st) (group_at m.slot s.groups) sound is refl).leads ∙
+    (ap (λ b. cond b (step_at st) []) (eq-eqb m.slot m.slot refl) ∙ step)
 
 pub group_at-with_phase : (s : SlotState) (k : ℕ) (p : GroupPhase) → (group_at k s.groups).phase ≡ p → group_at k s.groups ≡ group (group_at k s.groups).members p
 group_at-with_phase s k p is = ap (λ z. group (group_at k s.groups).members z) is
@@ -75,7 +78,8 @@ fills-told_granted s j k a n f sound is = let h = (sound-link s j k (joined k a 
     by_outcome t (Granted b) r e g = (t, b, r, e)
     by_outcome t (Refused x y) r e g = absurd g
 
-pub leaves-told_refused : (s : SlotState) (j k a n : ℕ) → IsSound s → task_of j s.hands ≡ joined k a n Leaves → (t : ℕ) × (x : ℕ) × (y : ℕ) × (r : ℕ) × ((group_at k s.groups).phase ≡ Told t (Refused x y) r)
+pub leaves-told_refused : (s : SlotState) (j k a n : ℕ) → IsSound s → task_of j s.hands ≡ joined k a n Leaves → (t : ℕ) × (x : ℕ) × (y : ℕ) × (r : ℕ)
+    × ((group_at k s.groups).phase ≡ Told t (Refused x y) r)
 leaves-told_refused s j k a n sound is = let h = (sound-link s j k (joined k a n Leaves) (group_at k s.groups) sound is refl).told refl in by_outcome h.0 h.1 h.2 h.3 h.4
   where
     by_outcome : (t : ℕ) (o : Outcome) (r : ℕ) → (group_at k s.groups).phase ≡ Told t o r → IsRefused o → (t : ℕ) × (x : ℕ) × (y : ℕ) × (r : ℕ) × ((group_at k s.groups).phase ≡ Told t (Refused x y) r)

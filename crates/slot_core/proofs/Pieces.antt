@@ -38,7 +38,8 @@ heard_at-new_phase k (Joined m) p p' f h = λ e. heard-shift m.stage p p' f (h e
 heard_at-new_phase k (InRing q z) p p' f h = tt
 
 -- another actor sees the leader's step only in the phase
-pub other_link-new_phase : (j k : ℕ) (z : Task) (ms : List Member) (p p' : GroupPhase) → step_of j p ≡ [] → step_of j p' ≡ [] → ((P : Outcome → Type 0) → IsTold P p → IsTold P p') → Link j k z (group ms p) → Link j k z (group ms p')
+pub other_link-new_phase : (j k : ℕ) (z : Task) (ms : List Member) (p p' : GroupPhase) → step_of j p ≡ [] → step_of j p' ≡ [] → ((P : Outcome
+    → Type 0) → IsTold P p → IsTold P p') → Link j k z (group ms p) → Link j k z (group ms p')
 other_link-new_phase j k z ms p p' empty empty' f l = record { joins = l.joins; leads = empty' ∙ (sym empty ∙ l.leads); told = heard_at-new_phase k z p p' f l.told }
 
 pub tiles-push : (a b n j : ℕ) (ms : List Member) → 1 ≤ n → Tiles a ms b → Tiles a (ms ++ member j b n ∷ []) (b + n)

@@ -17,8 +17,19 @@ join_closed-sound s me k n l t ms sound is at some' most = let mine = sound-link
       within = nonempty_group-within k s.groups (λ e. let p : Closed l t ≡ Vacant = ap (λ (g : Group). g.phase) (sym at ∙ e) in absurd (cc));
       on = tt;
       on' = refl;
-      mine = record { joins = seats-push me me t n ms ∙ ((λ i. mine.joins i ++ cond_equal-single {A = ℕ × ℕ} (t, n) me i) ∙ sym (cond_equal-single {A = ℕ × ℕ} (t, n) k)); leads = mine.leads ∙ sym (cond-both_none (k == k)); told = λ e. tt };
-      others = λ j z ne h. record { joins = seats-push j me t n ms ∙ (ap (λ l. seats_of j ms ++ l) (cond_unequal-none {A = ℕ × ℕ} (t, n) me j ne) ∙ (append-none (seats_of j ms) ∙ h.joins)); leads = h.leads; told = heard_at-new_phase k z (Closed l t) (Closed l (t + n)) (λ P x. let e = x.3 in absurd (cc)) h.told };
+      mine = record {
+        joins = seats-push me me t n ms ∙ ((λ i. mine.joins i ++ cond_equal-single {A = ℕ × ℕ} (t, n) me i) ∙ sym
+            (cond_equal-single {A = ℕ × ℕ} (t, n) k));
+        leads = mine.leads ∙ sym (cond-both_none (k == k));
+        told = λ e. tt;
+      };
+      others = λ j z ne h. record {
+        joins = seats-push j me t n ms ∙ (ap (λ l. seats_of j ms ++ l) (cond_unequal-none {A = ℕ × ℕ} (t, n) me j ne) ∙
+            (append-none (seats_of j ms) ∙ h.joins));
+        leads = h.leads;
+        told = heard_at-new_phase k z (Closed l t) (Closed l (t + n))
+            (λ P x. let e = x.3 in absurd (cc)) h.told;
+      };
       works = λ b. refl;
       shares = λ b. refl;
       group = record { tiles = tiles-push 0 t n me ms some' old.tiles; positive = let one' = old.positive in omega arith; within_quarter = most };

@@ -34,7 +34,8 @@ start-sound start ring slots low = record {
 
 no-seats : (ms : List Member) → ((j : ℕ) → seats_of j ms ≡ []) → ms ≡ []
 no-seats [] none = refl
-no-seats (m ∷ ms) none = let e : extent_of m ∷ seats_of m.actor ms ≡ [] = ap (λ b. cond {A = List (ℕ × ℕ)} b (extent_of m ∷ seats_of m.actor ms) (seats_of m.actor ms)) (sym (eq-eqb m.actor m.actor refl)) ∙ none m.actor in absurd (cc)
+no-seats (m ∷ ms) none = let e : extent_of m ∷ seats_of m.actor ms ≡ [] = ap (λ b. cond {A = List (ℕ × ℕ)} b (extent_of m ∷ seats_of m.actor ms)
+    (seats_of m.actor ms)) (sym (eq-eqb m.actor m.actor refl)) ∙ none m.actor in absurd (cc)
 
 leaderless : (l : ℕ) (x : NextStep) → cond (l == l) (x ∷ []) [] ≡ [] → ⊥
 leaderless l x e = let h : x ∷ [] ≡ [] = sym (cond_equal-single x l) ∙ e in cc
@@ -56,7 +57,8 @@ rest-vacant s sound rest k = by_phase (group_at k s.groups).members (group_at k 
     by_phase ms (Placed l t o) at = absurd (leaderless l ToStore (step l ms (Placed l t o) at))
     by_phase ms (Ready l t o) at = absurd (leaderless l ToTell (step l ms (Ready l t o) at))
     by_phase ms (Told t o r) at = let told = sound-group s k (group ms (Told t o r)) sound at in
-        let nobody = no-seats ms (λ j. ap (λ (g : Group). seats_of j g.members) (sym at) ∙ (link j).joins) in let sum = told.sum in let none = ap sum_of nobody in let some' = told.positive in absurd (omega (arith, sum, none, some'))
+        let nobody = no-seats ms (λ j. ap (λ (g : Group). seats_of j g.members) (sym at) ∙ (link j).joins)
+        in let sum = told.sum in let none = ap sum_of nobody in let some' = told.positive in absurd (omega (arith, sum, none, some'))
     by_phase ms (Emptied l) at = absurd (leaderless l ToReopen (step l ms (Emptied l) at))
 
 -- and all is exposed
@@ -67,7 +69,8 @@ rest-exposed s sound rest = ⊎_elim (λ end. end) (λ found. absurd (nobody fou
     by_owner : (o : Owner) → sound.owner s.log.exposed ≡ o → is_owned o ≡ true → ⊥
     by_owner Nobody is own = true≢false (sym own)
     by_owner (Actor j) is own = true≢false (sym (ap (works_on s.log.exposed) (sym (rest j)) ∙ (sound.works j s.log.exposed ∙ (ap (is_actor j) is ∙ eq-eqb j j refl))))
-    by_owner (Shared k) is own = true≢false (sym (ap (λ (g : Group). placed_at s.log.exposed g.phase) (sym (rest-vacant s sound rest k)) ∙ (sound.shares k s.log.exposed ∙ (ap (is_slot k) is ∙ eq-eqb k k refl))))
+    by_owner (Shared k) is own = true≢false (sym (ap (λ (g : Group). placed_at s.log.exposed g.phase) (sym (rest-vacant s sound rest k)) ∙
+        (sound.shares k s.log.exposed ∙ (ap (is_slot k) is ∙ eq-eqb k k refl))))
 
     by_flag : (r : Reservation) (b : Bool) → r.released ≡ b → find (is_at s.log.exposed) s.log.reservations ≡ Some r → ⊥
     by_flag r true flag is = let c = sound.carried (found-marked_if_released s.log.exposed s.log.reservations r is ∙ flag) in subst (Carries s.log.exposed) (rest c.actor) c.carries

@@ -14,29 +14,36 @@ use Rattle.slot_core.specs.Groups.{units_in}
 use Rattle.slot_core.specs.Laws.{IsPassed, IsTrueTask, Carries, IsSound}
 use Rattle.slot_core.specs.Machine.{turned}
 use Rattle.ring_core.proofs.RangeLemmas.{found-base, released_at-same}
-use Rattle.ring_core.proofs.LogKeeping.{fresh-found_at_tail, reserved-sound, filled-sound, marked-sound, raised-sound, raised-forward, flushed-sound, is_marked-append_fresh, is_marked-filled_at, is_marked-released_at}
+use Rattle.ring_core.proofs.LogKeeping.{fresh-found_at_tail, reserved-sound, filled-sound, marked-sound, raised-sound, raised-forward, flushed-sound}
+use Rattle.ring_core.proofs.LogKeeping.{is_marked-append_fresh, is_marked-filled_at, is_marked-released_at}
 use Rattle.slot_core.proofs.Hands.{with_task-each_actor, links-turned, group-same, has_carrier-turned, carries-has_carrier}
 use Rattle.slot_core.proofs.LogLookups.{push-else, found-released, filled-else, marked-else, full-pushed, full-marked, open-filled}
 use Rattle.slot_core.proofs.Moving.{turned-sound}
-use Rattle.slot_core.proofs.Owning.{put, is_actor-other_false, works-put, shares-put_same_groups, owned-put, groups-turned_at_no_slot, true_task-log_grows, works_on-owner_actor, actor_owned-not_placed, tail-owner_nobody, placed_at-not_tail}
+use Rattle.slot_core.proofs.Owning.{put, is_actor-other_false, works-put, shares-put_same_groups, owned-put, groups-turned_at_no_slot}
+use Rattle.slot_core.proofs.Owning.{true_task-log_grows, works_on-owner_actor, actor_owned-not_placed, tail-owner_nobody, placed_at-not_tail}
 
 pub true_task-reserved : (l : RingLog) (n : ℕ) (z : Task) → IsSoundLog l → IsTrueTask l z → IsTrueTask (reserved l n) z
-true_task-reserved l n z sound h = true_task-log_grows l (reserved l n) z (λ b _ f. full-pushed l.reservations (fresh l.tail n) b f) (λ e b. boundary-push size_of l.start l.reservations (fresh l.tail n) e b)
+true_task-reserved l n z sound h = true_task-log_grows l (reserved l n) z (λ b _ f. full-pushed l.reservations (fresh l.tail n) b f)
+    (λ e b. boundary-push size_of l.start l.reservations (fresh l.tail n) e b)
     (λ e is. is_marked-append_fresh e l.tail n l.reservations ∙ is) (le_refl _) h
 
 -- Reserve
-pub reserve-sound : (s : SlotState) (me n : ℕ) → IsSound s → task_of me s.hands ≡ nothing → HasRoom s.log n → IsSound (record s { log = reserved s.log n; hands = with_task me (InRing None (Works s.log.tail)) s.hands })
+pub reserve-sound : (s : SlotState) (me n : ℕ) → IsSound s → task_of me s.hands ≡ nothing → HasRoom s.log n → IsSound
+    (record s { log = reserved s.log n; hands = with_task me (InRing None (Works s.log.tail)) s.hands })
 reserve-sound s me n sound is room = let tail = s.log.tail in let new : Task = InRing None (Works tail) in let free = tail-owner_nobody s sound in record {
   log = reserved-sound s.log n sound.log room;
   owner = put sound.owner tail (Actor me);
   works = works-put sound.owner me tail (Actor me) nothing new s.hands is sound.works
       (λ j ne. ap (is_actor j) free ∙ sym (is_actor-other_false j me ne)) (eq-eqb tail tail refl ∙ sym (eq-eqb me me refl)) (λ b ne. ne_eqb tail b (λ e. ne (sym e)));
   shares = shares-put_same_groups sound.owner tail (Actor me) s.groups sound.shares (λ q. ap (is_slot q) free);
-  owned = owned-put sound.owner tail (Actor me) s.log.reservations (s.log.reservations ++ fresh tail n ∷ []) sound.owned (ap is_open (fresh-found_at_tail s.log n sound.log)) (λ b ne. push-else b tail n s.log.reservations ne);
+  owned = owned-put sound.owner tail (Actor me) s.log.reservations (s.log.reservations ++ fresh tail n ∷ []) sound.owned (ap is_open
+      (fresh-found_at_tail s.log n sound.log)) (λ b ne. push-else b tail n s.log.reservations ne);
   links = links-turned me new s.hands s.groups sound.links (λ q l. let l' = subst (λ z. Link me q z (group_at q s.groups)) is l in record { joins = l'.joins; leads = l'.leads; told = tt });
-  groups = groups-turned_at_no_slot (s.log.ring / 4) me new s.hands s.groups s.log.reservations (s.log.reservations ++ fresh tail n ∷ []) sound.groups (λ q. ap (units_in q) (sym is)) (λ q b at. push-else b tail n s.log.reservations (placed_at-not_tail s q b sound at));
+  groups = groups-turned_at_no_slot (s.log.ring / 4) me new s.hands s.groups s.log.reservations (s.log.reservations ++ fresh tail n ∷ []) sound.groups
+      (λ q. ap (units_in q) (sym is)) (λ q b at. push-else b tail n s.log.reservations (placed_at-not_tail s q b sound at));
   tasks = with_task-each_actor (λ j z. IsTrueTask s.log z) (λ j z. IsTrueTask (reserved s.log n) z) me new s.hands sound.tasks tt (λ j z ne h. true_task-reserved s.log n z sound.log h);
-  carried = λ there. has_carrier-turned me new s.hands s.log.exposed (λ carries. absurd (subst (Carries s.log.exposed) is carries)) (sound.carried (sym (is_marked-append_fresh s.log.exposed s.log.tail n s.log.reservations) ∙ there));
+  carried = λ there. has_carrier-turned me new s.hands s.log.exposed (λ carries. absurd (subst (Carries s.log.exposed) is carries)) (sound.carried
+      (sym (is_marked-append_fresh s.log.exposed s.log.tail n s.log.reservations) ∙ there));
 }
 
 -- Mark, of one that works for itself, or for a slot
@@ -53,7 +60,8 @@ mark-sound s me q b sound is full =
       groups = groups-turned_at_no_slot (s.log.ring / 4) me new s.hands s.groups s.log.reservations (map (released_at b) s.log.reservations) sound.groups (λ k. ap (units_in k) (sym is))
           (λ k x at. marked-else s.log.reservations b x (actor_owned-not_placed s me k b x sound mine at));
       tasks = with_task-each_actor (λ j z. IsTrueTask s.log z) (λ j z. IsTrueTask (marked s.log b) z) me new s.hands sound.tasks tt
-          (λ j z ne h. true_task-log_grows s.log (marked s.log b) z (λ x _ f. full-marked s.log.reservations b x f) (λ e d. boundary-map size_of (released_at b) s.log.start s.log.reservations e (λ r. refl) d)
+          (λ j z ne h. true_task-log_grows s.log (marked s.log b) z (λ x _ f. full-marked s.log.reservations b x f) (λ e d. boundary-map size_of
+          (released_at b) s.log.start s.log.reservations e (λ r. refl) d)
           (λ e d. is_marked-released_at e b s.log.reservations d) (le_refl _) h);
       carried = λ there. carries-has_carrier me new s.hands s.log.exposed tt;
     }
@@ -71,7 +79,8 @@ unfilled-apart None left full = left
 unfilled-apart (Some r) left full = omega (arith, left, full)
 
 -- Fill, of one that works for itself: the range of a slot's group is full
-pub fill-sound : (s : SlotState) (me : ℕ) (q : Option ℕ) (b : ℕ) → IsSound s → task_of me s.hands ≡ InRing q (Works b) → IsSomeAnd (find (is_at b) s.log.reservations) HasUnfilled → IsSound (record s { log = filled s.log b })
+pub fill-sound : (s : SlotState) (me : ℕ) (q : Option ℕ) (b : ℕ) → IsSound s → task_of me s.hands ≡ InRing q (Works b) → IsSomeAnd (find (is_at b)
+    s.log.reservations) HasUnfilled → IsSound (record s { log = filled s.log b })
 fill-sound s me q b sound is unfilled =
     let mine = works_on-owner_actor s me b (InRing q (Works b)) sound is (eq-eqb b b refl) in record {
       log = filled-sound s.log b sound.log unfilled;
@@ -130,7 +139,8 @@ look_mark-sound s me q e sound is = by_test (is_marked e s.log.reservations) ref
       units = λ k. refl;
       held = tt;
       carries = λ there. has_carrier-turned me (InRing q Idle) s.hands s.log.exposed
-          (λ carries. let here : e ≡ s.log.exposed = subst (Carries s.log.exposed) is carries in absurd (true≢false (sym there ∙ (ap (λ p. is_marked p s.log.reservations) (sym here) ∙ none)))) (sound.carried there);
+          (λ carries. let here : e ≡ s.log.exposed = subst (Carries s.log.exposed) is carries in absurd (true≢false (sym there ∙ (ap
+          (λ p. is_marked p s.log.reservations) (sym here) ∙ none)))) (sound.carried there);
     }
 
 -- Raise

@@ -6,9 +6,12 @@ use Rattle.ring_core.specs.State.{base_in, looks_at, raises_from, worked_on}
 use Rattle.ring_core.specs.declared.event.RingEvent.{RingEvent}
 use Rattle.ring_core.specs.declared.event.RingEvent.TheVariants.{Reserve, Fill, Mark, LookExposed, LookMark, Raise, Flushed}
 use Rattle.slot_core.specs.State.{Stage, Idle, Works, Marked, Holds, Raises, Closes, Stores, Tells, Membership, InRing, Group, SlotState, row_of, task_of, with_task, membership, ring_stage, reopening}
-use Rattle.slot_core.specs.Machine.{GroupEvent, Join, Close, Place, PutBase, Tell, Hear, Release, Reopen, Ring, MayPlace, MayHear, MayFill, HasDone, IsRingEnabled, MayReopen, turned, in_ring, log_filled, after_fill, after_mark, after_look_mark, after_raise, ring_after, GroupStep, RunsGroups}
+use Rattle.slot_core.specs.Machine.{GroupEvent, Join, Close, Place, PutBase, Tell, Hear, Release, Reopen, Ring, MayPlace, MayHear, MayFill, HasDone}
+use Rattle.slot_core.specs.Machine.{IsRingEnabled, MayReopen, turned, in_ring, log_filled, after_fill, after_mark, after_look_mark, after_raise}
+use Rattle.slot_core.specs.Machine.{ring_after, GroupStep, RunsGroups}
 use Rattle.ring_core.specs.State.{Hand as RingHand, RingState, log_of, state, row_of as ring_row, stage_of, with_stage, in_hand}
-use Rattle.ring_core.specs.Machine.{IsEnabled as IsEnabledAlone, after_fill as fill_alone, after_mark as mark_alone, after_look_mark as look_mark_alone, after_raise as raise_alone, state_after as after_alone, RingStep, RunsRing}
+use Rattle.ring_core.specs.Machine.{IsEnabled as IsEnabledAlone, after_fill as fill_alone, after_mark as mark_alone}
+use Rattle.ring_core.specs.Machine.{after_look_mark as look_mark_alone, after_raise as raise_alone, state_after as after_alone, RingStep, RunsRing}
 use Rattle.ring_core.proofs.RangeLemmas.{found-base}
 use Rattle.slot_core.specs.RingPart.{hand_alone, with_groups, ring_events, IsNoJoin}
 use Rattle.slot_core.proofs.Runs.{run-unique}
@@ -38,11 +41,13 @@ module _ (gs : List Group) (r : RingState) where
   turn-alone : (l : RingLog) (j : ℕ) (z : Stage) → record { log = l; hands = with_task j (InRing None z) wide.hands; groups = gs } ≡ with_groups gs (state l (with_stage j z r.hands))
   turn-alone l j z = ap (λ hs. record { log = l; hands = hs; groups = gs }) (with-alone j z r.hands)
 
-  at-found : (P : Reservation → Type 0) (z : Stage) → IsSomeAnd (worked_on z r.reservations) P → (b : ℕ) × (q : Reservation) × (base_in z ≡ Some b) × (worked_on z r.reservations ≡ Some q) × (q.base ≡ b)
+  at-found : (P : Reservation → Type 0) (z : Stage) → IsSomeAnd (worked_on z r.reservations) P → (b : ℕ) × (q : Reservation) × (base_in z ≡ Some b) ×
+      (worked_on z r.reservations ≡ Some q) × (q.base ≡ b)
   at-found P Idle h = absurd h
   at-found P (Works b) h = by_found (find (is_at b) r.reservations) refl h
     where
-      by_found : (o : Option Reservation) → find (is_at b) r.reservations ≡ o → IsSomeAnd o P → (x : ℕ) × (q : Reservation) × (Some b ≡ Some x) × (find (is_at b) r.reservations ≡ Some q) × (q.base ≡ x)
+      by_found : (o : Option Reservation) → find (is_at b) r.reservations ≡ o → IsSomeAnd o P → (x : ℕ) × (q : Reservation) × (Some b ≡ Some x) ×
+          (find (is_at b) r.reservations ≡ Some q) × (q.base ≡ x)
       by_found None is h = absurd h
       by_found (Some q) is h = (b, q, refl, is, found-base b r.reservations q is)
   at-found P Marked h = absurd h
@@ -105,18 +110,60 @@ ring-step gs old mid event true s = (enabled_alone-enabled gs old event s.0, ap 
 ring-step gs old mid event false s = ((λ h. s.0 (enabled-enabled_alone gs old event h)), ap (with_groups gs) s.1)
 
 -- where nobody joins, this machine goes as the ring machine, whatever slot events are tried
-pub runs_ring-runs_groups : (gs : List Group) (old new : RingState) (events : List GroupEvent) → AllByRecursion IsNoJoin events → RunsRing old (ring_events events) new → RunsGroups (with_groups gs old) events (with_groups gs new)
+pub runs_ring-runs_groups : (gs : List Group) (old new : RingState) (events : List GroupEvent) → AllByRecursion IsNoJoin events → RunsRing old
+    (ring_events events) new → RunsGroups (with_groups gs old) events (with_groups gs new)
 runs_ring-runs_groups gs old new [] no_join run = ap (with_groups gs) run
 runs_ring-runs_groups gs old new (Join j k n ∷ es) no_join run = absurd no_join.0
-runs_ring-runs_groups gs old new (Close j ∷ es) no_join run = (false, with_groups gs old, ((λ h. no-member gs old (λ m. m.stage ≡ Closes) j h), refl), runs_ring-runs_groups gs old new es no_join.1 run)
-runs_ring-runs_groups gs old new (Place j x d ∷ es) no_join run = (false, with_groups gs old, ((λ h. no-member gs old (MayPlace (with_groups gs old) x d) j h), refl), runs_ring-runs_groups gs old new es no_join.1 run)
-runs_ring-runs_groups gs old new (PutBase j ∷ es) no_join run = (false, with_groups gs old, ((λ h. no-member gs old (λ m. m.stage ≡ Stores) j h), refl), runs_ring-runs_groups gs old new es no_join.1 run)
+runs_ring-runs_groups gs old new (Close j ∷ es) no_join run = (
+  false,
+  with_groups gs old,
+  ((λ h. no-member gs old (λ m. m.stage ≡ Closes) j h), refl),
+  runs_ring-runs_groups gs old new es no_join.1 run,
+)
+runs_ring-runs_groups gs old new (Place j x d ∷ es) no_join run = (
+  false,
+  with_groups gs old,
+  (
+    (λ h. no-member gs old (MayPlace (with_groups gs old)
+        x d) j h),
+    refl,
+  ),
+  runs_ring-runs_groups gs old new es no_join.1 run,
+)
+runs_ring-runs_groups gs old new (PutBase j ∷ es) no_join run = (
+  false,
+  with_groups gs old,
+  (
+    (λ h. no-member gs old (λ m. m.stage ≡ Stores) j h),
+    refl,
+  ),
+  runs_ring-runs_groups gs old new es no_join.1 run,
+)
 runs_ring-runs_groups gs old new (Tell j ∷ es) no_join run = (false, with_groups gs old, ((λ h. no-member gs old (λ m. m.stage ≡ Tells) j h), refl), runs_ring-runs_groups gs old new es no_join.1 run)
-runs_ring-runs_groups gs old new (Hear j ∷ es) no_join run = (false, with_groups gs old, ((λ h. no-member gs old (MayHear (with_groups gs old)) j h), refl), runs_ring-runs_groups gs old new es no_join.1 run)
-runs_ring-runs_groups gs old new (Release j ∷ es) no_join run = (false, with_groups gs old, ((λ h. no-member gs old (λ m. HasDone m.size m.stage) j h), refl), runs_ring-runs_groups gs old new es no_join.1 run)
+runs_ring-runs_groups gs old new (Hear j ∷ es) no_join run = (
+  false,
+  with_groups gs old,
+  (
+    (λ h. no-member gs old (MayHear (with_groups gs old)) j h),
+    refl,
+  ),
+  runs_ring-runs_groups gs old new es no_join.1 run,
+)
+runs_ring-runs_groups gs old new (Release j ∷ es) no_join run = (
+  false,
+  with_groups gs old,
+  (
+    (λ h. no-member gs old (λ m. HasDone m.size m.stage)
+        j h),
+    refl,
+  ),
+  runs_ring-runs_groups gs old new es no_join.1 run,
+)
 runs_ring-runs_groups gs old new (Reopen j ∷ es) no_join run = (false, with_groups gs old, ((λ h. no-reopening gs old j h), refl), runs_ring-runs_groups gs old new es no_join.1 run)
 runs_ring-runs_groups gs old new (Ring event ∷ es) no_join run = (run.0, with_groups gs run.1, ring-step gs old run.1 event run.0 run.2, runs_ring-runs_groups gs run.1 new es no_join.1 run.3)
 
 -- so both have the same log
-pub no_join-same_log : (gs : List Group) (old new : RingState) (t : SlotState) (events : List GroupEvent) → AllByRecursion IsNoJoin events → RunsRing old (ring_events events) new → RunsGroups (with_groups gs old) events t → t.log ≡ log_of new
-no_join-same_log gs old new t events no_join run slots = ap (λ (s : SlotState). s.log) (run-unique (with_groups gs old) events t (with_groups gs new) slots (runs_ring-runs_groups gs old new events no_join run))
+pub no_join-same_log : (gs : List Group) (old new : RingState) (t : SlotState) (events : List GroupEvent) → AllByRecursion IsNoJoin events
+    → RunsRing old (ring_events events) new → RunsGroups (with_groups gs old) events t → t.log ≡ log_of new
+no_join-same_log gs old new t events no_join run slots = ap (λ (s : SlotState). s.log) (run-unique (with_groups gs old) events t (with_groups gs new)
+    slots (runs_ring-runs_groups gs old new events no_join run))

@@ -12,7 +12,8 @@ pub task_of-at : (actor : ℕ) (hands : List Hand) (i : ℕ) (d : Hand) → posi
 task_of-at actor hands i d is = let at = position-Some (is_row_of actor) hands i d is in
     found_at (task_of actor) (is_row_of actor) (λ (h : Hand). h.task) nothing refl (λ _ _. refl) hands i d at.0 at.2 at.1
 
-with_task-index : (actor : ℕ) (task : Task) (hands : List Hand) (i : ℕ) (d : Hand) → i < length hands → is_row_of actor (get_or hands i d) ≡ true → ((k : ℕ) → k < i → is_row_of actor (get_or hands k d) ≡ false) → with_task actor task hands ≡ set hands i (row_of actor task)
+with_task-index : (actor : ℕ) (task : Task) (hands : List Hand) (i : ℕ) (d : Hand) → i < length hands → is_row_of actor (get_or hands i d) ≡ true →
+    ((k : ℕ) → k < i → is_row_of actor (get_or hands k d) ≡ false) → with_task actor task hands ≡ set hands i (row_of actor task)
 with_task-index actor task [] i d within is before = absurd (omega (arith, within))
 with_task-index actor task (h ∷ hands) zero d within is before = ap (λ b. cond b (row_of actor task ∷ hands) (h ∷ with_task actor task hands)) is
 with_task-index actor task (h ∷ hands) (suc i) d within is before =
@@ -39,7 +40,8 @@ with_task-absent actor task (h ∷ hands) all =
     ap (λ b. cond b (row_of actor task ∷ hands) (h ∷ with_task actor task hands)) all.0 ∙ ap (λ l. h ∷ l) (with_task-absent actor task hands all.1)
 
 -- a member, by the index of its entry
-without-index : (actor : ℕ) (ms : List Member) (i : ℕ) (d : Member) → i < length ms → is_of actor (get_or ms i d) ≡ true → ((k : ℕ) → k < i → is_of actor (get_or ms k d) ≡ false) → without actor ms ≡ remove ms i
+without-index : (actor : ℕ) (ms : List Member) (i : ℕ) (d : Member) → i < length ms → is_of actor (get_or ms i d) ≡ true → ((k : ℕ) → k < i
+    → is_of actor (get_or ms k d) ≡ false) → without actor ms ≡ remove ms i
 without-index actor [] i d within is before = absurd (omega (arith, within))
 without-index actor (m ∷ ms) zero d within is before = ap (λ b. cond b ms (m ∷ without actor ms)) is
 without-index actor (m ∷ ms) (suc i) d within is before =

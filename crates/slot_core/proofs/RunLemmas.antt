@@ -6,11 +6,16 @@ use Rattle.lsn_space.specs.declared.lsn.TheConstants.{LAST}
 use Rattle.ring_core.specs.RingLog.{Reservation, is_at, is_marked, HasRoom, HasUnfilled}
 use Rattle.ring_core.specs.State.{base_in, looks_at, worked_on, after_look}
 use Rattle.ring_core.specs.declared.event.RingEvent.TheVariants.{Fill, LookExposed, LookMark}
-use Rattle.slot_core.specs.State.{Stage, Idle, Works, Marked, Holds, Raises, Outcome, Granted, Refused, GroupPhase, Vacant, Gathering, Closed, Placed, Ready, Told, Emptied, MemberStage, Closes, Waits, Places, Stores, Tells, Fills, Leaves, Membership, Task, Joined, InRing, Group, SlotState, nothing, joined, task_of, membership, ring_stage, reopening, group, empty_group, group_at, without}
+use Rattle.slot_core.specs.State.{Stage, Idle, Works, Marked, Holds, Raises, Outcome, Granted, Refused, GroupPhase, Vacant, Gathering, Closed, Placed}
+use Rattle.slot_core.specs.State.{Ready, Told, Emptied, MemberStage, Closes, Waits, Places, Stores, Tells, Fills, Leaves, Membership, Task, Joined}
+use Rattle.slot_core.specs.State.{InRing, Group, SlotState, nothing, joined, task_of, membership, ring_stage, reopening, group, empty_group, group_at}
+use Rattle.slot_core.specs.State.{without}
 use Rattle.slot_core.specs.Members.{seats_of, ToPlace, ToReopen}
 use Rattle.slot_core.specs.Groups.{IsGathered}
 use Rattle.slot_core.specs.Laws.{IsSound}
-use Rattle.slot_core.specs.Machine.{Close, Place, PutBase, Tell, Hear, Release, Reopen, Ring, fits, closed_total, MayPlace, told_outcome, MayHear, HasUnfilledPiece, MayFill, HasDone, turned, moved, task_released, phase_released, at_stage, in_ring, after_lead, after_place, stage_heard, after_hear, granted_base, after_fill, after_release, after_look_mark, after_reopen}
+use Rattle.slot_core.specs.Machine.{Close, Place, PutBase, Tell, Hear, Release, Reopen, Ring, fits, closed_total, MayPlace, told_outcome, MayHear}
+use Rattle.slot_core.specs.Machine.{HasUnfilledPiece, MayFill, HasDone, turned, moved, task_released, phase_released, at_stage, in_ring, after_lead}
+use Rattle.slot_core.specs.Machine.{after_place, stage_heard, after_hear, granted_base, after_fill, after_release, after_look_mark, after_reopen}
 use Rattle.slot_parts.specs.Phases.{HasRemaining}
 use Rattle.slot_core.proofs.Hands.{nonempty_group-within}
 use Rattle.slot_core.proofs.Keeping.{placing, event-sound}
@@ -55,7 +60,8 @@ module _ (s : SlotState) (j : ℕ) (m : Membership) (sound : IsSound s) (is : me
   places-may_place h = record { places = h; tail_seen = le_refl _; durable_seen = le_refl _; present = λ _. refl }
 
   pub after_place-sound : m.stage ≡ Places → IsSound (after_place s j s.log.tail s.log.durable (Some m))
-  after_place-sound h = subst (λ o. IsSound (after_place s j s.log.tail s.log.durable o)) is (event-sound s (Place j s.log.tail s.log.durable) sound (enabled (MayPlace s s.log.tail s.log.durable) (places-may_place h)))
+  after_place-sound h = subst (λ o. IsSound (after_place s j s.log.tail s.log.durable o)) is (event-sound s (Place j s.log.tail s.log.durable) sound
+      (enabled (MayPlace s s.log.tail s.log.durable) (places-may_place h)))
 
   -- its group fits where the log has room for it
   pub room-fits : (t : ℕ) → HasRoom s.log t → fits s.log t s.log.tail s.log.durable ≡ true
@@ -65,7 +71,8 @@ module _ (s : SlotState) (j : ℕ) (m : Membership) (sound : IsSound s) (is : me
       both a b = a && b
 
   -- placed by the present numbers, whether the group fits or not
-  place-either : (t : ℕ) (b : Bool) → m.stage ≡ Places → t ≡ closed_total (group_at m.slot s.groups).phase → fits s.log t s.log.tail s.log.durable ≡ b → placing s j s.log.tail s.log.durable m t b ≡ after_place s j s.log.tail s.log.durable (Some m)
+  place-either : (t : ℕ) (b : Bool) → m.stage ≡ Places → t ≡ closed_total (group_at m.slot s.groups).phase → fits s.log t s.log.tail s.log.durable ≡ b
+      → placing s j s.log.tail s.log.durable m t b ≡ after_place s j s.log.tail s.log.durable (Some m)
   place-either t b h total fit = ap (placing s j s.log.tail s.log.durable m t) (sym fit) ∙ ap (λ n. placing s j s.log.tail s.log.durable m n (fits s.log n s.log.tail s.log.durable)) total
 
   pub after_hear-sound : (o : Outcome) → m.stage ≡ Waits → told_outcome (group_at m.slot s.groups).phase ≡ Some o → IsSound (turned s j (at_stage (stage_heard (Some o)) m))
@@ -126,12 +133,18 @@ module _ (s : SlotState) (j : ℕ) (m : Membership) (sound : IsSound s) (is : me
       by_phase (Emptied l) p = tt
 
   -- a member that fills has heard where the range is, and a unit of it is not yet filled
-  pub unfilled_piece-granted_base : HasUnfilledPiece m.size m.stage → (b : ℕ) × (granted_base (told_outcome (group_at m.slot s.groups).phase) ≡ Some b) × IsSomeAnd (find (is_at b) s.log.reservations) HasUnfilled
+  pub unfilled_piece-granted_base : HasUnfilledPiece m.size m.stage → (b : ℕ) × (granted_base (told_outcome (group_at m.slot s.groups).phase)
+      ≡ Some b) × IsSomeAnd (find (is_at b) s.log.reservations) HasUnfilled
   unfilled_piece-granted_base h = by_stage m.stage refl h
     where
-      by_stage : (st : MemberStage) → m.stage ≡ st → HasUnfilledPiece m.size st → (b : ℕ) × (granted_base (told_outcome (group_at m.slot s.groups).phase) ≡ Some b) × IsSomeAnd (find (is_at b) s.log.reservations) HasUnfilled
-      by_stage (Fills f) st less = let here = at ∙ ap (joined m.slot m.offset m.size) st in let x = fills-told_granted s j m.slot m.offset m.size f sound here in
-          (x.1, ap (λ p. granted_base (told_outcome p)) x.3, unfilled_piece-unfilled_range s j m.slot m.offset m.size f x.0 x.1 x.2 (group_at m.slot s.groups).members sound here (omega (arith, less)) (group_at-with_phase s m.slot (Told x.0 (Granted x.1) x.2) x.3))
+      by_stage : (st : MemberStage) → m.stage ≡ st → HasUnfilledPiece m.size st → (b : ℕ) × (granted_base (told_outcome
+          (group_at m.slot s.groups).phase) ≡ Some b) × IsSomeAnd (find (is_at b) s.log.reservations) HasUnfilled
+      by_stage (Fills f) st less = let here = at ∙ ap (joined m.slot m.offset m.size) st in let x = fills-told_granted s j m.slot m.offset m.size f sound here in (
+        x.1,
+        ap (λ p. granted_base (told_outcome p)) x.3,
+        unfilled_piece-unfilled_range s j m.slot m.offset m.size f x.0 x.1 x.2
+            (group_at m.slot s.groups).members sound here (omega (arith, less)) (group_at-with_phase s m.slot (Told x.0 (Granted x.1) x.2) x.3),
+      )
       by_stage Closes st less = absurd less
       by_stage Waits st less = absurd less
       by_stage Places st less = absurd less
@@ -140,10 +153,12 @@ module _ (s : SlotState) (j : ℕ) (m : Membership) (sound : IsSound s) (is : me
       by_stage Leaves st less = absurd less
 
   -- what the program makes of a group that has room, and of one that has none
-  pub placing_granted-after_place : (t : ℕ) → m.stage ≡ Places → t ≡ closed_total (group_at m.slot s.groups).phase → HasRoom s.log t → placing s j s.log.tail s.log.durable m t true ≡ after_place s j s.log.tail s.log.durable (Some m)
+  pub placing_granted-after_place : (t : ℕ) → m.stage ≡ Places → t ≡ closed_total (group_at m.slot s.groups).phase → HasRoom s.log t
+      → placing s j s.log.tail s.log.durable m t true ≡ after_place s j s.log.tail s.log.durable (Some m)
   placing_granted-after_place t h total room = place-either t true h total (room-fits t room)
 
-  pub placing_refused-after_place : (t : ℕ) → m.stage ≡ Places → t ≡ closed_total (group_at m.slot s.groups).phase → ¬ HasRoom s.log t → placing s j s.log.tail s.log.durable m t false ≡ after_place s j s.log.tail s.log.durable (Some m)
+  pub placing_refused-after_place : (t : ℕ) → m.stage ≡ Places → t ≡ closed_total (group_at m.slot s.groups).phase → ¬ HasRoom s.log t
+      → placing s j s.log.tail s.log.durable m t false ≡ after_place s j s.log.tail s.log.durable (Some m)
   placing_refused-after_place t h total full = place-either t false h total (no_room-not_fits t h total full)
 
   -- what it writes of a group that has none
@@ -189,7 +204,8 @@ worked_on-find (Raises e) b rs is = absurd (cc)
 pub after_look_exposed-sound : (s : SlotState) (j : ℕ) → IsSound s → ring_stage (task_of j s.hands) ≡ Marked → IsSound (turned s j (in_ring (Holds s.log.exposed) (task_of j s.hands)))
 after_look_exposed-sound s j sound is = event-sound s (Ring (LookExposed j)) sound is
 
-pub after_look_mark-sound : (s : SlotState) (j e : ℕ) → IsSound s → looks_at (ring_stage (task_of j s.hands)) ≡ Some e → IsSound (turned s j (in_ring (cond (is_marked e s.log.reservations) (Raises e) Idle) (task_of j s.hands)))
+pub after_look_mark-sound : (s : SlotState) (j e : ℕ) → IsSound s → looks_at (ring_stage (task_of j s.hands)) ≡ Some e → IsSound (turned s j (in_ring
+    (cond (is_marked e s.log.reservations) (Raises e) Idle) (task_of j s.hands)))
 after_look_mark-sound s j e sound is = subst (λ o. IsSound (after_look_mark s j (task_of j s.hands) o)) is (event-sound s (Ring (LookMark j)) sound (ap is_some is))
 
 -- what the program writes, over s, which stands for the state now, where the range at e is looked at

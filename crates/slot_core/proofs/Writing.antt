@@ -6,13 +6,17 @@ use Rattle.std.specs.Option.{is_some}
 use Rattle.ring_core.specs.RingLog.{RingLog, is_at, HasRoom, reserved, HasUnfilled, filled, IsFull, marked, raised, MayFlush, flushed}
 use Rattle.ring_core.specs.State.{base_in, raises_from}
 use Rattle.ring_core.specs.declared.event.RingEvent.TheVariants.{Reserve, Mark, Raise, Flushed}
-use Rattle.slot_core.specs.State.{Stage, Idle, Works, Marked, Holds, Raises, Granted, GroupPhase, Placed, Places, Stores, Membership, Task, Joined, InRing, Hand, Group, SlotState, nothing, task_of, with_task, membership, ring_stage, reopening, group, empty_group, group_at}
+use Rattle.slot_core.specs.State.{Stage, Idle, Works, Marked, Holds, Raises, Granted, GroupPhase, Placed, Places, Stores, Membership, Task, Joined}
+use Rattle.slot_core.specs.State.{InRing, Hand, Group, SlotState, nothing, task_of, with_task, membership, ring_stage, reopening, group, empty_group}
+use Rattle.slot_core.specs.State.{group_at}
 use Rattle.slot_core.specs.Laws.{IsSound}
-use Rattle.slot_core.specs.Machine.{Join, Ring, MayJoin, closed_total, told_outcome, HasUnfilledPiece, IsRingEnabled, at_stage, in_ring, task_joined, group_joined, after_join, stage_filled, log_filled, granted_base, after_fill, after_mark, after_raise}
+use Rattle.slot_core.specs.Machine.{Join, Ring, MayJoin, closed_total, told_outcome, HasUnfilledPiece, IsRingEnabled, at_stage, in_ring, task_joined}
+use Rattle.slot_core.specs.Machine.{group_joined, after_join, stage_filled, log_filled, granted_base, after_fill, after_mark, after_raise}
 use Rattle.slot_core.proofs.Keeping.{event-sound}
 use Rattle.slot_core.proofs.Ring.{fill-sound}
 use Rattle.slot_core.proofs.RowLemmas.{group-read}
-use Rattle.slot_core.proofs.RunLemmas.{worked_on-find, after_place-sound, after_fill-sound, unfilled_piece-granted_base, placing_granted-after_place, opener_slot-within, opener_slot-no_members, after_reopen-sound}
+use Rattle.slot_core.proofs.RunLemmas.{worked_on-find, after_place-sound, after_fill-sound, unfilled_piece-granted_base, placing_granted-after_place}
+use Rattle.slot_core.proofs.RunLemmas.{opener_slot-within, opener_slot-no_members, after_reopen-sound}
 
 -- it writes over s, which stands for the state now
 module _ (now s : SlotState) (is : s ≡ now) (sound : IsSound s) (j : ℕ) where
@@ -20,7 +24,11 @@ module _ (now s : SlotState) (is : s ≡ now) (sound : IsSound s) (j : ℕ) wher
   back : (P : SlotState → Type 0) → P now → P s
   back P h = subst P (sym is) h
 
-  written : (l l' : RingLog) (hs hs' : List Hand) (gs gs' : List Group) → l ≡ l' → hs ≡ hs' → gs ≡ gs' → IsSound (record { log = l'; hands = hs'; groups = gs' }) → IsSound (record { log = l; hands = hs; groups = gs })
+  written : (l l' : RingLog) (hs hs' : List Hand) (gs gs' : List Group) → l ≡ l' → hs ≡ hs' → gs ≡ gs' → IsSound (record {
+    log = l';
+    hands = hs';
+    groups = gs';
+  }) → IsSound (record { log = l; hands = hs; groups = gs })
   written l l' hs hs' gs gs' a b d h = subst IsSound (λ i. record { log = (sym a) i; hands = (sym b) i; groups = (sym d) i }) h
 
   -- the group that the program finds at a slot of the machine's
@@ -42,7 +50,8 @@ module _ (now s : SlotState) (is : s ≡ now) (sound : IsSound s) (j : ℕ) wher
     pub written_join-sound : IsSound (record s { hands = hs'; groups = set s.groups k g' })
     written_join-sound = subst IsSound (sym written_join-after_join) (event-sound s (Join j k n) sound (back (λ z. MayJoin z j k n) may))
 
-  pub written_reserve-sound : (n base : ℕ) (l : RingLog) (hs : List Hand) → IsRingEnabled now (Reserve j n) → base ≡ s.log.tail → l ≡ reserved s.log n → hs ≡ with_task j (InRing None (Works base)) s.hands → IsSound (record s { log = l; hands = hs })
+  pub written_reserve-sound : (n base : ℕ) (l : RingLog) (hs : List Hand) → IsRingEnabled now (Reserve j n) → base ≡ s.log.tail → l ≡ reserved s.log n
+      → hs ≡ with_task j (InRing None (Works base)) s.hands → IsSound (record s { log = l; hands = hs })
   written_reserve-sound n base l hs may tail log hands = written l _ hs _ s.groups s.groups log (hands ∙ ap (λ b. with_task j (InRing None (Works b)) s.hands) tail) refl
       (event-sound s (Ring (Reserve j n)) sound (back (λ z. IsRingEnabled z (Reserve j n)) may))
 
@@ -50,7 +59,8 @@ module _ (now s : SlotState) (is : s ≡ now) (sound : IsSound s) (j : ℕ) wher
       → hs ≡ with_task j (in_ring Marked (task_of j now.hands)) s.hands → IsSound (record s { log = l; hands = hs })
   written_mark-sound b l hs base full log hands = let here = back (λ z. base_in (ring_stage (task_of j z.hands)) ≡ Some b) base in
       written l _ hs _ s.groups s.groups log (hands ∙ ap (λ (z : SlotState). with_task j (in_ring Marked (task_of j z.hands)) s.hands) (sym is)) refl
-      (subst (λ o. IsSound (after_mark s j (task_of j s.hands) o)) here (event-sound s (Ring (Mark j)) sound (subst (λ o. IsSomeAnd o IsFull) (sym (worked_on-find (ring_stage (task_of j s.hands)) b s.log.reservations here)) full)))
+      (subst (λ o. IsSound (after_mark s j (task_of j s.hands) o)) here (event-sound s (Ring (Mark j)) sound (subst (λ o. IsSomeAnd o IsFull) (sym
+      (worked_on-find (ring_stage (task_of j s.hands)) b s.log.reservations here)) full)))
 
   pub written_raise-after_raise : (e to : ℕ) (l : RingLog) (hs : List Hand) → raises_from (ring_stage (task_of j now.hands)) ≡ Some e → l ≡ raised s.log e → to ≡ l.exposed
       → hs ≡ with_task j (in_ring (Holds to) (task_of j now.hands)) s.hands → record s { log = l; hands = hs } ≡ after_raise s j (task_of j s.hands) (raises_from (ring_stage (task_of j s.hands)))
@@ -103,13 +113,15 @@ module _ (now s : SlotState) (is : s ≡ now) (sound : IsSound s) (j : ℕ) wher
         written s.log s.log hs _ (set s.groups k g) _ refl (hands ∙ ap (λ x. with_task j x s.hands) is_none) (ap (set s.groups k) group')
         (after_reopen-sound s j k sound idle-s opens-s)
 
-  pub written_grant-sound : (m : Membership) (t base : ℕ) (l : RingLog) (hs : List Hand) (g : Group) → task_of j now.hands ≡ Joined m → m.stage ≡ Places → t ≡ closed_total (group_at m.slot now.groups).phase → HasRoom now.log t
+  pub written_grant-sound : (m : Membership) (t base : ℕ) (l : RingLog) (hs : List Hand) (g : Group) → task_of j now.hands ≡ Joined m → m.stage
+      ≡ Places → t ≡ closed_total (group_at m.slot now.groups).phase → HasRoom now.log t
       → base ≡ s.log.tail → l ≡ reserved s.log t → hs ≡ with_task j (at_stage Stores m) s.hands → g ≡ group (group_at m.slot s.groups).members (Placed j t (Granted base))
       → IsSound (record { log = l; hands = hs; groups = set s.groups m.slot g })
   written_grant-sound m t base l hs g at h total room tail log hands group' =
       let member = ap membership (back (λ z. task_of j z.hands ≡ Joined m) at) in
       written l _ hs _ (set s.groups m.slot g) _ log hands (ap (set s.groups m.slot) (group' ∙ ap (λ b. group (group_at m.slot s.groups).members (Placed j t (Granted b))) tail))
-      (subst IsSound (sym (placing_granted-after_place s j m sound member t h (back (λ z. t ≡ closed_total (group_at m.slot z.groups).phase) total) (back (λ z. HasRoom z.log t) room))) (after_place-sound s j m sound member h))
+      (subst IsSound (sym (placing_granted-after_place s j m sound member t h (back (λ z. t ≡ closed_total (group_at m.slot z.groups).phase) total)
+      (back (λ z. HasRoom z.log t) room))) (after_place-sound s j m sound member h))
 
   -- a member's piece, which has a unit left
   module _ (m : Membership) (at : task_of j now.hands ≡ Joined m) (unfilled : HasUnfilledPiece m.size m.stage) where
@@ -122,7 +134,8 @@ module _ (now s : SlotState) (is : s ≡ now) (sound : IsSound s) (j : ℕ) wher
     pub unfilled_piece-base_granted : granted_base (told_outcome (group_at m.slot now.groups).phase) ≡ None → ⊥
     unfilled_piece-base_granted none = let here = back (λ z. granted_base (told_outcome (group_at m.slot z.groups).phase) ≡ None) none in let two : Some has-base.0 ≡ None = sym has-base.1 ∙ here in cc
 
-    pub written_piece-after_fill : (b : ℕ) (taken : Bool) (l : RingLog) (hs : List Hand) → granted_base (told_outcome (group_at m.slot now.groups).phase) ≡ Some b → IsTrue taken ↔ IsSomeAnd (find (is_at b) s.log.reservations) HasUnfilled
+    pub written_piece-after_fill : (b : ℕ) (taken : Bool) (l : RingLog) (hs : List Hand) → granted_base (told_outcome
+        (group_at m.slot now.groups).phase) ≡ Some b → IsTrue taken ↔ IsSomeAnd (find (is_at b) s.log.reservations) HasUnfilled
         → OnTrue taken (l ≡ filled s.log b) → hs ≡ with_task j (at_stage (stage_filled m.stage) m) s.hands → record s { log = l; hands = hs } ≡ after_fill s j (Joined m)
     written_piece-after_fill b true l hs base may done hands = let here = back (λ z. granted_base (told_outcome (group_at m.slot z.groups).phase) ≡ Some b) base in
         λ i. record s { log = (done ∙ ap (log_filled s.log) (sym here)) i; hands = hands i }
@@ -130,6 +143,7 @@ module _ (now s : SlotState) (is : s ≡ now) (sound : IsSound s) (j : ℕ) wher
         let two : Some has-base.0 ≡ Some b = sym has-base.1 ∙ here in let same : has-base.0 ≡ b = cc in
         absurd (true≢false (sym (may.1 (subst (λ n. IsSomeAnd (find (is_at n) s.log.reservations) HasUnfilled) same has-base.2))))
 
-    pub written_piece-sound : (b : ℕ) (taken : Bool) (l : RingLog) (hs : List Hand) → granted_base (told_outcome (group_at m.slot now.groups).phase) ≡ Some b → IsTrue taken ↔ IsSomeAnd (find (is_at b) s.log.reservations) HasUnfilled
+    pub written_piece-sound : (b : ℕ) (taken : Bool) (l : RingLog) (hs : List Hand) → granted_base (told_outcome (group_at m.slot now.groups).phase)
+        ≡ Some b → IsTrue taken ↔ IsSomeAnd (find (is_at b) s.log.reservations) HasUnfilled
         → OnTrue taken (l ≡ filled s.log b) → hs ≡ with_task j (at_stage (stage_filled m.stage) m) s.hands → IsSound (record s { log = l; hands = hs })
     written_piece-sound b taken l hs base may done hands = subst IsSound (sym (written_piece-after_fill b taken l hs base may done hands)) (after_fill-sound s j m sound (ap membership at-s) unfilled)

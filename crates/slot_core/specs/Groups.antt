@@ -3,7 +3,8 @@ use Rattle.std.specs.Prelude.{◌≡◌, ℕ, ◌==◌, ◌+◌, ◌≤◌, cond
 use Rattle.std.specs.List.{find}
 use Rattle.lsn_space.specs.declared.lsn.TheConstants.{LAST}
 use Rattle.ring_core.specs.RingLog.{Reservation, is_at}
-use Rattle.slot_core.specs.State.{Outcome, Granted, Refused, GroupPhase, Vacant, Gathering, Closed, Placed, Ready, Told, Emptied, MemberStage, Closes, Waits, Places, Stores, Tells, Fills, Leaves, Task, Joined, InRing, Hand, Member, Group, task_of, group_at}
+use Rattle.slot_core.specs.State.{Outcome, Granted, Refused, GroupPhase, Vacant, Gathering, Closed, Placed, Ready, Told, Emptied, MemberStage, Closes}
+use Rattle.slot_core.specs.State.{Waits, Places, Stores, Tells, Fills, Leaves, Task, Joined, InRing, Hand, Member, Group, task_of, group_at}
 
 -- units that a member at this stage has filled of its piece
 abbrev pub units_at : MemberStage → ℕ

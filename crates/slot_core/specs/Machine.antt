@@ -8,7 +8,9 @@ use Rattle.ring_core.specs.declared.event.RingEvent.TheVariants.{Reserve, Fill, 
 use Rattle.slot_parts.specs.declared.task.TheConstants.{LONGEST_PIECE}
 pub use Rattle.slot_parts.specs.Tasks.{HasUnfilledPiece, HasDone, next_stage, stage_heard, stage_filled, at_stage, in_ring, task_emptying}
 pub use Rattle.slot_parts.specs.Phases.{HasPlace, gathered, stage_joined, task_joined, phase_joined, closed_total, next_phase, told_outcome, granted_base, phase_released, task_released}
-use Rattle.slot_core.specs.State.{Idle, Works, Marked, Holds, Granted, Refused, Placed, MemberStage, Closes, Waits, Places, Stores, Tells, Membership, Task, Joined, InRing, Group, SlotState, nothing, task_of, with_task, membership, ring_stage, reopening, member, group, empty_group, group_at, without}
+use Rattle.slot_core.specs.State.{Idle, Works, Marked, Holds, Granted, Refused, Placed, MemberStage, Closes, Waits, Places, Stores, Tells, Membership}
+use Rattle.slot_core.specs.State.{Task, Joined, InRing, Group, SlotState, nothing, task_of, with_task, membership, ring_stage, reopening, member}
+use Rattle.slot_core.specs.State.{group, empty_group, group_at, without}
 
 -- one atomic action. A leader judges whether its group has room by this tail and this durable
 pub data GroupEvent : Type 0 where

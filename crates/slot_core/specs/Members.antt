@@ -1,6 +1,7 @@
 -- What ties the actors to the groups at the slots: who is a member, who makes a slot's next step, and what was heard.
 use Rattle.std.specs.Prelude.{◌≡◌, ℕ, ◌==◌, cond, Bool, List, [], ◌∷◌, Option, Some, None}
-use Rattle.slot_core.specs.State.{Outcome, Granted, Refused, GroupPhase, Vacant, Gathering, Closed, Placed, Ready, Told, Emptied, MemberStage, Closes, Waits, Places, Stores, Tells, Fills, Leaves, Task, Joined, InRing, Hand, Member, Group, task_of, group_at}
+use Rattle.slot_core.specs.State.{Outcome, Granted, Refused, GroupPhase, Vacant, Gathering, Closed, Placed, Ready, Told, Emptied, MemberStage, Closes}
+use Rattle.slot_core.specs.State.{Waits, Places, Stores, Tells, Fills, Leaves, Task, Joined, InRing, Hand, Member, Group, task_of, group_at}
 
 -- g of those with f, in order
 abbrev pub picked : {A : Type 0} {B : Type 0} → (A → Bool) → (A → B) → List A → List B

@@ -5,7 +5,9 @@ use Rattle.ring_core.specs.declared.event.RingEvent.TheVariants.{Reserve}
 use Rattle.slot_core.specs.State.{Membership, SlotState, task_of, membership, group_at}
 use Rattle.slot_core.specs.Machine.{GroupEvent, Join, Close, Place, PutBase, Tell, Hear, Release, Reopen, Ring, MayJoin, fits, closed_total, IsEnabled, IsRingEnabled}
 use Rattle.slot_core.specs.declared.event.SlotEvent.{SlotEvent}
-use Rattle.slot_core.specs.declared.event.SlotEvent.TheVariants.{Join as Joining, Close as Closing, Place as Placing, PutBase as PuttingBase, Tell as Telling, Hear as Hearing, Release as Releasing, Reopen as Reopening, Ring as InRingMachine}
+use Rattle.slot_core.specs.declared.event.SlotEvent.TheVariants.{Join as Joining, Close as Closing, Place as Placing, PutBase as PuttingBase}
+use Rattle.slot_core.specs.declared.event.SlotEvent.TheVariants.{Tell as Telling, Hear as Hearing, Release as Releasing, Reopen as Reopening}
+use Rattle.slot_core.specs.declared.event.SlotEvent.TheVariants.{Ring as InRingMachine}
 use Rattle.slot_core.specs.declared.run.SlotRun.TheInside.{Inside}
 
 -- the machine's state

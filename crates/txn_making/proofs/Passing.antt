@@ -1,5 +1,6 @@
 -- The legs of a transfer, one after another.
-use Rattle.std.proofs.Common.{◌≡◌, ◌==◌, inl, inr, ℕ, ◌+◌, ◌-◌, ◌<◌, ◌≤◌, cond, true, false, pos, neg_ℤ, List, [], ◌∷◌, ◌++◌, length, get_or, take, drop, map, All, Contains, refl, sym, ap, ◌∙◌, subst, arith, lt-ltb, le-ltb, eq-eqb}
+use Rattle.std.proofs.Common.{◌≡◌, ◌==◌, inl, inr, ℕ, ◌+◌, ◌-◌, ◌<◌, ◌≤◌, cond, true, false, pos, neg_ℤ, List, [], ◌∷◌, ◌++◌, length, get_or, take}
+use Rattle.std.proofs.Common.{drop, map, All, Contains, refl, sym, ap, ◌∙◌, subst, arith, lt-ltb, le-ltb, eq-eqb}
 use Rattle.std.specs.List.{AllZip, AllByRecursion}
 use Rattle.std.proofs.lemmas.Bool.{or_left, or_right, cond-true, cond-false}
 use Rattle.std.proofs.lemmas.List.{drop_more, drop_all, take_all, get_or-map, length-map}

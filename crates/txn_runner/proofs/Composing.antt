@@ -38,7 +38,8 @@ use Rattle.txn_making.proofs.Adding.{LieInOrder-weaken_to, LieInOrder-weaken_fro
 use Rattle.txn_making.proofs.Gaining.{IsKnown-all}
 use Rattle.txn_runner.proofs.PlanLemmas.{planned_records-not_empty}
 use Rattle.txn_runner.specs.Stages.{HasTakenJob, MayMakeTransfer}
-use Rattle.txn_making.proofs.Held.{IsStrictlyIncreasing-distinct, AreDistinct-same, given_behind-contains, given_behind-all, given_behind-append, map_account_of-same, all_taken-same, HoldsTaken-held_behind, HoldsTaken-first}
+use Rattle.txn_making.proofs.Held.{IsStrictlyIncreasing-distinct, AreDistinct-same, given_behind-contains, given_behind-all, given_behind-append}
+use Rattle.txn_making.proofs.Held.{map_account_of-same, all_taken-same, HoldsTaken-held_behind, HoldsTaken-first}
 
 -- every account of a job that the table allows is one of the table's
 pub IsAccountOf-below : (accounts : ℕ) (legs : List (ℕ × ℕ × ℕ)) (list : List ℕ) → AllByRecursion (IsAllowedLeg accounts) legs

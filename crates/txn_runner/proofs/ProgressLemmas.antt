@@ -1,6 +1,7 @@
 -- A worker's progress, from the places `start` that it took before. `first` and `rows_first` are its seat's view and its rows then, `old` and
 -- `rows_old` those before one transfer, `new` and `rows_new` those behind it.
-use Rattle.std.proofs.Common.{◌≡◌, ◌∙◌, ℕ, ◌+◌, ◌≤◌, Bool, Option, None, Some, Result, Ok, Err, IfNone, IfSome, IfOk, IfErr, List, [], ◌∷◌, ◌++◌, length, refl, sym, ap, subst, arith, length-append, append-nil, append_assoc}
+use Rattle.std.proofs.Common.{◌≡◌, ◌∙◌, ℕ, ◌+◌, ◌≤◌, Bool, Option, None, Some, Result, Ok, Err, IfNone, IfSome, IfOk, IfErr, List, [], ◌∷◌, ◌++◌}
+use Rattle.std.proofs.Common.{length, refl, sym, ap, subst, arith, length-append, append-nil, append_assoc}
 use Rattle.log_record.specs.declared.rec.Rec.{Rec}
 use Rattle.lock_core.specs.declared.job.Job.{Job}
 use Rattle.log_rule.specs.declared.view.View.{View}

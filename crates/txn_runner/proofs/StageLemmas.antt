@@ -27,7 +27,9 @@ use Rattle.txn_making.specs.Holdings.{taken_of, given_behind, holding_all, with_
 use Rattle.txn_making.specs.Inserts.{Adds, IsCutOff, StopsFor}
 use Rattle.txn_runner.specs.Running.{GaveBack, HasRun, HasCut}
 use Rattle.txn_runner.specs.Stages.{HasTakenJob, HasNextJob, MayMakeTransfer, TakesAccounts, MayEndTransfer, GivesAll, LetsGo, IsRowOf, HasRunTaken, HasCutTaken, MakesTaken, IsCutEarly}
-use Rattle.txn_runner.proofs.Composing.{Keeps, IsGivenFrom, TakesAll-may_make_transfer, IsKnown-paid, HoldsAll-paid, GaveBack-given_behind, has-inserted, IsGivenFrom-uncommitted, HasCut-rest_left, HasCut-waiting, HasCut-none_inserted, EndsTransfer-has_run, StopsFor-with_held}
+use Rattle.txn_runner.proofs.Composing.{Keeps, IsGivenFrom, TakesAll-may_make_transfer, IsKnown-paid, HoldsAll-paid, GaveBack-given_behind}
+use Rattle.txn_runner.proofs.Composing.{has-inserted, IsGivenFrom-uncommitted, HasCut-rest_left, HasCut-waiting, HasCut-none_inserted}
+use Rattle.txn_runner.proofs.Composing.{EndsTransfer-has_run, StopsFor-with_held}
 use Rattle.txn_parts.specs.Stops.{HasSeen}
 use Rattle.txn_making.proofs.Trying.{Becomes-has_entries}
 use Rattle.txn_making.proofs.GivenLemmas.{KeepsGiven-same, KeepsGiven-trans}

@@ -1,5 +1,6 @@
 -- Texts of scripts.
-use Rattle.std.proofs.Common.{◌≡◌, ◌<◌, ◌^◌, ◌∙◌, sym, refl, ap, subst, inl, inr, ℕ, suc, ◌+◌, ◌==◌, false, List, [], ◌∷◌, ◌++◌, append_assoc, append-nil, length, map, drop, get_or, arith, All, ⊎_elim}
+use Rattle.std.proofs.Common.{◌≡◌, ◌<◌, ◌^◌, ◌∙◌, sym, refl, ap, subst, inl, inr, ℕ, suc, ◌+◌, ◌==◌, false, List, [], ◌∷◌, ◌++◌, append_assoc}
+use Rattle.std.proofs.Common.{append-nil, length, map, drop, get_or, arith, All, ⊎_elim}
 use Rattle.std.proofs.lemmas.Bool.{ne_eqb, eqb-false}
 use Rattle.std.proofs.lemmas.List.{map_push}
 use Rattle.std.proofs.lemmas.List.Elements.{All-nil, All-cons, All-head, All-tail, filter-append}

@@ -1,5 +1,6 @@
 -- How nodes are searched, and what a node more, or another value of one, makes of them.
-use Rattle.std.proofs.Common.{◌≡◌, ◌≢◌, ◌<◌, ◌≤◌, ◌⊎◌, ⊎_elim, inl, inr, ◌==◌, ◌/◌, ◌%◌, ◌+◌, ◌-◌, ℕ, zero, suc, cond, Some, None, List, [], ◌∷◌, ◌++◌, length, set, get_or, refl, ap, ◌∙◌, sym, subst, arith, eq-eqb, ne_eqb}
+use Rattle.std.proofs.Common.{◌≡◌, ◌≢◌, ◌<◌, ◌≤◌, ◌⊎◌, ⊎_elim, inl, inr, ◌==◌, ◌/◌, ◌%◌, ◌+◌, ◌-◌, ℕ, zero, suc, cond, Some, None, List, [], ◌∷◌}
+use Rattle.std.proofs.Common.{◌++◌, length, set, get_or, refl, ap, ◌∙◌, sym, subst, arith, eq-eqb, ne_eqb}
 use Rattle.std.proofs.Math.Logic.{⊎_map}
 use mathlib.Core.Logic.{dite}
 use native.Mathlib.Decide.{ℕ_discrete}

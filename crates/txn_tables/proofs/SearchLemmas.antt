@@ -1,5 +1,6 @@
 -- What a search finds, and what is kept after a put.
-use Rattle.std.proofs.Common.{◌≡◌, ◌≢◌, ◌<◌, ◌≤◌, ◌==◌, ◌/◌, ◌%◌, ◌+◌, ◌-◌, ℕ, suc, Bool, cond, Option, Some, None, List, [], ◌∷◌, ◌++◌, length, set, get_or, refl, ap, ◌∙◌, sym, subst, arith, eq-eqb, ne_eqb, length-append}
+use Rattle.std.proofs.Common.{◌≡◌, ◌≢◌, ◌<◌, ◌≤◌, ◌==◌, ◌/◌, ◌%◌, ◌+◌, ◌-◌, ℕ, suc, Bool, cond, Option, Some, None, List, [], ◌∷◌, ◌++◌, length, set}
+use Rattle.std.proofs.Common.{get_or, refl, ap, ◌∙◌, sym, subst, arith, eq-eqb, ne_eqb, length-append}
 use Rattle.std.proofs.lemmas.List.{get_or_default, get_or_append_left}
 use mathlib.Core.Logic.{dite}
 use native.Mathlib.Decide.{ℕ_discrete}
@@ -12,7 +13,8 @@ use Rattle.txn_tables.specs.Nodes.{ahead, Links, LeadInside, node_value, Comes, 
 use Rattle.txn_tables.specs.Rows.{number_at, PutsNumber}
 use Rattle.txn_tables.specs.Roots.{root_of, BeginInside}
 use Rattle.txn_tables.specs.Searches.{IsEnd}
-use Rattle.txn_tables.proofs.NodeLemmas.{value-nowhere, value-found, value-ended, Comes-start, Comes-step, LeadInside-leads, value-set-own, value-set-other, value-last, value-more, value-linked-own, value-linked-other, LinksLast, links-last}
+use Rattle.txn_tables.proofs.NodeLemmas.{value-nowhere, value-found, value-ended, Comes-start, Comes-step, LeadInside-leads, value-set-own}
+use Rattle.txn_tables.proofs.NodeLemmas.{value-set-other, value-last, value-more, value-linked-own, value-linked-other, LinksLast, links-last}
 
 -- what is read at a place is the node there
 pub get_or-no_node : (nodes : List Node) (at : ℕ) (node : Node) → at < length nodes → node ≡ get_or nodes at node → get_or nodes at no_node ≡ node
@@ -74,7 +76,8 @@ module _ (nodes : List Node) (root : ℕ → ℕ) (txn places : ℕ) (end : End)
   to-last : LinksLast nodes end.at new
   to-last = links-last nodes end.at end.path places new (subst (λ n. Links n new end.path places) here links) (ends.last other) led
 
-  pub put-linked : (number : ℕ) → node_value (set (nodes ++ last ∷ []) end.at new) (root number) (number / ROOTS) number ≡ cond (txn == number) (Some last.value) (node_value nodes (root number) (number / ROOTS) number)
+  pub put-linked : (number : ℕ) → node_value (set (nodes ++ last ∷ []) end.at new) (root number) (number / ROOTS) number ≡ cond (txn == number)
+      (Some last.value) (node_value nodes (root number) (number / ROOTS) number)
   put-linked number = dite (ℕ_discrete txn number)
       (λ same. subst (λ n. node_value (set (nodes ++ last ∷ []) end.at new) (root n) (n / ROOTS) n ≡ cond (txn == n) (Some last.value) (node_value nodes (root n) (n / ROOTS) n)) same
       (value-linked-own new last none nodes end.at (root txn) (txn / ROOTS) txn end.path ends.comes

@@ -7,7 +7,10 @@ use Rattle.log_recovery.specs.Opened.{log_of}
 use Rattle.segment_file.specs.PackedBatch.{BatchState}
 use Rattle.segment_file.specs.declared.layout.TheConstants.{MOST_UNITS}
 use Rattle.cli_cut.specs.Batches.{batches_of}
-use Rattle.cli_cut.proofs.ReadyLemmas.{IsGathered, IsReady, ready-some_underway, waiting-within_last, gathered-some_underway, tail_at-within_bound, head_failed-writes_log, flush_failed-writes_log, ready-gathered, ready-gathered_none_waiting, gathered-underway, opened-costs, opened-grows, opened-leaves, ready-begun, ready-flushed, ready-flushed_last, ready-same, ready-taken, no_room-some_waiting}
+use Rattle.cli_cut.proofs.ReadyLemmas.{IsGathered, IsReady, ready-some_underway, waiting-within_last, gathered-some_underway, tail_at-within_bound}
+use Rattle.cli_cut.proofs.ReadyLemmas.{head_failed-writes_log, flush_failed-writes_log, ready-gathered, ready-gathered_none_waiting}
+use Rattle.cli_cut.proofs.ReadyLemmas.{gathered-underway, opened-costs, opened-grows, opened-leaves, ready-begun, ready-flushed, ready-flushed_last}
+use Rattle.cli_cut.proofs.ReadyLemmas.{ready-same, ready-taken, no_room-some_waiting}
 use Rattle.cli_cut.proofs.writing.write_log.Goals as goal
 use Rattle.cli_cut.proofs.writing.write_log.Goals.{then-count-size+in_ok-tail-2, else-count-size, then-count-gt0+in_ok-add_cut, else-count-gt0}
 

@@ -3,7 +3,8 @@ use Rattle.log_disk.proofs.Counting.{CountsWhere-same_before}
 use Rattle.cli_shared.proofs.AttachedLemmas.{leaves-attached}
 use Rattle.cli_threads.proofs.EndingLemmas.{ended-same_attached, Concludes-counts_disk, ended-same_honest, Concludes-counts_write}
 use Rattle.cli_demo.specs.Demo.{IsReadyDemo}
-use Rattle.cli_demo.proofs.DemoLemmas.{answers-demo, IsFindingFault-answers_demo, same_images-only_looks, HoldsNoneOr-only_makes, Concludes-answer_to_demo, ready-created, Concludes-tells_whether, Concludes-tells_summary}
+use Rattle.cli_demo.proofs.DemoLemmas.{answers-demo, IsFindingFault-answers_demo, same_images-only_looks, HoldsNoneOr-only_makes}
+use Rattle.cli_demo.proofs.DemoLemmas.{Concludes-answer_to_demo, ready-created, Concludes-tells_whether, Concludes-tells_summary}
 use Rattle.cli_demo.proofs.demo_command.demo_command.Goals as goal
 use Rattle.cli_demo.proofs.demo_command.demo_command.Goals.{In-Ok-create}
 

@@ -1,4 +1,5 @@
-use Rattle.cli_threads.proofs.RunLemmas.{transferred-keeps_log, transferred-drained, transferred-runs_whole, transferred-stops_at_log_end, transferred-no_stop_cut, transferred-has_reason, transferred-same_daemon}
+use Rattle.cli_threads.proofs.RunLemmas.{transferred-keeps_log, transferred-drained, transferred-runs_whole, transferred-stops_at_log_end}
+use Rattle.cli_threads.proofs.RunLemmas.{transferred-no_stop_cut, transferred-has_reason, transferred-same_daemon}
 use Rattle.cli_laws.proofs.laws.run_keeps_log.Goals as goal
 
 pub returns : goal.returns

@@ -5,7 +5,8 @@ use Rattle.cli_shared.proofs.AttachedLemmas.{leaves-attached}
 use Rattle.cli_shared.proofs.FaultsTold.{TellsFaults-not_write}
 use Rattle.cli_threads.proofs.EndingLemmas.{ended-same_attached, Concludes-counts_disk, ended-same_honest, Concludes-counts_write}
 use Rattle.cli_run.proofs.ReadyLemmas.{OnlyLooks-only_reads, ready-settled, opens-only_settles}
-use Rattle.cli_run.proofs.RunAnswerLemmas.{Concludes-answers_run, IsBeforeRun-answer_to_run, Concludes-answer_to_run, Concludes-not_read, RunStaysSilent-refl, Concludes-stays_silent, IsBeforeRun-not_write}
+use Rattle.cli_run.proofs.RunAnswerLemmas.{Concludes-answers_run, IsBeforeRun-answer_to_run, Concludes-answer_to_run, Concludes-not_read}
+use Rattle.cli_run.proofs.RunAnswerLemmas.{RunStaysSilent-refl, Concludes-stays_silent, IsBeforeRun-not_write}
 use Rattle.cli_run.specs.RunReady.{IsReadyFor}
 use Rattle.cli_run.proofs.run_command.run_command.Goals as goal
 use Rattle.cli_run.proofs.run_command.run_command.Goals.{In-Ok-settle}

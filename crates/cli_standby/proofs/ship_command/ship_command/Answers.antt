@@ -10,7 +10,8 @@ use Rattle.cli_standby.specs.Shipping.{SaysStream}
 pub returns-in-Err : goal.returns-in-Err
 returns-in-Err g c =
     let said = source_fault-unsaid (SaysStream c.args.from) (RefusesLsn c.args.from) _ _ (g.K.Sink.held_bytes c.args.out.now) c.in-Err.detail c.in-Err.ensures.err in
-    reported-none_written g.S.Source g.K.Sink (AnswersReport (SaysStream c.args.from) (RefusesLsn c.args.from)) IsAnswerAtLsn _ _ _ _ said.at (counts_read-err _ _ _ c.in-Err.ensures.read) said.silent said.write said.answer
+    reported-none_written g.S.Source g.K.Sink (AnswersReport (SaysStream c.args.from) (RefusesLsn c.args.from)) IsAnswerAtLsn _ _ _ _ said.at
+    (counts_read-err _ _ _ c.in-Err.ensures.read) said.silent said.write said.answer
 
 -- its list has no such boundary
 pub returns-in_default : goal.returns-in_default

@@ -3,7 +3,8 @@ use Rattle.command_line.specs.declared.command.Command.TheVariants.{New, Run, Re
 use Rattle.cli_shared.specs.Answers.{status_of}
 use Rattle.cli_shared.specs.World.{World, world}
 use Rattle.cli_top.specs.Answered.{Answered}
-use Rattle.cli_top.proofs.AnsweredLemmas.{Answered-costs, Answered-does_command, Answered-tells_faults, Answered-not_taken_detail, Answered-not_taken_same, Answered-stays_silent, Answered-disk_same, Answered-usage_not_taken}
+use Rattle.cli_top.proofs.AnsweredLemmas.{Answered-costs, Answered-does_command, Answered-tells_faults, Answered-not_taken_detail}
+use Rattle.cli_top.proofs.AnsweredLemmas.{Answered-not_taken_same, Answered-stays_silent, Answered-disk_same, Answered-usage_not_taken}
 use Rattle.cli_top.proofs.CompletenessLemmas.{account-complete, boundary-complete, cut-complete, dump-complete, new-complete, recover-complete}
 use Rattle.cli_top.proofs.DemoCompleteness.{demo-complete}
 use Rattle.cli_top.proofs.FollowCompleteness.{follow-complete}

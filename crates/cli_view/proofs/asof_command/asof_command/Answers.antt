@@ -12,7 +12,8 @@ use Rattle.cli_view.proofs.asof_command.asof_command.Goals as goal
 pub returns-in-Err : goal.returns-in-Err
 returns-in-Err g c =
     let said = source_fault-unsaid (SaysAccounts c.args.lsn) (RefusesLsn c.args.lsn) _ _ (g.K.Sink.held_bytes c.args.out.now) c.in-Err.detail c.in-Err.ensures.err in
-    reported-none_written g.S.Source g.K.Sink (AnswersReport (SaysAccounts c.args.lsn) (RefusesLsn c.args.lsn)) IsAnswerAtLsn _ _ _ _ said.at (counts_read-err _ _ _ c.in-Err.ensures.read) said.silent said.write said.answer
+    reported-none_written g.S.Source g.K.Sink (AnswersReport (SaysAccounts c.args.lsn) (RefusesLsn c.args.lsn)) IsAnswerAtLsn _ _ _ _ said.at
+    (counts_read-err _ _ _ c.in-Err.ensures.read) said.silent said.write said.answer
 
 -- the last Commit up to there ends at a boundary
 pub units_behind-requires-clause-known : goal.units_behind-requires-clause-known

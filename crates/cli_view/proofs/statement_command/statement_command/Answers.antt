@@ -11,7 +11,8 @@ pub returns-in-Err : goal.returns-in-Err
 returns-in-Err g c =
     let said = source_fault-unsaid (SaysStatement c.args.account) (RefusesAccount c.args.account) _ _ (g.K.Sink.held_bytes c.args.out.now) c.in-Err.detail
     c.in-Err.ensures.err in
-    reported-none_written g.S.Source g.K.Sink (AnswersReport (SaysStatement c.args.account) (RefusesAccount c.args.account)) IsAnswerOnAccount _ _ _ _ said.account (counts_read-err _ _ _ c.in-Err.ensures.read) said.silent said.write said.answer
+    reported-none_written g.S.Source g.K.Sink (AnswersReport (SaysStatement c.args.account) (RefusesAccount c.args.account))
+    IsAnswerOnAccount _ _ _ _ said.account (counts_read-err _ _ _ c.in-Err.ensures.read) said.silent said.write said.answer
 
 -- its list has no such account
 pub returns-in_default : goal.returns-in_default

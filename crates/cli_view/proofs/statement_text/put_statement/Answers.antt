@@ -23,7 +23,8 @@ entries-preserved g c =
     (λ line. AppendsBut (g.K.Sink.held_bytes c.entries.sink) (g.K.Sink.held_bytes c.put-in-entries.new.sink) (c.entries.block ++ line) c.put-in-entries.new.self)
     (c.as_slice-in-entries.ensures.bytes ∙ c.line_of.ensures) c.in_ok-put-2.ensures.all in
     record {
-      written = entry_line-appends_but _ _ c.args.end _ _ _ _ c.entries.i c.at.result (omega (arith, c.entries-test.true, c.count-count.ensures)) (c.at.ensures c.at.result) c.entries.invariant.written _ put;
+      written = entry_line-appends_but _ _ c.args.end _ _ _ _ c.entries.i c.at.result (omega (arith, c.entries-test.true, c.count-count.ensures))
+          (c.at.ensures c.at.result) c.entries.invariant.written _ put;
       same = c.in_ok-put-2.ensures.cause.fine ∙ c.entries.invariant.same;
     }
 

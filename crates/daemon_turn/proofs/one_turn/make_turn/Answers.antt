@@ -1,6 +1,7 @@
 use Rattle.std.proofs.Common.{refl, subst, arith}
 use Rattle.flusher.specs.Flushing.{Flushes}
-use Rattle.daemon_turn.proofs.TurnLemmas.{FindsAll-found, SendsAndTells-told, CannotSend-stop, CannotTell-stop, MayGoOn-found, MayGoOn-sent, IsSame-stop, Sends-counted_le_sent, sent-lost, sent-stop, KeepsLog-has_stopped, StandsInAll-sent}
+use Rattle.daemon_turn.proofs.TurnLemmas.{FindsAll-found, SendsAndTells-told, CannotSend-stop, CannotTell-stop, MayGoOn-found, MayGoOn-sent}
+use Rattle.daemon_turn.proofs.TurnLemmas.{IsSame-stop, Sends-counted_le_sent, sent-lost, sent-stop, KeepsLog-has_stopped, StandsInAll-sent}
 use Rattle.daemon_turn.proofs.one_turn.make_turn.Goals as goal
 
 -- each image holds the batch before a line of it is written

@@ -3,7 +3,8 @@ use Rattle.std.proofs.lemmas.Result.{err_from_is_err_and}
 use Rattle.log_disk.specs.Streams.{AppendsBut}
 use Rattle.log_disk.proofs.Blocks.{AppendsBut-none, AppendsBut-trans, AppendsBut-trans_part_of_piece, AppendsBut-trans_Appends, AppendsBut-trans_AppendsPart}
 use Rattle.daemon_turn.proofs.ToldLemmas.{is_done_is_refused-le_size_of, count_said-le_size_of, told-none}
-use Rattle.daemon_turn.proofs.BatchLemmas.{HasCause-failed, seen_end-stands, units_read-positive, seen-within, IsToldUpTo-all, IsToldUpTo-record_begins, IsToldUpTo-more, IsToldUpTo-tells_front, IsToldUpTo-push_silent}
+use Rattle.daemon_turn.proofs.BatchLemmas.{HasCause-failed, seen_end-stands, units_read-positive, seen-within, IsToldUpTo-all}
+use Rattle.daemon_turn.proofs.BatchLemmas.{IsToldUpTo-record_begins, IsToldUpTo-more, IsToldUpTo-tells_front, IsToldUpTo-push_silent}
 use Rattle.daemon_turn.proofs.telling.tell_batch.Goals as goal
 
 pub records-init : goal.records-init

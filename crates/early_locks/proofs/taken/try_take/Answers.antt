@@ -14,7 +14,8 @@ returns-clause-taken c =
     let loaded = c.load_account-loaded.result in
     let short : loaded.mark < 2 ^ 32 = search rules in
     let becomes : Becomes c.args.seat.now _
-    (loaded_balance c.load_balance-balance.result (took_account c.args.account (word_of loaded) (saw_account c.args.account (word_of loaded) (view_of c.args.seat.now)))) = search rules steps 1200000 in record {
+    (loaded_balance c.load_balance-balance.result (took_account c.args.account (word_of loaded) (saw_account c.args.account (word_of loaded)
+    (view_of c.args.seat.now)))) = search rules steps 1200000 in record {
       account_is = search rules;
       word = loaded;
       free = search rules;

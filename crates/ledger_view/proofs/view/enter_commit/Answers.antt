@@ -20,7 +20,8 @@ loop-i-init c = record {
 
 pub enter-requires-clause-known : goal.enter-requires-clause-known
 enter-requires-clause-known c =
-    let known = all-at (λ (change : Change). change.account < length c.args.accounts.now) c.args.changes.now c.loop-i.i c.index-changes-i.result c.requires.known c.loop-i-test.true c.index-changes-i.is in
+    let known = all-at (λ (change : Change). change.account < length c.args.accounts.now)
+    c.args.changes.now c.loop-i.i c.index-changes-i.result c.requires.known c.loop-i-test.true c.index-changes-i.is in
     let count = c.loop-i.invariant.count in omega arith
 
 -- no change before this one is on its account, of which is kept what was
@@ -56,7 +57,8 @@ loop-i-preserved c =
         count = ap length w.accounts-is ∙ c.loop-i.invariant.count;
         enters = λ opening h judged. subst (λ (a : List Account). Enters opening h c.args.txn c.args.end changes (take (c.loop-i.i + 1) changes) old a) (sym w.accounts-is)
             (subst (λ (l : List Change). Enters opening h c.args.txn c.args.end changes l old c.loop-i.accounts) (sym grown)
-            (enters-push_touched opening h c.args.txn c.args.end changes some change old c.loop-i.accounts (c.loop-i.invariant.enters opening h judged) (sym c.touches.ensures ∙ w.if-not-touches.false)));
+            (enters-push_touched opening h c.args.txn c.args.end changes some change old c.loop-i.accounts
+            (c.loop-i.invariant.enters opening h judged) (sym c.touches.ensures ∙ w.if-not-touches.false)));
       }
     ]
 

@@ -16,8 +16,10 @@ returns-then-not-apply_to_account-clause-leaves c =
     let off : touches c.index-changes-i.result.account (take c.loop-i.i c.args.changes.now) ≡ false = sym c.touches.ensures ∙ c.if-not-touches.true in
     record {
       account = c.index-changes-i.result.account;
-      inside = all-at (λ (change : Change). change.account < length c.args.accounts.now.rows) c.args.changes.now c.loop-i.i c.index-changes-i.result c.requires.known c.loop-i-test.true c.index-changes-i.is;
-      leaves = subst (λ (v : ℕ × ℕ). LeavesRange c.args.changes.now c.index-changes-i.result.account v.0) (c.loop-i.invariant.rows.left c.index-changes-i.result.account off) c.if-not-apply_to_account.ensures.leaves;
+      inside = all-at (λ (change : Change). change.account < length c.args.accounts.now.rows)
+          c.args.changes.now c.loop-i.i c.index-changes-i.result c.requires.known c.loop-i-test.true c.index-changes-i.is;
+      leaves = subst (λ (v : ℕ × ℕ). LeavesRange c.args.changes.now c.index-changes-i.result.account v.0)
+          (c.loop-i.invariant.rows.left c.index-changes-i.result.account off) c.if-not-apply_to_account.ensures.leaves;
     }
 
 pub returns-clause-applied : goal.returns-clause-applied

@@ -1,4 +1,5 @@
-use Rattle.lock_core.proofs.GoingOn.{lawful_after-share_none, opening_after-txn_append, opening_after-accounts_append, opening_after-end_append, opening_after-balance_append, opening_after-last_commit_append}
+use Rattle.lock_core.proofs.GoingOn.{lawful_after-share_none, opening_after-txn_append, opening_after-accounts_append, opening_after-end_append}
+use Rattle.lock_core.proofs.GoingOn.{opening_after-balance_append, opening_after-last_commit_append}
 use Rattle.lock_core.proofs.laws.opening_goes_on.Goals as goal
 
 pub returns-clause-apart : goal.returns-clause-apart

@@ -1,6 +1,7 @@
 use Rattle.std.proofs.Common.{arith}
 use Rattle.log_record.specs.LogList.{end_of}
-use Rattle.log_record.proofs.LogListLemmas.{length-starts_from, starts_from-tiling, boundary_is_front, front_is_boundary, prefix_to-front, end_of-prefix_to, prefix_to-append, end_of-prefix_to-boundary, prefix_to-end_of}
+use Rattle.log_record.proofs.LogListLemmas.{length-starts_from, starts_from-tiling, boundary_is_front, front_is_boundary, prefix_to-front}
+use Rattle.log_record.proofs.LogListLemmas.{end_of-prefix_to, prefix_to-append, end_of-prefix_to-boundary, prefix_to-end_of}
 use Rattle.log_record.proofs.laws.log_list_laws.Goals as goal
 
 pub returns : goal.returns

@@ -6,7 +6,8 @@ use Rattle.std.proofs.lemmas.List.{nil_from_length}
 use Rattle.std.proofs.lemmas.Result.{err_from_is_err_and, on_ok_weaker, on_err_weaker}
 use Rattle.log_disk.proofs.Blocks.{AppendsBut-trans_Appends, AppendsBut-trans_AppendsPart, AppendsPart-append}
 use Rattle.log_disk.proofs.Uses.{HasCause-same_before}
-use Rattle.log_recovery.proofs.DumpLemmas.{dumps-none, dumps-rest_le_end, dumps-rest_begins_with, drop_spelling-shorter, dumps-more, record_line_cut-dump_part, lsn_line_put-dump_whole, lsn_line_cut-dump_part}
+use Rattle.log_recovery.proofs.DumpLemmas.{dumps-none, dumps-rest_le_end, dumps-rest_begins_with, drop_spelling-shorter, dumps-more}
+use Rattle.log_recovery.proofs.DumpLemmas.{record_line_cut-dump_part, lsn_line_put-dump_whole, lsn_line_cut-dump_part}
 use Rattle.log_recovery.proofs.dump.put_dump.Goals as goal
 
 pub records-init : goal.records-init
@@ -19,7 +20,8 @@ records-init g c = record {
 
 pub start_of-start-requires : goal.start_of-start-requires
 start_of-start-requires g c =
-    dumps-rest_le_end _ _ _ _ _ _ c.records.invariant.dumped c.args.listed.now.tail.next (c.requires.1.end ∙ ap (λ units. c.args.listed.now.opening.lsn + length units) (sym c.requires.1.list.units_are))
+    dumps-rest_le_end _ _ _ _ _ _ c.records.invariant.dumped c.args.listed.now.tail.next (c.requires.1.end ∙ ap
+    (λ units. c.args.listed.now.opening.lsn + length units) (sym c.requires.1.list.units_are))
 
 pub first_of-rec-requires : goal.first_of-rec-requires
 first_of-rec-requires g c = dumps-rest_begins_with _ _ _ _ _ _ c.records.invariant.dumped (eqb-false _ _ (sym c.is_empty.ensures ∙ c.records-test.true))
@@ -49,7 +51,8 @@ returns-in_err-put_record-clause-all g c = λ records has. let failed = err_from
 
 pub returns-in_err-put_record-clause-cause : goal.returns-in_err-put_record-clause-cause
 returns-in_err-put_record-clause-cause g c = let failed = err_from_is_err_and c.from_residual-in_err-put_record.result c.from_residual-in_err-put_record.ensures.1 in
-    rw failed.1 (HasCause-same_before (g.K.Sink.faults c.args.sink.now) (g.K.Sink.faults c.records.sink) (g.K.Sink.faults c.put_record.new.sink) _ c.records.invariant.same c.in_err-put_record.ensures.cause)
+    rw failed.1 (HasCause-same_before (g.K.Sink.faults c.args.sink.now) (g.K.Sink.faults c.records.sink) (g.K.Sink.faults c.put_record.new.sink)
+    _ c.records.invariant.same c.in_err-put_record.ensures.cause)
 
 pub returns-in_err-put_end-clause-prefix : goal.returns-in_err-put_end-clause-prefix
 returns-in_err-put_end-clause-prefix g c = λ records has.

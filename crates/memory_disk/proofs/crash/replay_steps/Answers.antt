@@ -11,7 +11,8 @@ pub steps-preserved : goal.steps-preserved
 steps-preserved c =
     let behind = drop (c.steps.step-index + 1) c.args.steps.now in
     let ahead = drop_more c.args.steps.now c.steps.step-index (Write 0 0) (search rules) in
-    let from = λ (steps : List Step). IsReplayed c.args.pick c.args.image.now.items (recorded c.args.steps.now c.args.log.now []) steps c.steps.rest.now c.steps.digits.left c.steps.image.items c.steps.file.items in
+    let from = λ (steps : List Step). IsReplayed c.args.pick c.args.image.now.items (recorded c.args.steps.now c.args.log.now [])
+    steps c.steps.rest.now c.steps.digits.left c.steps.image.items c.steps.file.items in
     elim c.match-step.branch [
       | in-Write w ↦
           let was = subst from (ahead ∙ ap (λ (step : Step). step ∷ behind) w.in-Write.is) c.steps.invariant.replayed in

@@ -1,7 +1,9 @@
 use Rattle.std.proofs.Common.{◌≡◌, ◌∙◌, length, arith}
 use Rattle.own_records.proofs.Readings.{count_at-spelled, length-spelled}
 use Rattle.own_records.proofs.record.split_counted.Goals as goal
-use Rattle.own_records.proofs.record.split_counted.Goals.{then-count-eq0-via-then-count-eq0, then-count-eq0-via-else-count-eq0+then-count-gt-MOST_BYTES, then-count-eq0-via-else-count-eq0+else-count-gt-MOST_BYTES+then-rest-count}
+use Rattle.own_records.proofs.record.split_counted.Goals.{then-count-eq0-via-then-count-eq0}
+use Rattle.own_records.proofs.record.split_counted.Goals.{then-count-eq0-via-else-count-eq0+then-count-gt-MOST_BYTES}
+use Rattle.own_records.proofs.record.split_counted.Goals.{then-count-eq0-via-else-count-eq0+else-count-gt-MOST_BYTES+then-rest-count}
 
 pub returns-then-count-eq0-clause-none : goal.returns-then-count-eq0-clause-none
 returns-then-count-eq0-clause-none c = λ text rest is e.

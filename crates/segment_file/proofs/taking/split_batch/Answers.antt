@@ -1,7 +1,9 @@
 use Rattle.std.proofs.Common.{◌≡◌, ◌∙◌, length, arith}
 use Rattle.segment_file.proofs.BatchLemmas.{count_at-batch, length-batch}
 use Rattle.segment_file.proofs.taking.split_batch.Goals as goal
-use Rattle.segment_file.proofs.taking.split_batch.Goals.{then-count-eq0-via-then-count-eq0, then-count-eq0-via-else-count-eq0+then-count-gt-MOST_UNITS, then-count-eq0-via-else-count-eq0+else-count-gt-MOST_UNITS+then-rest-count}
+use Rattle.segment_file.proofs.taking.split_batch.Goals.{then-count-eq0-via-then-count-eq0}
+use Rattle.segment_file.proofs.taking.split_batch.Goals.{then-count-eq0-via-else-count-eq0+then-count-gt-MOST_UNITS}
+use Rattle.segment_file.proofs.taking.split_batch.Goals.{then-count-eq0-via-else-count-eq0+else-count-gt-MOST_UNITS+then-rest-count}
 
 pub returns-then-count-eq0-clause-none : goal.returns-then-count-eq0-clause-none
 returns-then-count-eq0-clause-none c = λ units rest b e.

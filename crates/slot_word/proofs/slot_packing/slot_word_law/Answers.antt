@@ -1,4 +1,5 @@
-use Rattle.slot_word.proofs.SlotWordLemmas.{fits_64, phase_back, total_back, remaining_back, word_back, word_of-is_slot_word, is_slot_word-some_slot, word_of-injective, subtracted-packed, swapped-pending}
+use Rattle.slot_word.proofs.SlotWordLemmas.{fits_64, phase_back, total_back, remaining_back, word_back, word_of-is_slot_word, is_slot_word-some_slot}
+use Rattle.slot_word.proofs.SlotWordLemmas.{word_of-injective, subtracted-packed, swapped-pending}
 use Rattle.slot_word.proofs.slot_packing.slot_word_law.Goals as goal
 
 pub returns : goal.returns

@@ -4,7 +4,8 @@ use Rattle.std.proofs.lemmas.Result.{err_from_is_err_and}
 use Rattle.log_rule.specs.declared.view.View.{View}
 use Rattle.log_table.specs.Seats.{view_of}
 use Rattle.log_rule.proofs.SentRecords.{sent-lawfully, read-lawfully}
-use Rattle.flusher.proofs.Flushes.{IsOf-becomes, IsSame-same_parts, LogStands-same_batch, MayFlush-step, WritesWhole-same_batch, seen-flushed, seen-newer, sent_to-flushed, tail-appended, tail-place_bounded}
+use Rattle.flusher.proofs.Flushes.{IsOf-becomes, IsSame-same_parts, LogStands-same_batch, MayFlush-step, WritesWhole-same_batch, seen-flushed}
+use Rattle.flusher.proofs.Flushes.{seen-newer, sent_to-flushed, tail-appended, tail-place_bounded}
 use Rattle.flusher.proofs.Keeps.{KeepsLog-same, KeepsLog-in_flight, KeepsLog-flushed}
 use Rattle.flusher.proofs.ReadUp.{Becomes-sent, HasRead-gathered}
 use mathlib.Core.Logic.{∥∥₁_map}

@@ -9,4 +9,5 @@ returns-then-count-eq0 c = λ end text opening h kept. let counted = c.count.ens
 
 pub returns-in-Some : goal.returns-in-Some
 returns-in-Some c = λ end text opening h kept. let counted = c.count.ensures in
-    takes-note opening c.args.self.now h kept end c.args.txn text (some_rows-some_account_or_record opening c.args.self.now h kept (λ none. omega arith)) c.in-Some.ensures.above (c.in-Some.ensures.unended h kept.transactions).unended
+    takes-note opening c.args.self.now h kept end c.args.txn text (some_rows-some_account_or_record opening c.args.self.now h kept
+    (λ none. omega arith)) c.in-Some.ensures.above (c.in-Some.ensures.unended h kept.transactions).unended

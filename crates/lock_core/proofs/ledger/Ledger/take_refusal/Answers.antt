@@ -23,7 +23,8 @@ returns-in_err-place-clause-short c = λ end opening h kept. let counted = c.cou
 pub returns-then-update-leg-clause-short : goal.returns-then-update-leg-clause-short
 returns-then-update-leg-clause-short c = λ end opening h kept. let counted = c.count.ensures in let place = c.in_ok-place.ensures.unended h kept.transactions in
     let same = newest-counts_updates_of opening c.args.self.now h kept _ _ c.update.result c.args.txn c.end.ensures.updates place c.update.ensures in
-    fails-short-legs opening c.args.self.now h kept end c.args.txn c.args.leg (some_rows-some_account_or_record opening c.args.self.now h kept (λ none. omega arith)) c.in_ok-place.ensures.above place.unended
+    fails-short-legs opening c.args.self.now h kept end c.args.txn c.args.leg (some_rows-some_account_or_record opening c.args.self.now h kept
+    (λ none. omega arith)) c.in_ok-place.ensures.above place.unended
     (λ legs. let other = c.if-update-leg.true in omega arith)
 
 pub returns-clause-short : goal.returns-clause-short
@@ -43,7 +44,8 @@ returns-in_err-place-clause-over c = λ end opening h kept. let counted = c.coun
 pub returns-then-update-leg-clause-over : goal.returns-then-update-leg-clause-over
 returns-then-update-leg-clause-over c = λ end opening h kept. let counted = c.count.ensures in let place = c.in_ok-place.ensures.unended h kept.transactions in
     let same = newest-counts_updates_of opening c.args.self.now h kept _ _ c.update.result c.args.txn c.end.ensures.updates place c.update.ensures in
-    fails-over-legs opening c.args.self.now h kept end c.args.txn c.args.leg (some_rows-some_account_or_record opening c.args.self.now h kept (λ none. omega arith)) c.in_ok-place.ensures.above place.unended
+    fails-over-legs opening c.args.self.now h kept end c.args.txn c.args.leg (some_rows-some_account_or_record opening c.args.self.now h kept
+    (λ none. omega arith)) c.in_ok-place.ensures.above place.unended
     (λ legs. let other = c.if-update-leg.true in omega arith)
 
 pub returns-clause-over : goal.returns-clause-over

@@ -13,22 +13,31 @@ returns-in-Genesis-clause-ok c =
 
 pub returns-in-Genesis-clause-why : goal.returns-in-Genesis-clause-why
 returns-in-Genesis-clause-why c =
-    judges-err_first_failing no_opening (reverse c.args.front.now) c.args.entry.now (Genesis c.in-Genesis.account c.in-Genesis.balance) c.in-Genesis.is c.admit_genesis.result (c.admit_genesis.ensures.tests c.args.entry.now.end)
+    judges-err_first_failing no_opening (reverse c.args.front.now) c.args.entry.now (Genesis c.in-Genesis.account c.in-Genesis.balance)
+    c.in-Genesis.is c.admit_genesis.result (c.admit_genesis.ensures.tests c.args.entry.now.end)
 
 pub returns-in-Update-clause-ok : goal.returns-in-Update-clause-ok
 returns-in-Update-clause-ok c =
     let fits : SFits w32 c.in-Update.delta = search rules in
-    let judges = subst (λ (delta : ℤ). Judges no_opening (reverse c.args.front.now) (record { end = c.args.entry.now.end; rec = Update c.in-Update.txn c.in-Update.account delta c.in-Update.prev }) c.admit_update.result)
+    let judges = subst (λ (delta : ℤ). Judges no_opening (reverse c.args.front.now) (record {
+      end = c.args.entry.now.end;
+      rec = Update c.in-Update.txn c.in-Update.account delta c.in-Update.prev;
+    }) c.admit_update.result)
     (to_z-of_z w32 c.in-Update.delta fits) (c.admit_update.ensures c.args.entry.now.end) in
-    judges-ok_judged_same_accounts no_opening (reverse c.args.front.now) c.args.entry.now (Update c.in-Update.txn c.in-Update.account c.in-Update.delta c.in-Update.prev) c.in-Update.is c.admit_update.result
+    judges-ok_judged_same_accounts no_opening (reverse c.args.front.now) c.args.entry.now
+    (Update c.in-Update.txn c.in-Update.account c.in-Update.delta c.in-Update.prev) c.in-Update.is c.admit_update.result
     c.args.accounts.now (λ never. never) refl c.requires.judged judges
 
 pub returns-in-Update-clause-why : goal.returns-in-Update-clause-why
 returns-in-Update-clause-why c =
     let fits : SFits w32 c.in-Update.delta = search rules in
-    let judges = subst (λ (delta : ℤ). Judges no_opening (reverse c.args.front.now) (record { end = c.args.entry.now.end; rec = Update c.in-Update.txn c.in-Update.account delta c.in-Update.prev }) c.admit_update.result)
+    let judges = subst (λ (delta : ℤ). Judges no_opening (reverse c.args.front.now) (record {
+      end = c.args.entry.now.end;
+      rec = Update c.in-Update.txn c.in-Update.account delta c.in-Update.prev;
+    }) c.admit_update.result)
     (to_z-of_z w32 c.in-Update.delta fits) (c.admit_update.ensures c.args.entry.now.end) in
-    judges-err_first_failing no_opening (reverse c.args.front.now) c.args.entry.now (Update c.in-Update.txn c.in-Update.account c.in-Update.delta c.in-Update.prev) c.in-Update.is c.admit_update.result judges
+    judges-err_first_failing no_opening (reverse c.args.front.now) c.args.entry.now
+    (Update c.in-Update.txn c.in-Update.account c.in-Update.delta c.in-Update.prev) c.in-Update.is c.admit_update.result judges
 
 pub returns-in-Commit-clause-ok : goal.returns-in-Commit-clause-ok
 returns-in-Commit-clause-ok c =
@@ -46,7 +55,8 @@ returns-in-Short-clause-ok c =
 
 pub returns-in-Short-clause-why : goal.returns-in-Short-clause-why
 returns-in-Short-clause-why c =
-    judges-err_first_failing no_opening (reverse c.args.front.now) c.args.entry.now (Short c.in-Short.txn c.in-Short.leg) c.in-Short.is c.admit_refusal.result (c.admit_refusal.ensures.short c.args.entry.now.end)
+    judges-err_first_failing no_opening (reverse c.args.front.now) c.args.entry.now (Short c.in-Short.txn c.in-Short.leg)
+    c.in-Short.is c.admit_refusal.result (c.admit_refusal.ensures.short c.args.entry.now.end)
 
 pub returns-in-Over-clause-ok : goal.returns-in-Over-clause-ok
 returns-in-Over-clause-ok c =
@@ -55,7 +65,8 @@ returns-in-Over-clause-ok c =
 
 pub returns-in-Over-clause-why : goal.returns-in-Over-clause-why
 returns-in-Over-clause-why c =
-    judges-err_first_failing no_opening (reverse c.args.front.now) c.args.entry.now (Over c.in-Over.txn c.in-Over.leg) c.in-Over.is c.admit_refusal-in-Over.result (c.admit_refusal-in-Over.ensures.over c.args.entry.now.end)
+    judges-err_first_failing no_opening (reverse c.args.front.now) c.args.entry.now (Over c.in-Over.txn c.in-Over.leg)
+    c.in-Over.is c.admit_refusal-in-Over.result (c.admit_refusal-in-Over.ensures.over c.args.entry.now.end)
 
 pub returns-in-Note-clause-ok : goal.returns-in-Note-clause-ok
 returns-in-Note-clause-ok c =

@@ -23,4 +23,5 @@ pub returns-clause-accounts : goal.returns-clause-accounts
 returns-clause-accounts c =
     let whole : take c.entries.i c.args.entries.now ≡ c.args.entries.now = grind (arith, common_steps) in
     subst (λ (entries : List Placed). ShowsAccounts c.entries.accounts.rows (base_with no_opening (reverse entries)) (reverse entries)) whole
-    (keeps_rows-shows_accounts c.entries.accounts.rows (base_with no_opening (reverse (take c.entries.i c.args.entries.now))) (reverse (take c.entries.i c.args.entries.now)) c.entries.invariant.judged.rows)
+    (keeps_rows-shows_accounts c.entries.accounts.rows (base_with no_opening (reverse (take c.entries.i c.args.entries.now))) (reverse
+    (take c.entries.i c.args.entries.now)) c.entries.invariant.judged.rows)

@@ -30,6 +30,11 @@ returns-in-Ok c = λ end h kept open' count.
     (record { change = c.args.change; count = c.args.count; older = c.args.place }) h c.in_ok-newest.ensures.links c.in_ok-newest.ensures.place
     c.in_ok-newest.ensures.fits (subst (λ (t : Transactions). PutsValue t.newest c.put.new.self c.args.txn c.in_ok-newest.newest) is c.in-Ok.ensures.put) up same ready.1 count ready.0) in
     elim c.if-place-eq0.branch [
-      | then-place-eq0 w ↦ kept_then w.saturating_add-self.result (λ none. let fits = ready.0.active.1.fits in omega (arith, w.saturating_add-self.ensures, c.in_ok-newest.ensures.place, c.in_ok-newest.ensures.fits)) (λ some. absurd (some w.if-place-eq0.true)) w.self-is
+      | then-place-eq0 w ↦ kept_then w.saturating_add-self.result (λ none. let fits = ready.0.active.1.fits in omega (
+        arith,
+        w.saturating_add-self.ensures,
+        c.in_ok-newest.ensures.place,
+        c.in_ok-newest.ensures.fits,
+      )) (λ some. absurd (some w.if-place-eq0.true)) w.self-is
       | else-place-eq0 w ↦ kept_then before.active (λ none. absurd (w.if-place-eq0.false none)) (λ some. refl) w.self-is
     ]

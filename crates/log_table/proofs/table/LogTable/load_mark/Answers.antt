@@ -17,4 +17,7 @@ load-requires c =
     )
 
 pub returns : goal.returns
-returns c = record { view = MovesBase-becomes_called _ (ap (λ n. saw_mark n (view_of c.args.seat.now)) (sym c.new.ensures)) c.load.ensures; event = look-step _ _ _ _ _ c.args.self.now.keyed c.requires.next _ }
+returns c = record {
+  view = MovesBase-becomes_called _ (ap (λ n. saw_mark n (view_of c.args.seat.now)) (sym c.new.ensures)) c.load.ensures;
+  event = look-step _ _ _ _ _ c.args.self.now.keyed c.requires.next _;
+}

@@ -7,8 +7,15 @@ use Rattle.memory_disk.proofs.memory_disk.MemoryDisk.keep_write.Goals as goal
 pub invariant_of-self : goal.invariant_of-self
 invariant_of-self c =
     let was = c.self.invariant in
-    let log_is : c.extend_from_slice.new.self.items ≡ c.self.inside.log.items ++ c.args.bytes.now = search rules in
-    (IsRecord-write _ _ _ _ _ _ _ was.0 c.args.at c.args.bytes.now _ _ _ c.push_reserved.ensures.items log_is c.place.ensures.put (search rules) (search rules), search rules, search rules, search rules, search rules, search rules)
+    let log_is : c.extend_from_slice.new.self.items ≡ c.self.inside.log.items ++ c.args.bytes.now = search rules in (
+      IsRecord-write _ _ _ _ _ _ _ was.0 c.args.at c.args.bytes.now _ _ _ c.push_reserved.ensures.items log_is c.place.ensures.put (search rules)
+          (search rules),
+      search rules,
+      search rules,
+      search rules,
+      search rules,
+      search rules,
+    )
 
 pub returns : goal.returns
 returns c =
