@@ -18,7 +18,7 @@ pub const GREATEST_RING: u32 = 0x10_0000;
 /// The most slots at which workers that meet at the tail may go on as one group.
 pub const MOST_SLOTS: u32 = 16;
 
-/// A law: the numbers that the definitions take from this crate are 4294967295, 1024, 1048576, 16, 100000, 4096 and, twice, 2147483647.
+/// A law: the numbers that the definitions take from this crate are 4294967295, 1024, 1048576, 16, 100000, 4096, 2147483647 and 4611686018427387903.
 pub fn format_numbers()
     ensures last { LAST ≡ 4294967295 }
     ensures least_ring { LEAST_RING ≡ 1024 }
@@ -27,7 +27,7 @@ pub fn format_numbers()
     ensures transfers { MOST_GENERATED ≡ 100000 }
     ensures accounts { MOST_ACCOUNTS ≡ 4096 }
     ensures amount { MOST_AMOUNT ≡ 2147483647 }
-    ensures balance { MOST_BALANCE ≡ 2147483647 }
+    ensures balance { MOST_BALANCE ≡ 4611686018427387903 }
 {}
 
 /// A log sequence number: the address of a unit in the log, counted in units of eight bytes.

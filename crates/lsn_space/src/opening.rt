@@ -15,7 +15,7 @@ pub const MOST_ACCOUNTS: u32 = 4096;
 pub const MOST_AMOUNT: u32 = 0x7FFF_FFFF;
 
 /// The greatest balance of an account.
-pub const MOST_BALANCE: u64 = 0x7FFF_FFFF;
+pub const MOST_BALANCE: u64 = 0x3FFF_FFFF_FFFF_FFFF;
 
 /// What stands before a list of records. Before a whole log it is nothing: 0, 0 and no account. Contracts see the pairs of the
 /// accounts, and not for how many there is room.
