@@ -1,9 +1,14 @@
 //! The rests of a thread that waits for another.
+
+ghost use Rattle.std.specs.Prelude.{◌≡◌, ◌≤◌, ◌+◌, ◌*◌, ◌-◌};
+ghost use Rattle.idle_backoff.specs.declared.idling.TheConstants.{SLEEP, SHORT_SLEEPS, MORE};
+
 use crate::nanos::nanos_from;
+use crate::naps::Nap;
 use crossbeam_utils::Backoff;
 use std::cell::Cell;
-use std::thread::{sleep, yield_now};
-use std::time::{Clock, Duration, Instant};
+use std::thread::yield_now;
+use std::time::{Clock, Instant};
 
 /// How many rests at the start of a wait are spun: an account is mostly free again within a microsecond.
 const SPINS: u32 = 7;
@@ -22,8 +27,8 @@ const TRIAL: u32 = 32;
 /// How long the first sleeps of a thread are that nobody wakes, in microseconds.
 const SLEEP: u64 = 20;
 
-/// How many these are. Each behind them is longer by `MORE` than the one before it, so that a long wait takes little of a processor, and ends
-/// little late.
+/// How many these are. Each behind them is longer by `MORE` than the one before it, up to the longest of all sleeps, so that a long wait takes
+/// little of a processor, and ends little late.
 const SHORT_SLEEPS: u32 = 8;
 
 const MORE: u64 = 10;
@@ -116,8 +121,7 @@ impl IdleBackoff {
     fn nap(&self, clock: &impl Clock) {
         let sleeps = self.sleeps.get();
         self.sleeps.set(sleeps.saturating_add(1));
-        let more = u64::from(sleeps.saturating_sub(SHORT_SLEEPS));
-        sleep(clock, Duration::from_micros(SLEEP + MORE * more));
+        nap_behind(sleeps).take(clock);
     }
 
     /// Whether it stays awake in this wait.
@@ -146,4 +150,13 @@ impl IdleBackoff {
 
 fn more_trust(trust: u32) -> u32 {
     if trust < MOST_TRUST { trust + 1 } else { trust }
+}
+
+/// How long a thread sleeps behind so many sleeps of this wait.
+fn nap_behind(sleeps: u32) -> Nap
+    ensures first { sleeps ≤ SHORT_SLEEPS → result.nanos ≡ 1000 * SLEEP }
+    ensures next { result.nanos ≤ 1000 * (SLEEP + MORE * (sleeps - SHORT_SLEEPS)) }
+{
+    let more = u64::from(sleeps.saturating_sub(SHORT_SLEEPS));
+    Nap::new(1_000 * (SLEEP + MORE * more))
 }

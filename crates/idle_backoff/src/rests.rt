@@ -1,10 +1,14 @@
 //! The rest of a worker between two transfers. Where workers meet, each step moves a line of memory from one processor to another; while all
 //! but one rest, that one has all lines. So a worker rests where the log grew faster while the worker was alone than it grows while workers
 //! meet. The measure is the log's growth, which all share, and not the worker's own speed: who rests loses speed, and the others win it.
+
+ghost use Rattle.std.specs.Prelude.{◌≡◌, ◌≤◌, ◌<◌, ◌*◌, ◌-◌, ◌/◌};
+ghost use Rattle.idle_backoff.specs.declared.rests.TheConstants.{LEAST, MOST, RUN};
+
 use crate::nanos::nanos_from;
+use crate::naps::Nap;
 use std::hint::spin_loop;
-use std::thread::sleep;
-use std::time::{Clock, Duration, Instant};
+use std::time::{Clock, Instant};
 
 /// How long the first rest is, in nanoseconds.
 const FIRST: u64 = 1_000;
@@ -45,6 +49,7 @@ pub struct Rests {
     losses: u32,
     /// For how many transfers the growth is still measured.
     watch: u32,
+    ghost bounded: { (LEAST ≤ length) × (length ≤ MOST) },
 }
 
 impl Rests {
@@ -99,7 +104,12 @@ impl Rests {
 }
 
 /// How long the next rest is, where the last one was so long, and so many transfers were made since.
-fn next_length(length: u64, run: u32) -> u64 {
+fn next_length(length: u64, run: u32) -> u64
+    ensures longer { run < RUN → 2 * length ≤ MOST → result ≡ 2 * length }
+    ensures longest { run < RUN → MOST ≤ 2 * length → result ≡ MOST }
+    ensures shorter { RUN ≤ run → LEAST ≤ length - length / 4 → result ≡ length - length / 4 }
+    ensures shortest { RUN ≤ run → length - length / 4 ≤ LEAST → result ≡ LEAST }
+{
     if run < RUN {
         lesser(length.saturating_mul(2), MOST)
     } else {
@@ -110,7 +120,7 @@ fn next_length(length: u64, run: u32) -> u64 {
 /// Rests for so many nanoseconds. Where the clock can't be read the rest is short.
 fn pass(clock: &impl Clock, nanos: u64) {
     if nanos >= SLEPT {
-        sleep(clock, Duration::from_nanos(nanos));
+        Nap::new(nanos).take(clock);
     } else if let Ok(began) = Instant::now(clock) {
         spin_until(clock, began, nanos);
     }
@@ -221,10 +231,16 @@ fn nearer(mean: u64, each: u64) -> u64 {
     (mean - mean / 8).saturating_add(counted / 8)
 }
 
-fn lesser(a: u64, b: u64) -> u64 {
+fn lesser(a: u64, b: u64) -> u64
+    ensures first { a ≤ b → result ≡ a }
+    ensures second { b ≤ a → result ≡ b }
+{
     if a < b { a } else { b }
 }
 
-fn greater(a: u64, b: u64) -> u64 {
+fn greater(a: u64, b: u64) -> u64
+    ensures first { b ≤ a → result ≡ a }
+    ensures second { a ≤ b → result ≡ b }
+{
     if a < b { b } else { a }
 }

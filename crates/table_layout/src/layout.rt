@@ -4,7 +4,7 @@
 ghost use Rattle.std.specs.Prelude.{◌≡◌, ◌≤◌, ◌+◌, ◌*◌, ◌%◌};
 ghost use Rattle.lsn_space.specs.declared.lsn.TheConstants.{LEAST_RING, GREATEST_RING, MOST_SLOTS};
 ghost use Rattle.lsn_space.specs.declared.opening.TheConstants.{MOST_ACCOUNTS};
-ghost use Rattle.table_layout.specs.declared.layout.TheConstants.{STRIDE, RING};
+ghost use Rattle.table_layout.specs.declared.layout.TheConstants.{STRIDE, TAIL, EXPOSED, DURABLE, STOP, CREW, RING};
 
 use lsn_space::{Lsn, place};
 
@@ -26,9 +26,15 @@ pub const CREW: usize = 4 * STRIDE;
 /// accounts' words, each with the account's balance right behind it.
 pub const RING: usize = 5 * STRIDE;
 
-/// A law: the stride of the words that aren't packed is 16.
+/// A law: the words that aren't packed stand 16 apart, in this order, the ring behind them.
 pub fn fixed_layout()
     ensures stride { STRIDE ≡ 16 }
+    ensures tail { TAIL ≡ 0 }
+    ensures exposed { EXPOSED ≡ 16 }
+    ensures durable { DURABLE ≡ 32 }
+    ensures stop { STOP ≡ 48 }
+    ensures crew { CREW ≡ 64 }
+    ensures ring { RING ≡ 80 }
 {}
 
 /// Where the release mark of the range that begins at an LSN lies.

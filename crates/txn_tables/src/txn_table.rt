@@ -77,7 +77,8 @@ impl TxnTable {
     /// Has the row begin near a transaction. Some before it get a place too, as numbers needn't come in their order.
     fn begin_near(&mut self, txn: u32)
         requires { length self.old.row.numbers.items ≡ 0 }
-        ensures { (other : ℕ) → value_at self.new other ≡ value_at self.old other }
+        ensures values { (other : ℕ) → value_at self.new other ≡ value_at self.old other }
+        ensures puts { self.new.puts ≡ self.old.puts }
     {
         self.first = txn.saturating_sub(FIRST_PLACES / 2);
     }
