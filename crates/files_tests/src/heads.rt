@@ -81,7 +81,7 @@ fn reads_a_head_cut_at_each_place(rt: HostRuntime) -> Result<(), Fail> {
 }
 
 /// What stands at a place, and the fault of the file. A mark may be the LSN where the list begins and no later one; a balance
-/// may be 2147483647 and no greater; there is an account. With the last LSN before it, a file has room for no unit.
+/// may be 4611686018427387903 and no greater; there is an account. With the last LSN before it, a file has room for no unit.
 const CHANGED: &[(usize, &[u8], Option<ScanFault>)] = &[
     (28, &[0, 0, 0, 10], Some(ScanFault::BadSnapshot)),
     (28, &[0, 0, 0, 0], None),
@@ -89,11 +89,15 @@ const CHANGED: &[(usize, &[u8], Option<ScanFault>)] = &[
     (16, &[0, 0, 0, 0], Some(ScanFault::BadSnapshot)),
     (
         20,
-        &[0, 0, 0, 0, 0x80, 0, 0, 0],
+        &[0x40, 0, 0, 0, 0, 0, 0, 0],
         Some(ScanFault::BadSnapshot),
     ),
-    (20, &[0, 0, 0, 1, 0, 0, 0, 0], Some(ScanFault::BadSnapshot)),
-    (20, &[0, 0, 0, 0, 0x7f, 0xff, 0xff, 0xff], None),
+    (
+        20,
+        &[0x80, 0, 0, 0, 0, 0, 0, 0],
+        Some(ScanFault::BadSnapshot),
+    ),
+    (20, &[0x3f, 0xff, 0xff, 0xff, 0xff, 0xff, 0xff, 0xff], None),
     (44, &[0x4f, 0], Some(ScanFault::BadBatch { offset: 44 })),
     (
         44,
