@@ -8,7 +8,8 @@
 #include <unistd.h>
 
 enum { GENESIS = 1, UPDATE, COMMIT, SHORT, OVER, NOTE };
-enum { MOST_BALANCE = INT32_MAX, UNIT = 8 };
+enum { UNIT = 8 };
+static const uint64_t MOST_BALANCE = UINT64_C(0x3FFFFFFFFFFFFFFF);
 
 static inline uint64_t header(uint64_t kind, uint64_t units, uint64_t field, uint64_t txn) {
     return kind << 56 | units << 48 | field << 32 | txn;
@@ -33,7 +34,7 @@ static inline uint64_t unit_at(const uint8_t *place) {
 }
 
 // The record that ends a transfer of one leg, on these two balances.
-static inline uint64_t end_record(uint32_t txn, Leg leg, uint32_t of_payer, uint32_t of_payee) {
+static inline uint64_t end_record(uint32_t txn, Leg leg, uint64_t of_payer, uint64_t of_payee) {
     if (of_payer < leg.amount) return header(SHORT, 1, 1, txn);
     if (of_payee > MOST_BALANCE - leg.amount) return header(OVER, 1, 1, txn);
     return header(COMMIT, 1, 1, txn);

@@ -79,7 +79,8 @@ static int make_transfer(Store *store, uint32_t transfer, Leg leg) {
 
 int main(int count, char **words) {
     if (count != 4) return printf("%s\n", mdb_version(NULL, NULL, NULL)) < 0;
-    uint32_t transfers = (uint32_t)atol(words[2]), done = 0, balances[ACCOUNTS];
+    uint32_t transfers = (uint32_t)atol(words[2]), done = 0;
+    uint64_t balances[ACCOUNTS];
     const Leg *legs = generated_legs(transfers, (uint32_t)atol(words[3]));
     Store store = {.next_entry = 1};
     open_store(&store, words[1]);

@@ -69,7 +69,8 @@ static int make_transfer(const Statements *use, int64_t transfer, Leg leg) {
 
 int main(int count, char **words) {
     if (count != 4) return printf("SQLite %s\n", sqlite3_libversion()) < 0;
-    uint32_t transfers = (uint32_t)atol(words[2]), done = 0, balances[ACCOUNTS];
+    uint32_t transfers = (uint32_t)atol(words[2]), done = 0;
+    uint64_t balances[ACCOUNTS];
     const Leg *legs = generated_legs(transfers, (uint32_t)atol(words[3]));
     check(sqlite3_open(words[1], &database), SQLITE_OK);
     make_tables();
@@ -81,7 +82,7 @@ int main(int count, char **words) {
         prepared("INSERT INTO entry (transfer, account, delta) VALUES (?, ?, ?)"),
     };
     for (uint32_t i = 0; i < transfers; i++) done += (uint32_t)make_transfer(&use, i + 1, legs[i]);
-    for (int64_t account = 0; account < ACCOUNTS; account++) balances[account] = (uint32_t)step(use.balance_of, &account, 1);
+    for (int64_t account = 0; account < ACCOUNTS; account++) balances[account] = (uint64_t)step(use.balance_of, &account, 1);
     print_summary(transfers, done, transfers - done, 0, balances);
     return 0;
 }

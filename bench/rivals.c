@@ -27,8 +27,7 @@ typedef struct {
     bool waits;
     uint64_t busy, held;
     uint32_t done, refused;
-    uint64_t end;
-    uint32_t balances[ACCOUNTS];
+    uint64_t end, balances[ACCOUNTS];
 } Run;
 
 typedef struct {
@@ -108,13 +107,21 @@ typedef struct {
 static Shared tail, exposed, durable, stop, crew;
 alignas(128) static _Atomic uint64_t ring[RING];
 alignas(128) static _Atomic uint64_t marks[RING];
-static Shared accounts[ACCOUNTS];
 
-// An account's word: held or free, the balance, and where its last commit ends.
+// An account's two words, on cache lines of their own: whether it is held and where its last commit ends; and its balance.
+typedef struct {
+    alignas(128) _Atomic uint64_t word;
+    _Atomic uint64_t balance;
+} Account;
+
+static Account accounts[ACCOUNTS];
 static const uint64_t HELD = UINT64_C(1) << 63;
-static uint64_t free_word(uint32_t balance, uint64_t last_commit) { return (uint64_t)balance << 32 | last_commit; }
-static uint32_t balance_of(uint64_t word) { return word >> 32 & MOST_BALANCE; }
-static uint32_t last_commit_of(uint64_t word) { return (uint32_t)word; }
+
+// An account as it was taken.
+typedef struct {
+    uint64_t balance;
+    uint32_t last_commit;
+} Taken;
 
 // Between two attempts: a look at the stop word, and a rest that grows from spins to sleeps.
 static void pause_worker(uint32_t *rests) {
@@ -129,11 +136,14 @@ static void pause_worker(uint32_t *rests) {
     }
 }
 
-static uint64_t take_account(uint32_t account) {
+// The word is exchanged, and then the balance is loaded.
+static Taken take_account(uint32_t account) {
     uint32_t rests = 0;
     for (;;) {
         uint64_t word = atomic_load(&accounts[account].word);
-        if (!(word & HELD) && atomic_compare_exchange_strong(&accounts[account].word, &word, word | HELD)) return word;
+        if (!(word & HELD) && atomic_compare_exchange_strong(&accounts[account].word, &word, word | HELD)) {
+            return (Taken){atomic_load(&accounts[account].balance), (uint32_t)word};
+        }
         pause_worker(&rests);
     }
 }
@@ -181,27 +191,29 @@ static void see_durable(uint64_t end, bool waits) {
     while (atomic_load(&durable.word) < end && waits) pause_worker(&rests);
 }
 
-static void give_account(uint32_t account, uint32_t balance, uint64_t last_commit) {
-    atomic_store(&accounts[account].word, free_word(balance, last_commit));
+// The balance is stored, and then the word, both also where nothing has changed.
+static void give_account(uint32_t account, uint64_t balance, uint64_t last_commit) {
+    atomic_store(&accounts[account].balance, balance);
+    atomic_store(&accounts[account].word, last_commit);
 }
 
 // Takes the accounts in ascending order, inserts the records, and gives the accounts back.
 static void make_transfer(uint32_t txn, Leg leg, bool waits) {
     if (atomic_load(&stop.word) != 0) exit(1);
     bool payer_first = leg.payer < leg.payee;
-    uint64_t first = take_account(payer_first ? leg.payer : leg.payee);
-    uint64_t second = take_account(payer_first ? leg.payee : leg.payer);
-    uint64_t payer = payer_first ? first : second, payee = payer_first ? second : first;
-    uint64_t record = end_record(txn, leg, balance_of(payer), balance_of(payee));
+    Taken first = take_account(payer_first ? leg.payer : leg.payee);
+    Taken second = take_account(payer_first ? leg.payee : leg.payer);
+    Taken payer = payer_first ? first : second, payee = payer_first ? second : first;
+    uint64_t record = end_record(txn, leg, payer.balance, payee.balance);
     bool done = kind_of(record) == COMMIT;
     if (done) {
-        insert_update(txn, leg.payer, -(int32_t)leg.amount, last_commit_of(payer));
-        insert_update(txn, leg.payee, (int32_t)leg.amount, last_commit_of(payee));
+        insert_update(txn, leg.payer, -(int32_t)leg.amount, payer.last_commit);
+        insert_update(txn, leg.payee, (int32_t)leg.amount, payee.last_commit);
     }
     uint64_t end = insert(&record, 1);
     see_durable(end, waits);
-    give_account(leg.payer, balance_of(payer) - (done ? leg.amount : 0), done ? end : last_commit_of(payer));
-    give_account(leg.payee, balance_of(payee) + (done ? leg.amount : 0), done ? end : last_commit_of(payee));
+    give_account(leg.payer, payer.balance - (done ? leg.amount : 0), done ? end : payer.last_commit);
+    give_account(leg.payee, payee.balance + (done ? leg.amount : 0), done ? end : payee.last_commit);
 }
 
 // The queue of the transfers' places. A slot's stamp is that of the place once it is put, and of the next lap once it is taken; it is put in once
@@ -286,7 +298,7 @@ static void run_steps(Run *run) {
     for (uint32_t account = 0; account < ACCOUNTS; account++) give_account(account, FIRST_BALANCE, 0);
     fill_queue(run);
     serve(run, work_by_steps, flush_by_steps);
-    for (uint32_t account = 0; account < ACCOUNTS; account++) run->balances[account] = balance_of(accounts[account].word);
+    for (uint32_t account = 0; account < ACCOUNTS; account++) run->balances[account] = atomic_load(&accounts[account].balance);
 }
 
 // ---- One mutex ---------------------------------------------------------------------------------------------------------
@@ -302,7 +314,7 @@ static struct {
     uint8_t *batch;
     uint32_t units;
     uint64_t end, durable;
-    uint32_t balances[ACCOUNTS];
+    uint64_t balances[ACCOUNTS];
     uint32_t last_commits[ACCOUNTS];
     uint32_t active;
 } locked;
@@ -315,7 +327,7 @@ static void put_locked(uint64_t unit) {
 static void update_locked(uint32_t txn, uint32_t account, int32_t delta) {
     put_locked(header(UPDATE, 2, account, txn));
     put_locked(delta_and_prev(delta, locked.last_commits[account]));
-    locked.balances[account] += (uint32_t)delta;
+    locked.balances[account] += (uint64_t)(int64_t)delta;
 }
 
 static void transfer_locked(uint32_t txn, Leg leg) {

@@ -41,11 +41,11 @@ static inline Leg *generated_legs(uint32_t count, uint32_t seed) {
     return legs;
 }
 
-static inline void print_summary(uint32_t transfers, uint32_t done, uint32_t refused, uint64_t lsn, const uint32_t *balances) {
+static inline void print_summary(uint32_t transfers, uint32_t done, uint32_t refused, uint64_t lsn, const uint64_t *balances) {
     uint64_t total = 0, mix = 0;
     for (uint32_t account = 0; account < ACCOUNTS; account++) {
         total += balances[account];
-        mix += (uint64_t)(account + 1) * balances[account];
+        mix += (account + 1) * balances[account];
     }
     printf("transfers %" PRIu32 "\ndone %" PRIu32 "\nrefused %" PRIu32 "\n", transfers, done, refused);
     printf("lsn %" PRIu64 "\ntotal %" PRIu64 "\nmix %" PRIu64 "\n", lsn, total, mix);
