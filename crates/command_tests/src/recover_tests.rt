@@ -187,11 +187,11 @@ fn recovers_made<R: Threads + Wait + Clock + Sync + AllocGlobal + Abort>(
 fn recovers_what_new_made(rt: HostRuntime) -> Result<(), Fail> {
     let given = Given {
         held: b"an old text",
-        input: b"2147483647\n0\n5",
+        input: b"4611686018427387903\n0\n5",
         ..Given::words(NEW)
     };
     let made = answer_at(&rt, &given, &OpenGate)?;
-    let text = b"lsn 6\n0 2147483647\n1 0\n2 5\n";
+    let text = b"lsn 6\n0 4611686018427387903\n1 0\n2 5\n";
     has_answered(&given, &made, &End::Fine, text)?;
     recovers_made(&rt, &made)
 }

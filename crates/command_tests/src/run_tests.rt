@@ -125,13 +125,13 @@ fn each_outcome_of_a_transfer(rt: HostRuntime) -> Result<(), Fail> {
 
 #[test]
 fn over_at_the_greatest_balance(rt: HostRuntime) -> Result<(), Fail> {
-    let mut answer = made(&rt, b"100\n2147483647\n")?;
+    let mut answer = made(&rt, b"100\n4611686018427387903\n")?;
     let given = Given {
         input: b"pay 0 1 1\n",
         ..Given::words(ALONE)
     };
     run_on(&rt, &given, &mut answer, &OpenGate)?;
-    let text = b"over 1 1 5\nlsn 5\n0 100\n1 2147483647\n";
+    let text = b"over 1 1 5\nlsn 5\n0 100\n1 4611686018427387903\n";
     has_answered(&given, &answer, &End::Fine, text)?;
     Ok(())
 }
