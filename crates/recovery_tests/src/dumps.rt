@@ -81,8 +81,8 @@ const DUMPED: &[(&[&[u64]], &[u8])] = &[
         b"0 update 1 0 2147483647 0\nlsn 2\n",
     ),
     (
-        &[&[0x0102_0fff_0000_0000, 0x7fff_ffff]],
-        b"0 genesis 4095 2147483647\nlsn 2\n",
+        &[&[0x0102_0fff_0000_0000, 0x3fff_ffff_ffff_ffff]],
+        b"0 genesis 4095 4611686018427387903\nlsn 2\n",
     ),
     // Records that aren't lawful: an update that names another predecessor than its account's.
     (
