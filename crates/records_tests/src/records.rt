@@ -151,6 +151,35 @@ const NOTES: &[(&str, &[u64])] = &[
     ),
 ];
 
+/// Balances above the greatest.
+const TOO_GREAT: &[(&str, &[u64])] = &[
+    (
+        "balance 2^62",
+        &[0x0102_0001_0000_0000, 0x4000_0000_0000_0000],
+    ),
+    (
+        "balance 2^63",
+        &[0x0102_0001_0000_0000, 0x8000_0000_0000_0000],
+    ),
+    (
+        "balance 2^64 - 1",
+        &[0x0102_0001_0000_0000, 0xffff_ffff_ffff_ffff],
+    ),
+];
+
+#[test]
+fn a_genesis_has_up_to_the_greatest_balance(rt: HostRuntime) {
+    is_read_and_spelled(
+        &rt,
+        &[0x0102_0001_0000_0000, 0x3fff_ffff_ffff_ffff],
+        &Rec::Genesis {
+            account: 1,
+            balance: 4611686018427387903,
+        },
+    );
+    are_refused(&rt, TOO_GREAT);
+}
+
 /// These units begin with no record.
 fn is_refused(rt: &impl Abort, why: &str, units: &[u64]) {
     assert_eq!(rt; read(units), Err(BadRec), "{why}");
