@@ -119,6 +119,29 @@ fn tests_each_number_of_a_head(rt: HostRuntime) -> Result<(), Fail> {
     Ok(())
 }
 
+/// Balances of eight bytes in a row of a head, and the fault of the file.
+const BALANCES: &[([u8; 8], Option<ScanFault>)] = &[
+    ([0x3f, 255, 255, 255, 255, 255, 255, 255], None),
+    ([0x40, 0, 0, 0, 0, 0, 0, 0], Some(ScanFault::BadSnapshot)),
+    ([0x80, 0, 0, 0, 0, 0, 0, 0], Some(ScanFault::BadSnapshot)),
+    ([255; 8], Some(ScanFault::BadSnapshot)),
+];
+
+/// Where the balances of both rows stand.
+const ROWS: [usize; 2] = [20, 32];
+
+#[test]
+fn a_row_has_up_to_the_greatest_balance(rt: HostRuntime) -> Result<(), Fail> {
+    for place in ROWS {
+        for (bytes, fault) in BALANCES {
+            let file = cut_with(rt.alloc(), place, bytes)?;
+            let found = scan(rt.alloc(), file.as_slice()).err();
+            assert!(rt; found == *fault, "{place}: {bytes:?}");
+        }
+    }
+    Ok(())
+}
+
 /// A batch of one unit, and a closed gate.
 pub const UNIT: [u8; 14] = [0x4f, 0, 0, 0, 1, 4, 1, 0, 1, 0, 0, 0, 2, 0];
 
