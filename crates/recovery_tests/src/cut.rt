@@ -36,8 +36,19 @@ pub(crate) fn cut_and(alloc: Global, batches: &[&[u64]]) -> Result<Vec<u8>, Allo
     Ok(bytes)
 }
 
+/// A file of the head alone, with these balances in its two rows.
+pub(crate) fn head_of(alloc: Global, balances: (u64, u64)) -> Result<Vec<u8>, AllocError> {
+    let mut bytes = Vec::from_slice(alloc, CUT.as_slice().split_at(20).0)?;
+    for balance in [balances.0, balances.1] {
+        bytes.extend_from_slice(&balance.to_be_bytes())?;
+        bytes.extend_from_slice(&[0, 0, 0, 9])?;
+    }
+    bytes.push(0)?;
+    Ok(bytes)
+}
+
 /// The file is refused so.
-fn is_refused<R: AllocGlobal + Abort>(rt: &R, bytes: &[u8], fault: &Fault) {
+pub(crate) fn is_refused<R: AllocGlobal + Abort>(rt: &R, bytes: &[u8], fault: &Fault) {
     is_fault(rt, "cut", bytes, recover(rt.alloc(), bytes).err(), fault);
     is_whole_in_pieces(rt, "cut", bytes);
 }

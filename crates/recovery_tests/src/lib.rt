@@ -29,3 +29,5 @@ mod view_plainly;
 mod view_rows;
 #[cfg(test)]
 mod view_units;
+#[cfg(test)]
+mod wide_balances;

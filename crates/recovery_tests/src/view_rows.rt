@@ -8,7 +8,10 @@ ghost use Rattle.ledger_view.specs.ViewedAccounts.{HasViewed};
 use crate::cut::{BACK, cut_and};
 use crate::images::{GENESIS, TRANSFER, image};
 use crate::view_plainly::is_same;
-use crate::view_units::{ALL, EIGHT_LEGS, NOTHING, REFUSED, RICH, TWO_LEGS, UNFINISHED};
+use crate::view_units::{
+    ALL, ALL_BACK, EIGHT_LEGS, GREATEST, GREATEST_SECOND, NOTHING, REFUSED, RICH, TWO_LEGS,
+    UNFINISHED,
+};
 use ledger_view::{Entries, View};
 use log_recovery::taken;
 use lsn_space::Lsn;
@@ -123,6 +126,44 @@ const ROWS: &[Row] = &[
     (&[&GENESIS, &UNFINISHED], 1, Some((0, &[])), &[(8, Some(0))]),
 ];
 
+/// At the greatest balance: what goes from it and comes back, and eight legs there and back, which move nothing.
+const WIDE: &[Row] = &[
+    (
+        &[&GREATEST, &ALL, &ALL_BACK],
+        0,
+        Some((
+            4611686018427387903,
+            &[
+                (9, 1, -2147483647, 4611686016279904256),
+                (14, 2, 2147483647, 4611686018427387903),
+            ],
+        )),
+        &[
+            (2, Some(4611686018427387903)),
+            (8, Some(4611686018427387903)),
+            (9, Some(4611686016279904256)),
+            (13, Some(4611686016279904256)),
+            (14, Some(4611686018427387903)),
+        ],
+    ),
+    (
+        &[&GREATEST, &EIGHT_LEGS],
+        0,
+        Some((4611686018427387903, &[(37, 1, 0, 4611686018427387903)])),
+        &[
+            (36, Some(4611686018427387903)),
+            (37, Some(4611686018427387903)),
+        ],
+    ),
+    // The first four legs would overfill it.
+    (
+        &[&GREATEST_SECOND, &EIGHT_LEGS],
+        1,
+        Some((4611686018427387903, &[(37, 1, 0, 4611686018427387903)])),
+        &[(37, Some(4611686018427387903))],
+    ),
+];
+
 /// The same behind a log that was cut at 9.
 const BEHIND: &[Row] = &[
     (&[], 0, Some((70, &[])), &[(0, Some(70)), (9, Some(70))]),
@@ -177,14 +218,20 @@ fn is_answered<R: AllocGlobal + Abort>(rt: &R, bytes: &[u8], row: &Row) {
     has_answers(rt, &both.0, row);
 }
 
-#[test]
-fn whole_logs(rt: HostRuntime) -> Result<(), Fail> {
-    for row in ROWS {
+/// Views of these whole logs answer so, and as the plain program does.
+fn are_answered<R: AllocGlobal + Abort>(rt: &R, rows: &[Row]) -> Result<(), Fail> {
+    for row in rows {
         let bytes = image(rt.alloc(), row.0)?;
-        is_answered(&rt, bytes.as_slice(), row);
+        is_answered(rt, bytes.as_slice(), row);
         assert!(rt; is_same(rt.alloc(), bytes.as_slice()), "{}", row.1);
     }
     Ok(())
+}
+
+#[test]
+fn whole_logs(rt: HostRuntime) -> Result<(), Fail> {
+    are_answered(&rt, ROWS)?;
+    are_answered(&rt, WIDE)
 }
 
 #[test]
