@@ -1,10 +1,12 @@
-//! Tests of `txn_script` and `command_line`, and of `job_queue`: passes that take places in turns, by hand, and are given back.
+//! Tests of `txn_script`, `command_line` and `run_plan`, and of `job_queue`: passes that take places in turns, by hand, and are given back.
 #![tactic(auto)]
 
 #[cfg(test)]
 mod generated;
 #[cfg(test)]
 mod queue;
+#[cfg(test)]
+mod summaries;
 #[cfg(test)]
 mod texts;
 #[cfg(test)]

@@ -84,6 +84,42 @@ fn names_the_first_bad_balance(rt: HostRuntime) {
     }
 }
 
+/// Numbers from the greatest balance on.
+const WIDE: &[(&[u8], &[u64])] = &[
+    (b"4611686018427387903\n", &[4611686018427387903]),
+    (
+        b"4611686018427387902\n0\n4611686018427387903",
+        &[4611686018427387902, 0, 4611686018427387903],
+    ),
+    (
+        b"4294967296\n2147483648\n9007199254740993\n",
+        &[4294967296, 2147483648, 9007199254740993],
+    ),
+];
+
+/// Above it, also past 64 bits, and with a leading zero.
+const TOO_WIDE: &[(&[u8], u64)] = &[
+    (b"4611686018427387904\n", 1),
+    (b"100\n4611686018427387904\n", 2),
+    (b"4611686018427387903\n9223372036854775808\n", 2),
+    (b"0\n18446744073709551615\n0\n", 2),
+    (b"0\n0\n18446744073709551616\n", 3),
+    (b"18446744073709551716", 1),
+    (b"123456789012345678901234567890\n", 1),
+    (b"7\n04611686018427387903\n", 2),
+];
+
+#[test]
+fn the_greatest_balance_is_the_last(rt: HostRuntime) -> Result<(), Fail> {
+    for (text, want) in WIDE {
+        reads(&rt, text, want)?;
+    }
+    for (text, line) in TOO_WIDE {
+        refuses_balances(&rt, text, *line);
+    }
+    Ok(())
+}
+
 /// 4097 lines, each `1`.
 fn lines_of_1() -> [u8; 8194] {
     let mut text = [b'\n'; 8194];
