@@ -14,4 +14,6 @@ mod giving_tests;
 #[cfg(test)]
 mod waking_tests;
 #[cfg(test)]
+mod wide_tests;
+#[cfg(test)]
 mod worker_tests;

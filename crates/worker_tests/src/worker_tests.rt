@@ -13,7 +13,7 @@ use txn_runner::{Answer, Cause, Relief, Rows, Worked, YieldRelief};
 const GENESIS_END: u32 = 4;
 
 /// A worker alone makes the whole script, with these rows, and leaves these balances.
-fn makes_all<R: Wait + Abort>(
+pub(crate) fn makes_all<R: Wait + Abort>(
     rt: &R,
     alloc: Global,
     balances: (u64, u64),
