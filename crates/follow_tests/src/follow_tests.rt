@@ -34,7 +34,7 @@ fn logs_and_streams_are_as_by_hand(rt: HostRuntime) -> Result<(), Fail> {
 }
 
 /// The log of a row follows its stream.
-fn follows_row<R: Threads + Wait + Clock + Sync + AllocGlobal>(
+pub(crate) fn follows_row<R: Threads + Wait + Clock + Sync + AllocGlobal>(
     rt: &R,
     log: Log,
     stream: Stream,

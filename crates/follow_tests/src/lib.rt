@@ -17,3 +17,5 @@ mod view_command_tests;
 mod view_logs;
 #[cfg(test)]
 mod view_tests;
+#[cfg(test)]
+mod wide_tests;

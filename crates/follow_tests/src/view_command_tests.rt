@@ -1,7 +1,9 @@
 //! What `asof` and `statement` answer, row by row.
 
 use crate::logs::{BACK, CUT_HEAD, GENESIS, THERE, WRONG_PREDECESSOR, file_of};
-use crate::view_logs::{ALL_OF_IT, GREATEST, SHORT, TWO_LEGS, UNFINISHED, to_and_fro};
+use crate::view_logs::{
+    ALL_BACK, ALL_OF_IT, GREATEST, RICH, SHORT, TWO_LEGS, UNFINISHED, to_and_fro,
+};
 use cli_shared::Detail;
 use cli_view::asof_command::asof_command;
 use cli_view::statement_command::statement_command;
@@ -142,15 +144,34 @@ const TEXTS: &[Row] = &[
     ),
     (
         b"",
-        &[&GREATEST, &ALL_OF_IT],
+        &[&RICH, &ALL_OF_IT],
         Question::Statement(0),
         b"open 2147483647\n9 1 -2147483647 0\nlsn 9\n",
     ),
     (
         b"",
-        &[&GREATEST, &ALL_OF_IT],
+        &[&RICH, &ALL_OF_IT],
         Question::Statement(1),
         b"open 0\n9 1 2147483647 2147483647\nlsn 9\n",
+    ),
+    (
+        b"",
+        &[&GREATEST, &ALL_OF_IT, &ALL_BACK],
+        Question::Statement(0),
+        b"open 4611686018427387903\n9 1 -2147483647 4611686016279904256\n\
+            14 2 2147483647 4611686018427387903\nlsn 14\n",
+    ),
+    (
+        b"",
+        &[&GREATEST, &ALL_OF_IT, &ALL_BACK],
+        Question::AsOf(9),
+        b"lsn 9\n0 4611686016279904256\n1 2147483647\n",
+    ),
+    (
+        b"",
+        &[&GREATEST, &ALL_OF_IT, &ALL_BACK],
+        Question::AsOf(14),
+        b"lsn 14\n0 4611686018427387903\n1 0\n",
     ),
     (CUT_HEAD, &[], Question::Statement(0), b"open 70\nlsn 9\n"),
     (
@@ -170,18 +191,24 @@ fn writes_texts(rt: HostRuntime) -> Result<(), Fail> {
     Ok(())
 }
 
+/// The accounts, and the statement of account 0 where it has eight legs that come to 0.
+const SUMMED: &[(&[u64], &[u8])] = &[
+    (&GENESIS, b"open 100\n37 1 0 100\nlsn 37\n"),
+    (
+        &GREATEST,
+        b"open 4611686018427387903\n37 1 0 4611686018427387903\nlsn 37\n",
+    ),
+];
+
 #[test]
 fn sums_eight_legs_to_0(rt: HostRuntime) -> Result<(), Fail> {
-    let legs = to_and_fro(rt.alloc())?;
-    let log = file_of(&rt, b"", &[&GENESIS, legs.as_slice()])?;
-    let text = b"open 100\n37 1 0 100\nlsn 37\n";
-    answers(
-        &rt,
-        log.as_slice(),
-        Question::Statement(0),
-        Detail::Fine,
-        text,
-    )
+    let statement = Question::Statement(0);
+    for (accounts, text) in SUMMED {
+        let units = to_and_fro(rt.alloc(), accounts)?;
+        let log = file_of(&rt, b"", &[units.as_slice()])?;
+        answers(&rt, log.as_slice(), statement, Detail::Fine, text)?;
+    }
+    Ok(())
 }
 
 /// LSNs that are no boundary of these logs: within a record, behind the end, and before a list.

@@ -2,8 +2,16 @@
 
 use std::alloc::{AllocError, Global};
 
+/// Accounts 0 and 1, of 2147483647, the most that a leg moves, and 0.
+pub(crate) const RICH: [u64; 4] = [0x0102_0000_0000_0000, 2147483647, 0x0102_0001_0000_0000, 0];
+
 /// Accounts 0 and 1, of the greatest balance and 0.
-pub(crate) const GREATEST: [u64; 4] = [0x0102_0000_0000_0000, 2147483647, 0x0102_0001_0000_0000, 0];
+pub(crate) const GREATEST: [u64; 4] = [
+    0x0102_0000_0000_0000,
+    0x3fff_ffff_ffff_ffff,
+    0x0102_0001_0000_0000,
+    0,
+];
 
 /// 30 from account 0 to account 1, without an end.
 pub(crate) const UNFINISHED: [u64; 4] = [
@@ -38,6 +46,15 @@ pub(crate) const ALL_OF_IT: [u64; 5] = [
     0x0301_0001_0000_0001,
 ];
 
+/// The same back, by transaction 2.
+pub(crate) const ALL_BACK: [u64; 5] = [
+    0x0202_0001_0000_0002,
+    0x8000_0001_0000_0009,
+    0x0202_0000_0000_0002,
+    0x7fff_ffff_0000_0009,
+    0x0301_0001_0000_0002,
+];
+
 /// The units of an update of transaction 1.
 fn push_update(units: &mut Vec<u64>, account: u64, delta: u64) -> Result<(), AllocError> {
     units.push(0x0202_0000_0000_0001 | (account << 32))?;
@@ -45,9 +62,12 @@ fn push_update(units: &mut Vec<u64>, account: u64, delta: u64) -> Result<(), All
     Ok(())
 }
 
-/// Eight legs of the greatest amount, four from account 0 to account 1, and four back.
-pub(crate) fn to_and_fro(alloc: Global) -> Result<Vec<u64>, AllocError> {
+/// These accounts, and behind them eight legs of the greatest amount, four from account 0 to account 1, and four back.
+pub(crate) fn to_and_fro(alloc: Global, accounts: &[u64]) -> Result<Vec<u64>, AllocError> {
     let mut units = Vec::new(alloc);
+    for unit in accounts {
+        units.push(*unit)?;
+    }
     for (from, to) in [
         (0, 1),
         (0, 1),
