@@ -13,7 +13,7 @@ import argparse, os, random, struct, subprocess, sys, tempfile
 from collections import namedtuple
 
 TOP = os.path.dirname(os.path.dirname(os.path.realpath(__file__)))
-OPEN, MOST_UNITS, MOST_LSN, MOST_ACCOUNTS, MOST_BALANCE = 0x4F, 1048576, 4294967295, 4096, 2147483647
+OPEN, MOST_UNITS, MOST_LSN, MOST_ACCOUNTS, MOST_BALANCE = 0x4F, 1048576, 4294967295, 4096, 4611686018427387903
 MAGIC, MOST_OF_FRAME, SHIPPED_UNITS = b"AESHIP1", 65536, 512
 
 # What a call answers, and what LOG holds then.

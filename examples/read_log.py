@@ -3,7 +3,7 @@
 language would be. Where the bytes are no log it says what is wrong, and ends with status 7."""
 import sys
 
-OPEN, MOST_UNITS, MOST_LSN, MOST_ACCOUNTS, MOST_BALANCE = 0x4F, 1048576, 4294967295, 4096, 2147483647
+OPEN, MOST_UNITS, MOST_LSN, MOST_ACCOUNTS, MOST_BALANCE = 0x4F, 1048576, 4294967295, 4096, 4611686018427387903
 
 
 class Fault(Exception):
