@@ -433,9 +433,11 @@ def ends_of_logs(trial, stream):
 
 
 def bank(seed, transfers, accounts=5):
-    """The bytes of a log of transfers by lot: of several legs, with notes, unfinished, refused, and between one another."""
+    """The bytes of a log of transfers by lot: of several legs, with notes, unfinished, refused, and between one another; of every third seed up to the
+    greatest balance."""
     lot = random.Random(seed)
-    units = [unit for account in range(accounts) for unit in (0x0102000000000000 + (account << 32), lot.randrange(40, 200))]
+    least = MOST_BALANCE - 199 if seed % 3 == 2 else 0
+    units = [unit for account in range(accounts) for unit in (0x0102000000000000 + (account << 32), least + lot.randrange(40, 200))]
     judge = Judge(Log(0, None, [], [], 0, 0))
     for start, rec in spelled(units)[0]:
         judge.take(start, rec)
@@ -463,7 +465,7 @@ def bank(seed, transfers, accounts=5):
             put(0x0202000000000000 + (payer << 32) + txn, ((1 << 32) - amount << 32) + judge.marks[payer])
             put(0x0202000000000000 + (payee << 32) + txn, (amount << 32) + judge.marks[payee])
         if lot.random() < 0.9 and not put(0x0301000000000000 + (legs << 32) + txn) and legs < 8:
-            put(0x0401000000000000 + (legs + 1 << 32) + txn)
+            put((0x0501000000000000 if least else 0x0401000000000000) + (legs + 1 << 32) + txn)
     return log_with(units, lot)
 
 
@@ -522,7 +524,7 @@ def demos(trial):
 
 
 def logs(trial):
-    names = ("genesis", "one_transfer", "unfinished_transfer", "wrong_predecessor", "greatest_transaction", "cut", "upgraded")
+    names = ("genesis", "one_transfer", "unfinished_transfer", "wrong_predecessor", "greatest_transaction", "cut", "upgraded", "wide_balances")
     made = {name: example(name) for name in names}
     made.update({f"bank {seed}": bank(seed, 20) for seed in range(3)})
     for name, log in made.items():

@@ -145,7 +145,7 @@ near_bank() {
 
 # Heads as a stranger might make them.
 head_cases() {
-    local rows=(70 9 30 9) short=0401000100000002 file
+    local rows=(70 9 30 9) short=0401000100000002 balance
     head -c 20 "$cut_log" | cat - <(bytes_of 0000000000000046 0000000A) <(tail -c +33 "$cut_log") > "$work/bad"
     expect_bad 'bad snapshot'
     head -c 43 "$cut_log" > "$work/bad"
@@ -155,10 +155,12 @@ head_cases() {
     # shellcheck disable=SC2046
     { head_of 9 1 $(yes '1 0' | head -n 4097); printf '\0'; } > "$work/bad"
     expect_bad 'bad snapshot'
-    { head_of 9 1 70 9 2147483648 9; printf '\0'; } > "$work/bad"
-    expect_bad 'bad snapshot'
-    bytes_of 4F41455448455232 00000009 00000001 00000002 8000000000000000 00000009 0000000000000000 00000009 00 > "$work/bad"
-    expect_bad 'bad snapshot'
+    for balance in 4000000000000000 8000000000000000 FFFFFFFFFFFFFFFF; do
+        { head_of 9 1 70 9 $((16#$balance)) 9; printf '\0'; } > "$work/bad"
+        expect_bad 'bad snapshot'
+        { head_of 9 1 $((16#$balance)) 9 0 9; printf '\0'; } > "$work/bad"
+        expect_bad 'bad snapshot'
+    done
     tr 1 2 < "$examples/genesis.log" > "$work/bad"
     expect_bad 'bad snapshot'
     tr 2 1 < "$cut_log" > "$work/bad"

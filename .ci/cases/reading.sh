@@ -10,6 +10,8 @@ recover_cases() {
     expect 'an unfinished transfer' 0 $'lsn 8\n0 100\n1 0\n' ''
     on_file "$examples/greatest_transaction.log" recover
     expect 'the greatest transaction' 0 $'lsn 5\n0 100\n1 0\n' ''
+    on_file "$examples/wide_balances.log" recover
+    expect 'wide balances' 0 $'lsn 10\n0 9007199254740993\n1 4611686018427387903\n' ''
     { head -c 20 "$examples/one_transfer.log"; sleep 0.1; tail -c +21 "$examples/one_transfer.log"; } | "$program" recover > "$work/out" 2> "$work/err"
     status=$?
     expect 'recover: an input in pieces' 0 $'lsn 9\n0 70\n1 30\n' ''
@@ -68,6 +70,9 @@ dump_cases() {
     on_file "$examples/one_transfer.log" dump
     expect 'dump: one transfer' 0 \
         $'0 genesis 0 100\n2 genesis 1 0\n4 update 1 0 -30 0\n6 update 1 1 30 0\n8 commit 1 1\nlsn 9\n' ''
+    on_file "$examples/wide_balances.log" dump
+    expect 'dump: wide balances' 0 $'0 genesis 0 9007199254740994\n2 genesis 1 4611686018427387902
+4 update 1 0 -1 0\n6 update 1 1 1 0\n8 commit 1 1\n9 over 2 1\nlsn 10\n' ''
     on_file "$examples/wrong_predecessor.log" dump
     expect 'dump: a list that is not lawful' 0 $'0 genesis 0 100\n2 genesis 1 0\n4 update 1 0 -30 4\nlsn 6\n' ''
 

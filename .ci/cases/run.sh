@@ -32,11 +32,11 @@ run_cases() {
     run_on "$examples/unfinished_transfer.log" 'pay 0 1 10' --workers 1
     expect 'run: behind an unfinished transfer' 0 $'done 8 13\nlsn 13\n0 90\n1 10\n' ''
     rm -f "$log"
-    printf '100\n2147483647\n' > "$work/balances_full"
+    printf '100\n4611686018427387903\n' > "$work/balances_full"
     on_file "$work/balances_full" new "$log"
     printf 'pay 0 1 1' > "$work/script"
     on_file "$work/script" run "$log"
-    expect 'run: an account that is full' 0 $'over 1 1 5\nlsn 5\n0 100\n1 2147483647\n' ''
+    expect 'run: an account that is full' 0 $'over 1 1 5\nlsn 5\n0 100\n1 4611686018427387903\n' ''
 
     for options in 1 2 3 4 16; do
         run_on "$examples/genesis.log" $'pay 0 1 30\npay 0 1 80\n' --workers "$options"

@@ -21,18 +21,28 @@ make_views() {
     cp "$log" "$views/rich.log"
     run_on "$views/rich.log" $'pay 0 1 2147483647\npay 1 0 2147483647\n' --workers 1
     cp "$log" "$views/all.log"
-    eight_legs > "$views/eight.log"
+    printf '4611686018427387903\n0\n' > "$work/rich"
+    rm -f "$log"
+    "$program" new "$log" < "$work/rich" > /dev/null
+    cp "$log" "$views/greatest.log"
+    run_on "$views/greatest.log" $'pay 0 1 2147483647\npay 1 0 2147483647\n' --workers 1
+    cp "$log" "$views/greatest_back.log"
+    # shellcheck disable=SC2046
+    { head -c 44 "$examples/genesis.log"; batch_of $(eight_legs); } > "$views/eight.log"
+    # shellcheck disable=SC2046
+    { head -c 44 "$views/greatest.log"; batch_of $(eight_legs); } > "$views/greatest_eight.log"
     { log_of "${thirty_units[@]}" | head -c -1; printf 'O'; } > "$views/lone_gate.log"
     log_of 0202000000000007 FFFFFFE200000000 0202000100000007 0000001E00000000 "${thirty_units[@]}" > "$views/open_before.log"
 }
 
-# Four legs of 2147483647 there and four back, which no run makes: the list is lawful all the same, as it is the balances after a Commit that count.
+# The units of four legs of 2147483647 there and four back, which no run makes of an account with 100: the list is lawful all the same, as it is the balances
+# after a Commit that count.
 eight_legs() {
-    local units=() leg
+    local leg
     for leg in 0 0 0 0 1 1 1 1; do
-        units+=("0202000${leg}00000001" 8000000100000000 "0202000$((1 - leg))00000001" 7FFFFFFF00000000)
+        echo "0202000${leg}00000001" 8000000100000000 "0202000$((1 - leg))00000001" 7FFFFFFF00000000
     done
-    log_of "${units[@]}" 0301000800000001
+    echo 0301000800000001
 }
 
 # A row: LOG, the command with its number, the status, and the text or the line, with \n between lines. At once, in pieces of 1 and 7 bytes, and where
@@ -108,6 +118,18 @@ legs|asof 39|0|lsn 39\n0 70\n1 30
 rich|asof 2|0|lsn 2\n0 2147483647
 all|statement 0|0|open 2147483647\n9 1 -2147483647 0\n14 2 2147483647 2147483647\nlsn 14
 all|statement 1|0|open 0\n9 1 2147483647 2147483647\n14 2 -2147483647 0\nlsn 14
+greatest|asof 2|0|lsn 2\n0 4611686018427387903
+greatest|statement 0|0|open 4611686018427387903\nlsn 4
+greatest_back|statement 0|0|open 4611686018427387903\n9 1 -2147483647 4611686016279904256\n14 2 2147483647 4611686018427387903\nlsn 14
+greatest_back|statement 1|0|open 0\n9 1 2147483647 2147483647\n14 2 -2147483647 0\nlsn 14
+greatest_back|asof 9|0|lsn 9\n0 4611686016279904256\n1 2147483647
+greatest_back|asof 14|0|lsn 14\n0 4611686018427387903\n1 0
+greatest_eight|statement 0|0|open 4611686018427387903\n37 1 0 4611686018427387903\nlsn 37
+greatest_eight|statement 1|0|open 0\n37 1 0 0\nlsn 37
+greatest_eight|asof 37|0|lsn 37\n0 4611686018427387903\n1 0
+wide_balances|statement 0|0|open 9007199254740994\n9 1 -1 9007199254740993\nlsn 10
+wide_balances|statement 1|0|open 4611686018427387902\n9 1 1 4611686018427387903\nlsn 10
+wide_balances|asof 8|0|lsn 8\n0 9007199254740994\n1 4611686018427387902
 eight|statement 0|0|open 100\n37 1 0 100\nlsn 37
 eight|statement 1|0|open 0\n37 1 0 0\nlsn 37
 eight|asof 36|0|lsn 36\n0 100\n1 0
