@@ -14,7 +14,7 @@ use std::time::Clock;
 pub(crate) type Ended = (u32, u32);
 
 /// What stands before the first such byte, and what behind it.
-fn cut(text: &[u8], at: u8) -> Option<(&[u8], &[u8])> {
+pub(crate) fn cut(text: &[u8], at: u8) -> Option<(&[u8], &[u8])> {
     let place = text.iter().position(|byte| *byte == at)?;
     let (front, rest) = text.split_at_checked(place)?;
     match rest {
@@ -24,13 +24,13 @@ fn cut(text: &[u8], at: u8) -> Option<(&[u8], &[u8])> {
 }
 
 /// The transaction number or the LSN, at least this, of which this is the text.
-fn number_in(text: &[u8], least: u32) -> Option<u32> {
+pub(crate) fn number_in(text: &[u8], least: u32) -> Option<u32> {
     let n = number(text, u64::from(least), u64::from(u32::MAX))?;
     Some(n as u32)
 }
 
 /// What a line `done N END` of a run tells.
-fn told(line: &[u8]) -> Option<Ended> {
+pub(crate) fn told(line: &[u8]) -> Option<Ended> {
     let (txn, end) = cut(line.strip_prefix(b"done ")?, b' ')?;
     Some((number_in(txn, 1)?, number_in(end, 1)?))
 }

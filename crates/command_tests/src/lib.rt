@@ -20,6 +20,8 @@ mod overlap_tests;
 #[cfg(test)]
 mod recover_tests;
 #[cfg(test)]
+mod replay_tests;
+#[cfg(test)]
 mod run_tests;
 #[cfg(test)]
 mod scripts;
