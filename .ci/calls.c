@@ -6,6 +6,7 @@
  *     MEANWHILE=1     where the program makes a file anew, another program has made it just before
  *     NO_DATA_SYNCS=1 a sync of a file's data fails, and does nothing
  *     TOLD=file       each lock, sync and write of a file is told there, in a line with the file's name
+ *     SLEEPS=file     each sleep of more than a millisecond is told there, in a line with how many nanoseconds were asked for
  *
  * And one call by its number, counted from 1 over all calls on files and streams:
  *
@@ -264,4 +265,20 @@ int flock(int fd, int how) {
         return fail(ENOLCK);
     tell("flock", fd);
     return ((int (*)(int, int))NEXT("flock"))(fd, how);
+}
+
+struct span {
+    long seconds, nanos;
+};
+
+int nanosleep(const struct span *asked, struct span *left) {
+    const char *sleeps = getenv("SLEEPS");
+    long nanos = asked->seconds > 1000000000 ? 1000000000000000000 : 1000000000 * asked->seconds + asked->nanos;
+    int out;
+    if (sleeps && nanos > 1000000) {
+        out = own_open(sleeps, O_WRONLY | O_CREAT | O_APPEND);
+        dprintf(out, "%ld\n", nanos);
+        own_close(out);
+    }
+    return ((int (*)(const struct span *, struct span *))NEXT("nanosleep"))(asked, left);
 }

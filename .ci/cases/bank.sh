@@ -104,6 +104,20 @@ kill_bank() {
     judge_bank "$name"
 }
 
+# In many waits no sleep is longer than a millisecond: a nap that grew from one to the next would be.
+sleep_cases() {
+    local options
+    [ -n "$calls" ] || return
+    for options in '--workers 1' '--workers 2'; do
+        open_bank 5000
+        : > "$work/sleeps"
+        # shellcheck disable=SC2086
+        on_file_so "SLEEPS=$work/sleeps" "$work/left" run "$log" --wait $options
+        end_bank "a bank of 5,000 transfers, --wait $options"
+        expect_file "a bank of 5,000 transfers, --wait $options: the sleeps" "$work/sleeps" /dev/null
+    done
+}
+
 bank_cases() {
     local options
     command -v python3 > /dev/null || echo 'built_program: no python3, no transfers of a bank are made again'
@@ -116,6 +130,7 @@ bank_cases() {
     finish_bank 'a bank, --wait' --wait
     open_bank 100
     finish_bank 'a bank of sixteen workers, --wait' --workers 16 --wait
+    sleep_cases
 
     open_bank 10000
     kill_bank 'a bank, killed' 1 KILL --workers 1

@@ -60,6 +60,7 @@ memory_cases() {
 }
 
 # Within the memory that the program itself needs: of a log of 4 MB `recover` and `cut` keep what it comes to, of one of 12 MB the others more than that.
+# A log of 40 MB is read by both in 20.
 large_log_cases() {
     local name
     rm -f "$work/demo.log" "$work/none.log"
@@ -79,6 +80,17 @@ large_log_cases() {
         # shellcheck disable=SC2086
         on_file_within 8000 "$work/demo.log" $name
         expect "${name%% *}: a log for which there is no memory" 1 '' 'aether: out of memory'
+    done
+    yes $'pay 0 1 1\npay 1 0 1' | head -n 800000 > "$work/script"
+    on_file "$work/script" run "$work/demo.log" --workers 1
+    tail -n 65 "$work/out" > "$work/accounts"
+    expect_true 'recover: a log of 40 MB' [ "$(wc -c < "$work/demo.log")" -gt 40000000 ]
+    for name in recover "cut $work/none.log"; do
+        rm -f "$work/none.log"
+        # shellcheck disable=SC2086
+        on_file_within 20000 "$work/demo.log" $name
+        expect_true "${name%% *}: a log of 40 MB within 20" [ "$status" = 0 ]
+        expect_file "${name%% *}: the accounts of a log of 40 MB" "$work/out" "$work/accounts"
     done
     rm -f "$work/demo.log" "$work/none.log"
 }

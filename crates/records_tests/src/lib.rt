@@ -1,4 +1,4 @@
-//! Tests of `lsn_space`, `slot_word`, `ring_core`, `log_record` and `slot_core`.
+//! Tests of `lsn_space`, `idle_backoff`, `slot_word`, `ring_core`, `log_record` and `slot_core`.
 #![tactic(auto)]
 
 #[cfg(test)]
@@ -7,6 +7,8 @@ mod account_words;
 mod group_rig;
 #[cfg(test)]
 mod groups;
+#[cfg(test)]
+mod idle_times;
 #[cfg(test)]
 mod records;
 #[cfg(test)]
