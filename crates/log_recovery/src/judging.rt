@@ -29,7 +29,8 @@ pub enum UnitsFault {
 fn unlawful(opening: &Opening, units: &[u64], rest: &[u64], lsn: Lsn, why: Why) -> UnitsFault
     requires fails { FailsBefore opening.now units.now rest.now lsn why }
     requires fits { opening.now.lsn + length units.now ≤ LAST }
-    ensures { IsUnitsFaultOf opening.now units.now result }
+    ensures fault { IsUnitsFaultOf opening.now units.now result }
+    ensures memory { result ≡ UnitsFault.NoMemory → ⊥ }
 {
     match first_bad(begin_of(opening), units, rest) {
         Some(lsn) => UnitsFault::BadRec { lsn },

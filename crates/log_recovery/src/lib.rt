@@ -8,6 +8,7 @@ mod judging;
 mod line;
 mod list_result;
 mod listing;
+mod numbers;
 mod places;
 mod recovery;
 mod texts;
@@ -19,6 +20,7 @@ pub use line::{LINE_BYTES, Line};
 pub use list_result::Listed;
 pub use listing::{listed, listed_scan};
 pub use lock_core::Why;
+pub use numbers::fixed_numbers;
 pub use places::place_of;
 pub use recovery::{
     RecoverFault, Recovered, judged, one_answer, recover, recover_list, recover_owned,

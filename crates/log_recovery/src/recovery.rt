@@ -57,6 +57,7 @@ pub enum RecoverFault {
 pub fn scan_fault(fault: ScanFault) -> RecoverFault
     ensures fault { (bytes : List ℕ) → IsScanFaultOf bytes fault → IsFaultOf bytes result }
     ensures listed { (bytes : List ℕ) → IsScanFaultOf bytes fault → IsListedFaultOf bytes result }
+    ensures memory { result ≡ RecoverFault.NoMemory → fault ≡ ScanFault.NoMemory }
 {
     match fault {
         ScanFault::NotALog => RecoverFault::NotALog,
@@ -68,7 +69,8 @@ pub fn scan_fault(fault: ScanFault) -> RecoverFault
 
 /// The fault of recovery that a fault of a log's units is.
 pub fn units_fault(fault: UnitsFault) -> RecoverFault
-    ensures { (bytes : List ℕ) (log : Log) → HoldsLog bytes log → IsUnitsFaultOf log.opening log.units fault → IsFaultOf bytes result }
+    ensures fault { (bytes : List ℕ) (log : Log) → HoldsLog bytes log → IsUnitsFaultOf log.opening log.units fault → IsFaultOf bytes result }
+    ensures memory { result ≡ RecoverFault.NoMemory → fault ≡ UnitsFault.NoMemory }
 {
     match fault {
         UnitsFault::BadRec { lsn } => RecoverFault::BadRec { lsn },

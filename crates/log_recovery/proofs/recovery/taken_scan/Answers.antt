@@ -10,7 +10,7 @@ taken_units-requires-clause-fits g c = scan_end-within_last c.args.scan c.requir
 
 pub returns-in-Err-clause-fault : goal.returns-in-Err-clause-fault
 returns-in-Err-clause-fault g c bytes scans =
-    c.units_fault.ensures bytes (record { opening = c.args.scan.opening; units = c.as_slice.result.now })
+    c.units_fault.ensures.fault bytes (record { opening = c.args.scan.opening; units = c.as_slice.result.now })
     (scan-holds c.args.scan bytes c.as_slice.result.now scans c.as_slice.ensures) c.in-Err.ensures.fault
 
 pub returns-in-Ok-clause-found : goal.returns-in-Ok-clause-found
