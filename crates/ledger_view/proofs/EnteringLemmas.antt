@@ -32,12 +32,18 @@ first_entry_of_row-net [] first net row leads none is =
     ap (λ n. entry_of_row n row ∷ []) is ∙ ap (λ (e : Entry). e ∷ []) (entry_of_row-net leads.before row net leads.sum)
 first_entry_of_row-net (x ∷ entries) first net row leads none is = absurd (omega arith)
 
+-- what stands at an account's place is what is kept of it
+pub kept_at-account_at : (rows accounts : List Account) (account : ℕ) (kept : Account) → rows ≡ accounts → account < length accounts
+    → kept ≡ get_or rows account kept → kept ≡ account_at accounts account
+kept_at-account_at rows accounts account kept seen inside is =
+    is ∙ ap (λ l. get_or l account kept) seen ∙ get_or_default accounts account kept untouched inside
+
 -- an account that is written back with an entry more
 pub set-with_entry : (rows accounts : List Account) (account : ℕ) (kept : Account) (entries : List Entry) (entry : Entry) → rows ≡ accounts → account < length accounts
     → kept ≡ get_or rows account kept → (kept ≡ account_at accounts account → entries ≡ (account_at accounts account).entries ++ entry ∷ [])
     → set rows account (record { since = kept.since; entries = entries }) ≡ set accounts account (with_entry (account_at accounts account) entry)
 set-with_entry rows accounts account kept entries entry seen inside is grown =
-    let same : kept ≡ account_at accounts account = is ∙ ap (λ l. get_or l account kept) seen ∙ get_or_default accounts account kept untouched inside in
+    let same = kept_at-account_at rows accounts account kept seen inside is in
     λ i. set (seen i) account (record { since = (same i).since; entries = grown same i })
 
 module _ (opening : Opening) (h : List Placed) (txn end : ℕ) (changes : List Change) where

@@ -9,11 +9,11 @@ use Rattle.log_record.specs.LogList.{size_of, prefix_to}
 use Rattle.lock_core.specs.History.{end_from, entry_at, history_from}
 use Rattle.ledger_view.specs.Entries.{front_to}
 
-front_to-past : (entry : Placed) (h : List Placed) (lsn : ℕ) → lsn < entry.end → front_to (entry ∷ h) lsn ≡ front_to h lsn
+pub front_to-past : (entry : Placed) (h : List Placed) (lsn : ℕ) → lsn < entry.end → front_to (entry ∷ h) lsn ≡ front_to h lsn
 front_to-past entry h lsn past = ap (λ b. cond b (entry ∷ h) (front_to h lsn)) (lt-leb entry.end lsn past)
 
 -- all of a history that ends at or below the LSN
-front_to-whole : (start : ℕ) (h : List Placed) (lsn : ℕ) → end_from start h ≤ lsn → front_to h lsn ≡ h
+pub front_to-whole : (start : ℕ) (h : List Placed) (lsn : ℕ) → end_from start h ≤ lsn → front_to h lsn ≡ h
 front_to-whole start [] lsn below = refl
 front_to-whole start (entry ∷ h) lsn below = ap (λ b. cond b (entry ∷ h) (front_to h lsn)) (le-leb entry.end lsn below)
 

@@ -1,5 +1,6 @@
+pub mod AccountViewLemmas
+pub mod CommitLemmas
 pub mod EntryLemmas
-pub mod EndLemmas
 pub mod EnteringLemmas
 pub mod FrontLemmas
 pub mod HistoryLemmas

@@ -20,15 +20,15 @@ use Rattle.lock_core.specs.Tests.{IsGenesis}
 use Rattle.lock_core.specs.Lawful.{base_with, with_genesis}
 use Rattle.lock_core.specs.Taking.{HasJudged, IsTakeFault}
 use Rattle.lock_core.specs.declared.reason.JudgeFault.{JudgeFault}
-use Rattle.lock_core.proofs.Meeting.{all_passed-meets_tests, lawful-met}
+use Rattle.lock_core.proofs.Meeting.{lawful-met}
 use Rattle.lock_core.proofs.Pairing.{updates_of-fits}
 use Rattle.ledger_view.specs.declared.accounts.Account.{Account}
 use Rattle.ledger_view.specs.declared.view.View.{View}
 use Rattle.ledger_view.specs.Entries.{net_of, balance_after, is_commit_on, entry_of, front_to, balance_up_to}
 use Rattle.ledger_view.specs.ViewedAccounts.{untouched, account_at, KeepsAccount, HasViewed}
 use Rattle.ledger_view.specs.Entering.{with_entry, LeadsOn, AllLeadOn, Enters, CanAdd, AddsEntry}
-use Rattle.ledger_view.proofs.HistoryLemmas.{accounts-front, balance-if_unknown, judged-balance_after_in_range, commit_balance-adds_net}
-use Rattle.ledger_view.proofs.RowLemmas.{last_balance-any_first}
+use Rattle.ledger_view.proofs.HistoryLemmas.{accounts-front, balance-if_unknown, judged-balance_after_in_range}
+use Rattle.ledger_view.proofs.CommitLemmas.{commit-adds, commit-leads_on, open_changes-updates}
 use Rattle.ledger_view.proofs.KeepingLemmas.{StandsBelow, stands_below-weaken, keeps_account-none, keeps_account-opened, keeps_account-no_commit, keeps_account-commit}
 
 -- what is kept stands at or below the record to come
@@ -137,24 +137,15 @@ module _ (opening : Opening) where
       adds : (account : ℕ) → account < length old.accounts → IsBalance (balance_after opening h account)
           × (pos (balance_after opening (commit ∷ h) account) ≡ pos (balance_after opening h account) +ℤ net_of account (updates_of txn h))
       adds account inside =
-          let counted = viewed.count in
-          let within : account < (base_with opening h).accounts = omega arith in
-          let before = judged-balance_after_in_range opening old.judge h account viewed.judged within in
-          let after = judged-balance_after_in_range opening judge (commit ∷ h) account judged within in (
-            before.0,
-            commit_balance-adds_net opening txn legs commit.end h account (balance_after opening h account) (balance_after opening (commit ∷ h) account)
-                (all_passed-meets_tests opening h commit judged.ledger.judged.lawful.0).ended before.1 after.1,
-          )
+          let counted = viewed.count in commit-adds opening old.judge judge h lsn txn legs viewed.judged judged account (omega arith)
 
       -- which leads on from what is kept of it
       leads : (account : ℕ) → account < length old.accounts
           → LeadsOn (account_at old.accounts account).entries (net_of account (updates_of txn h)) (balance_after opening (commit ∷ h) account)
-      leads account inside = let kept = viewed.each account inside in let sums = adds account inside in record {
-        before = balance_after opening h account;
-        range = sums.0;
-        sum = sums.1;
-        last = λ first some. last_balance-any_first first kept.first (account_at old.accounts account).entries some ∙ kept.last;
-      }
+      leads account inside =
+          let counted = viewed.count in
+          commit-leads_on opening old.judge judge h lsn txn legs viewed.judged judged account (omega arith) (account_at old.accounts account)
+          (viewed.each account inside)
 
       pub known_changes-all_lead_on : (some : List Change) → AllByRecursion (λ (change : Change). change.account < length old.accounts) some
           → AllLeadOn opening (commit ∷ h) (updates_of txn h) some old.accounts
@@ -198,8 +189,7 @@ module _ (opening : Opening) where
     -- what a Commit commits
     pub commit-open_changes_are_updates : (rec : Rec) (txn legs : ℕ) → rec ≡ Commit txn legs → HasJudged opening judge (entry_at lsn rec ∷ h) → open_changes_of txn h ≡ updates_of txn h
     commit-open_changes_are_updates rec txn legs is judged =
-        let own = subst (λ r. HasJudged opening judge (entry_at lsn r ∷ h)) is judged in
-        ap (λ b. cond b [] (updates_of txn h)) (all_passed-meets_tests opening h (entry_at lsn (Commit txn legs)) own.ledger.judged.lawful.0).ended
+        open_changes-updates opening old.judge judge h lsn txn legs viewed.judged (subst (λ r. HasJudged opening judge (entry_at lsn r ∷ h)) is judged)
 
     -- its accounts are kept
     pub updates_of-accounts_kept : (txn : ℕ) (changes : List Change) → changes ≡ updates_of txn h

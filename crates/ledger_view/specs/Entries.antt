@@ -1,5 +1,5 @@
 -- What a history did to an account, Commit by Commit, and what the account held at an LSN, both computed from the whole history.
-use Rattle.std.specs.Prelude.{◌≡◌, ◌⊎◌, ℕ, ℤ, pos, ◌+ℤ◌, ◌==◌, ◌&&◌, nat_le, nat_lt, if◌then◌else◌, Bool, Option, Some, None, List, [], ◌∷◌, ◌++◌}
+use Rattle.std.specs.Prelude.{◌≡◌, ℕ, ℤ, pos, ◌+ℤ◌, ◌==◌, ◌&&◌, nat_le, nat_lt, if◌then◌else◌, Bool, Option, Some, None, List, [], ◌∷◌, ◌++◌}
 use Rattle.log_record.specs.declared.rec.Placed.{Placed}
 use Rattle.lock_core.specs.declared.update.Change.{Change}
 use Rattle.lock_core.specs.Records.{txn_of, commits}
@@ -36,11 +36,6 @@ entries_of opening [] account = []
 entries_of opening (entry ∷ h) account =
     if is_commit_on account entry h then entries_of opening h account ++ entry_of opening entry h account ∷ []
     else entries_of opening h account
-
--- an entry of the history ends here
-abbrev pub EndsAt : List Placed → ℕ → Type 0
-EndsAt [] end = ⊥
-EndsAt (entry ∷ h) end = (end ≡ entry.end) ⊎ EndsAt h end
 
 -- the history up to an LSN: without what stands behind the last entry that ends at or below it
 abbrev pub front_to : List Placed → ℕ → List Placed

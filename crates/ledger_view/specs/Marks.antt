@@ -1,6 +1,5 @@
--- The ends of rows, and those of them that are marked; and those of entries.
+-- The ends of rows, and those of them that are marked.
 use Rattle.std.specs.Prelude.{◌≡◌, ◌<◌, ◌≤◌, ◌+◌, ◌*◌, ℕ, List, length, slice_index_or}
-use Rattle.ledger_view.specs.declared.entries.Entry.{Entry}
 use Rattle.ledger_view.specs.declared.rows.Row.{Row}
 use Rattle.ledger_view.specs.declared.rows.TheConstants.{MARKED}
 
@@ -10,7 +9,3 @@ pub record AreMarks (marks : List ℕ) (rows : List Row) : Type 0 where
   pub few : MARKED * length marks < length rows + MARKED
   pub each : (k otherwise : ℕ) (none : Row) → k < length marks
       → slice_index_or marks k otherwise ≡ (slice_index_or rows (MARKED * k) none).end
-
--- one of the entries ends here
-abbrev pub IsEndIn : List Entry → ℕ → Type 0
-IsEndIn entries end = (i : ℕ) × (entry : Entry) × (i < length entries) × (entry ≡ slice_index_or entries i entry) × (end ≡ entry.end)

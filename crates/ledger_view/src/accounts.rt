@@ -6,7 +6,6 @@ ghost use Rattle.ledger_view.specs.ViewedAccounts.{untouched, account_at};
 ghost use Rattle.ledger_view.specs.Entering.{with_entry, LeadsOn};
 
 use crate::entries::Entries;
-use crate::net::{balance_before, net_of};
 use crate::rows::Row;
 use lock_core::Change;
 use lsn_space::{Lsn, NoMemory};
@@ -65,8 +64,7 @@ impl Accounts {
         }
     }
 
-    /// Appends to the entries of an account that of a Commit of these changes, which is kept as this row. Only for the first is the
-    /// balance before it computed.
+    /// Appends to the entries of an account that of a Commit of these changes, which is kept as this row.
     pub fn enter(&mut self, account: u32, changes: &[Change], row: Row) -> Result<(), NoMemory>
         requires known { account < length self.old }
         requires few { length changes.now ≤ MOST_UPDATES }
@@ -74,12 +72,7 @@ impl Accounts {
         ensures { OnOk result (self.new ≡ slice_set self.old account (with_entry (account_at self.old account)
             (record { end = row.end; txn = row.txn; net = net_of account changes.now; balance = row.balance }))) }
     {
-        if self.at(account).entries.count() > 0 {
-            self.rows[account as usize].entries.push(row)
-        } else {
-            let first = balance_before(row.balance, net_of(changes, account));
-            self.rows[account as usize].entries.push_first(first, row)
-        }
+        self.rows[account as usize].entries.enter(account, changes, row)
     }
 
     /// What is kept of the account.

@@ -1,12 +1,16 @@
 //! The entries of one account.
-ghost use Rattle.std.specs.Prelude.{◌≡◌, ◌<◌, ◌≤◌, ◌++◌, ◌∷◌, [], ℕ, length, slice_index_or, pos, ◌-ℤ◌, ◌⊎◌, OnOk};
+ghost use Rattle.std.specs.Prelude.{◌≡◌, ◌<◌, ◌≤◌, ◌++◌, ◌∷◌, [], ℕ, length, slice_index_or, pos, ◌-ℤ◌, OnOk};
 ghost use Rattle.std.specs.List.Sorted.{IsNonDecreasingBy};
 ghost use Rattle.log_record.specs.Spelling.{IsBalance};
-ghost use Rattle.ledger_view.specs.Rows.{entry_of_row};
+ghost use Rattle.lock_core.specs.declared.update.TheConstants.{MOST_UPDATES};
+ghost use Rattle.ledger_view.specs.Entering.{LeadsOn};
+ghost use Rattle.ledger_view.specs.Entries.{net_of};
+ghost use Rattle.ledger_view.specs.Rows.{entry_of_row, entry_of_net};
 ghost use Rattle.ledger_view.specs.ViewedAccounts.{last_balance, balance_to, AddUp};
-ghost use Rattle.ledger_view.specs.Marks.{IsEndIn};
 
+use crate::net::{balance_before, net_of};
 use crate::rows::{Row, Rows};
+use lock_core::Change;
 use lsn_space::{Lsn, NoMemory};
 use std::alloc::Global;
 use std::marker::Model;
@@ -69,8 +73,27 @@ impl Entries {
         }
     }
 
+    /// Appends that of a Commit of these changes, which is kept as this row. Only for the first is the balance before it computed.
+    pub(crate) fn enter(
+        &mut self,
+        account: u32,
+        changes: &[Change],
+        row: Row,
+    ) -> Result<(), NoMemory>
+        requires few { length changes.now ≤ MOST_UPDATES }
+        requires leads { LeadsOn self.old (net_of account changes.now) row.balance }
+        ensures { OnOk result (self.new ≡ self.old ++ entry_of_net row (net_of account changes.now) ∷ []) }
+    {
+        if self.count() > 0 {
+            self.push(row)
+        } else {
+            let first = balance_before(row.balance, net_of(changes, account));
+            self.push_first(first, row)
+        }
+    }
+
     /// Appends the first entry, before which the account has this balance.
-    pub(crate) fn push_first(&mut self, first: u64, row: Row) -> Result<(), NoMemory>
+    fn push_first(&mut self, first: u64, row: Row) -> Result<(), NoMemory>
         requires none { self.old ≡ [] }
         requires range { IsBalance first }
         ensures { OnOk result (self.new ≡ entry_of_row first row ∷ []) }
@@ -80,7 +103,7 @@ impl Entries {
     }
 
     /// Appends an entry to those that there are.
-    pub(crate) fn push(&mut self, row: Row) -> Result<(), NoMemory>
+    fn push(&mut self, row: Row) -> Result<(), NoMemory>
         requires { 0 < length self.old }
         ensures { OnOk result ((first : ℕ) → self.new ≡ self.old ++ entry_of_row (last_balance first self.old) row ∷ []) }
     {
@@ -108,23 +131,6 @@ impl Entries {
             return self.first;
         }
         self.rows.at(i - 1).balance
-    }
-
-    /// Where the last entry ends of those that end at or below an LSN; or this least one, where there is none behind it.
-    pub(crate) fn last_end(&self, lsn: Lsn, least: Lsn) -> Lsn
-        requires { IsNonDecreasingBy (λ entry. entry.end) self.now }
-        ensures { (result ≡ least) ⊎ ((result ≤ lsn) × IsEndIn self.now result) }
-    {
-        let next = self.count_to(lsn);
-        if next == 0 {
-            return least;
-        }
-        let end = self.at(next - 1).end;
-        if end.units() < least.units() {
-            least
-        } else {
-            end
-        }
     }
 
     /// The balance that the entries lead to which end at or below an LSN, where all of them lead to this one.

@@ -14,7 +14,7 @@ ghost use Rattle.lock_core.specs.Sums.{Opening};
 ghost use Rattle.lock_core.specs.Lawful.{base_with};
 ghost use Rattle.lock_core.specs.AccountRows.{opening_of};
 ghost use Rattle.lock_core.specs.Taking.{IsTakeFault, HasJudged, count_of};
-ghost use Rattle.ledger_view.specs.Entries.{entries_of, balance_up_to, EndsAt};
+ghost use Rattle.ledger_view.specs.Entries.{entries_of, balance_up_to};
 ghost use Rattle.ledger_view.specs.ViewedAccounts.{account_at, HasViewed};
 ghost use Rattle.ledger_view.specs.Entering.{AllLeadOn, Enters, CanAdd, AddsEntry};
 
@@ -172,20 +172,6 @@ impl View {
             Some(kept) => Some(kept.entries.first_balance(self.judge.balance(account))),
             None => None,
         }
-    }
-
-    /// Where the last Commit ends that made an entry and ends at or below this LSN: a boundary, from which on others can be sought.
-    /// Where none does, this beginning.
-    pub fn last_commit(&self, begin: Lsn, lsn: Lsn) -> Lsn
-        requires viewed { (opening : Opening) × (h : List Placed) × HasViewed opening self.now h }
-        ensures { (result ≡ begin)
-            ⊎ ((result ≤ lsn) × ((opening : Opening) (h : List Placed) → HasViewed opening self.now h → EndsAt h result)) }
-    {
-        let mut last = begin;
-        'accounts: for account in 0..self.judge.accounts() {
-            last = self.accounts.at(account).entries.last_end(lsn, last);
-        }
-        last
     }
 
     /// The number of accounts.
