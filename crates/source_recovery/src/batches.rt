@@ -2,6 +2,7 @@
 
 ghost use Rattle.std.specs.Prelude.{◌≡◌, ◌<◌, ◌≤◌, ◌+◌, ◌++◌, ◌∷◌, true, false, [], ℕ, List, Option, length, drop, IsTrue, IfOk, IfErr, IfSome, IfNone, OnOk, IsErrOf};
 ghost use Rattle.log_disk.specs.Faults.{CountsWhere};
+ghost use Rattle.log_record.specs.declared.units.TheConstants.{LONGEST_RECORD};
 ghost use Rattle.segment_file.specs.File.{BeginsOpen, HasNoBatch};
 ghost use Rattle.segment_file.specs.Log.{Log};
 ghost use Rattle.segment_file.specs.Scan.{IsScanFaultOf};
@@ -143,6 +144,25 @@ impl LogReader {
             }
             Err(BatchFault::NoMemory) => Err(ReadingFault::NoMemory),
         }
+    }
+
+    /// The same behind units of which few are left: so no more of a log is kept than a batch.
+    pub fn next_behind_few<S: Source>(
+        &mut self,
+        source: &mut S,
+        units: &mut Vec<u64>,
+    ) -> Result<bool, ReadingFault>
+        requires next { length units.old.items ≤ self.old.next }
+        requires few { length units.old.items < LONGEST_RECORD }
+        ensures batch { IfOk result (λ some. some ≡ true
+            → ReadsBatch (S.left source.old) (S.left source.new) self.old self.new units.old.items units.new.items) }
+        ensures end { IfOk result (λ some. some ≡ false
+            → ReadsEnd (S.left source.old) (S.left source.new) self.old self.new units.old.items units.new.items) }
+        ensures fault { IfErr result (λ fault. (first : Option (List ℕ)) (log : Log) → HasReadLog first (S.left source.old) self.old log
+            → IsReadingFaultOf first (S.left source.new) fault) }
+        ensures failed { CountsWhere (IsErrOf result ReadingFault.Failed) (S.faults source.old) (S.faults source.new) }
+    {
+        self.next_batch(source, units)
     }
 
     /// The place and the LSN at which the batches that were taken end.

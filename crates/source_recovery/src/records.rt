@@ -1,6 +1,6 @@
 //! The records of units that come piece by piece.
 
-ghost use Rattle.std.specs.Prelude.{◌≡◌, ◌⊎◌, ◌<◌, ◌≤◌, ◌+◌, [], ℕ, List, length, IfOk, IfErr};
+ghost use Rattle.std.specs.Prelude.{◌≡◌, ◌⊎◌, ◌<◌, ◌≤◌, ◌+◌, [], ℕ, List, length, IfOk, IfErr, IsErrOf};
 ghost use Rattle.log_record.specs.declared.units.TheConstants.{LONGEST_RECORD};
 ghost use Rattle.lsn_space.specs.Opening.{Opening, IsSnapshot};
 ghost use Rattle.lsn_space.specs.declared.lsn.TheConstants.{LAST};
@@ -86,6 +86,7 @@ impl<T: TakesRecords> UnitsTaker<T> {
             → IfOk result (HasTakenUnits T.has_taken opening all) }
         ensures fault { (opening : Opening) (all : List ℕ) → StandsAt T.has_taken 1 opening all [] self
             → IfErr result (IsUnitsFaultOf opening all) }
+        ensures memory { IsErrOf result UnitsFault.NoMemory → ⊥ }
     {
         let UnitsTaker { state, .. } = self;
         match state {

@@ -58,7 +58,7 @@ pub fn take_pieces<T: TakesRecords, S: Source>(
     let mut taker = UnitsTaker::<T>::new(alloc, &opening)?;
     'batches: loop {
         taker.take(&mut units)?;
-        if !reader.next_batch(source, &mut units)? {
+        if !reader.next_behind_few(source, &mut units)? {
             break;
         }
     }

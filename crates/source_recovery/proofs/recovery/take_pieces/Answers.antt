@@ -31,27 +31,27 @@ take-requires g c = (_, c.batches.invariant.all, c.batches.invariant.taken)
 pub returns-in_err-take-clause-failed : goal.returns-in_err-take-clause-failed
 returns-in_err-take-clause-failed g c = no_memory-CountsWhere _ _ _ c.from_residual-in_err-take.ensures.1 c.batches.invariant.no_fault
 
-pub next_batch-requires : goal.next_batch-requires
-next_batch-requires g c =
+pub next_behind_few-requires-clause-next : goal.next_behind_few-requires-clause-next
+next_behind_few-requires-clause-next g c =
     let taken = c.in_ok-take.ensures.taken _ _ c.batches.invariant.taken in omega (arith, taken.place, c.batches.invariant.read.next)
 
-pub returns-in_err-next_batch-clause-fault : goal.returns-in_err-next_batch-clause-fault
-returns-in_err-next_batch-clause-fault g c =
-    let failed = err_from_is_err_and c.from_residual-in_err-next_batch.result c.from_residual-in_err-next_batch.ensures.1 in
-    rw failed.1 (failed.2.is _ _ (c.in_err-next_batch.ensures.fault _ _ c.batches.invariant.read))
+pub returns-in_err-next_behind_few-clause-fault : goal.returns-in_err-next_behind_few-clause-fault
+returns-in_err-next_behind_few-clause-fault g c =
+    let failed = err_from_is_err_and c.from_residual-in_err-next_behind_few.result c.from_residual-in_err-next_behind_few.ensures.1 in
+    rw failed.1 (failed.2.is _ _ (c.in_err-next_behind_few.ensures.fault _ _ c.batches.invariant.read))
 
-pub returns-in_err-next_batch-clause-failed : goal.returns-in_err-next_batch-clause-failed
-returns-in_err-next_batch-clause-failed g c =
-    told-CountsWhere c.in_err-next_batch.field-0.0 _ _ _ c.from_residual-in_err-next_batch.ensures.1
-    (rw c.batches.invariant.no_fault at c.in_err-next_batch.ensures.failed)
+pub returns-in_err-next_behind_few-clause-failed : goal.returns-in_err-next_behind_few-clause-failed
+returns-in_err-next_behind_few-clause-failed g c =
+    told-CountsWhere c.in_err-next_behind_few.field-0.0 _ _ _ c.from_residual-in_err-next_behind_few.ensures.1
+    (rw c.batches.invariant.no_fault at c.in_err-next_behind_few.ensures.failed)
 
 pub batches-smaller : goal.batches-smaller
 batches-smaller g c =
-    let batch = c.in_ok-next_batch.ensures.batch (cc) in omega (arith, batch.next, batch.some, batch.total)
+    let batch = c.in_ok-next_behind_few.ensures.batch (cc) in omega (arith, batch.next, batch.some, batch.total)
 
 pub batches-preserved : goal.batches-preserved
 batches-preserved g c =
-    let batch = c.in_ok-next_batch.ensures.batch (cc) in
+    let batch = c.in_ok-next_behind_few.ensures.batch (cc) in
     let before = c.batches.invariant in
     let read = batch.reads _ _ before.read in
     let opening : Opening = record { lsn = c.opening.inside.lsn; txn = c.opening.inside.txn; accounts = c.opening.inside.accounts.rows } in record {
@@ -59,12 +59,12 @@ batches-preserved g c =
       read = read;
       taken = subst (λ units. HasTakenTo g.T.TakesRecords.has_taken opening (before.all ++ batch.more) units c.take.new.self) (sym batch.added)
           (taken_to-more g.T.TakesRecords.has_taken opening before.all _ batch.more c.take.new.self (c.in_ok-take.ensures.taken _ _ before.taken) read.reads.total);
-      no_fault = c.in_ok-next_batch.ensures.failed.fine (λ is. cc) ∙ before.no_fault;
+      no_fault = c.in_ok-next_behind_few.ensures.failed.fine (λ is. cc) ∙ before.no_fault;
     }
 
 pub finish-requires : goal.finish-requires
 finish-requires g c =
-    let end = c.in_ok-next_batch.ensures.end (cc) in
+    let end = c.in_ok-next_behind_few.ensures.end (cc) in
     let taken = c.in_ok-take.ensures.taken _ _ c.batches.invariant.taken in
     let opening : Opening = record { lsn = c.opening.inside.lsn; txn = c.opening.inside.txn; accounts = c.opening.inside.accounts.rows } in (
       opening,
@@ -75,7 +75,7 @@ finish-requires g c =
 
 pub returns-in-Ok-clause-found : goal.returns-in-Ok-clause-found
 returns-in-Ok-clause-found g c =
-    let end = c.in_ok-next_batch.ensures.end (cc) in
+    let end = c.in_ok-next_behind_few.ensures.end (cc) in
     let all : List ℕ = c.batches.invariant.all in
     let opening : Opening = record { lsn = c.opening.inside.lsn; txn = c.opening.inside.txn; accounts = c.opening.inside.accounts.rows } in
     let log : Log = record { opening = opening; units = all } in
@@ -89,22 +89,22 @@ returns-in-Ok-clause-found g c =
 pub returns-in-Ok-clause-failed : goal.returns-in-Ok-clause-failed
 returns-in-Ok-clause-failed g c = record {
   counted = λ is. absurd (cc);
-  fine = λ _. c.in_ok-next_batch.ensures.failed.fine (λ is. cc) ∙ c.batches.invariant.no_fault;
+  fine = λ _. c.in_ok-next_behind_few.ensures.failed.fine (λ is. cc) ∙ c.batches.invariant.no_fault;
 }
 
 pub returns-clause-fault : goal.returns-clause-fault
 returns-clause-fault g c =
-    let end = c.in_ok-next_batch.ensures.end (cc) in
+    let end = c.in_ok-next_behind_few.ensures.end (cc) in
     let all : List ℕ = c.batches.invariant.all in
     let opening : Opening = record { lsn = c.opening.inside.lsn; txn = c.opening.inside.txn; accounts = c.opening.inside.accounts.rows } in
     let log : Log = record { opening = opening; units = all } in
     let ends = end.ends _ log c.batches.invariant.read in
     let left = subst (λ units. HasTakenTo g.T.TakesRecords.has_taken opening all units c.take.new.self) (sym (c.as_slice.ensures.value ∙ end.units_are))
     (c.in_ok-take.ensures.taken opening all c.batches.invariant.taken) in
-    gave_all-IsSourceFaultOf _ _ ends.bytes _ ends.gave (c.units_fault.ensures ends.bytes log ends.stands.held (c.in-Err.ensures.fault opening all left))
+    gave_all-IsSourceFaultOf _ _ ends.bytes _ ends.gave (c.units_fault.ensures.fault ends.bytes log ends.stands.held (c.in-Err.ensures.fault opening all left))
 
 pub returns-clause-failed : goal.returns-clause-failed
 returns-clause-failed g c = record {
   counted = λ is. absurd (cc);
-  fine = λ _. c.in_ok-next_batch.ensures.failed.fine (λ is. cc) ∙ c.batches.invariant.no_fault;
+  fine = λ _. c.in_ok-next_behind_few.ensures.failed.fine (λ is. cc) ∙ c.batches.invariant.no_fault;
 }

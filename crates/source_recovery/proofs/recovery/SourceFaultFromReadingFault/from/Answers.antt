@@ -1,4 +1,4 @@
-use Rattle.std.proofs.Common.{◌≡◌, ◌∙◌, sym, subst}
+use Rattle.std.proofs.Common.{◌≡◌, ◌∙◌, ap, inr, sym, subst}
 use Rattle.source_recovery.specs.ReadingFaults.{HasScanFault, IsReadingFaultOf}
 use Rattle.source_recovery.specs.declared.batches.ReadingFault.TheVariants as reading
 use Rattle.source_recovery.specs.declared.recovery.SourceFault.TheVariants as source
@@ -15,4 +15,5 @@ returns-in-Bytes c = record {
       gave_all-IsListedSourceFaultOf first now scan.bytes _ scan.gave (c.scan_fault.ensures.listed scan.bytes scan.is);
   failed = λ is. let other : reading.Bytes c.in-Bytes.fault ≡ reading.Failed = sym c.in-Bytes.is ∙ is in absurd (cc);
   only = λ is. let other : source.Log c.scan_fault.result ≡ source.Failed = is in absurd (cc);
+  memory = λ is. inr (c.in-Bytes.is ∙ ap reading.Bytes (c.scan_fault.ensures.memory (cc)));
 }
