@@ -1,5 +1,5 @@
 -- What a Commit that a judge has taken says.
-use Rattle.std.proofs.Common.{◌≡◌, ◌<◌, ◌==◌, ◌||◌, ℕ, pos, ◌+ℤ◌, Bool, true, false, cond, List, [], ◌∷◌, refl, ap, sym, ◌∙◌, subst, eqb-true}
+use Rattle.std.proofs.Common.{◌≡◌, ◌<◌, ◌==◌, ◌||◌, ℕ, pos, ◌+ℤ◌, Bool, true, false, cond, List, [], ◌∷◌, refl, ap, ◌∙◌, subst, eqb-true}
 use Rattle.std.specs.List.{AllByRecursion}
 use Rattle.log_record.specs.declared.rec.Rec.TheVariants.{Commit}
 use Rattle.log_record.specs.declared.rec.Placed.{Placed}
@@ -13,10 +13,9 @@ use Rattle.lock_core.specs.Lawful.{base_with}
 use Rattle.lock_core.specs.Taking.{HasJudged}
 use Rattle.lock_core.proofs.Meeting.{all_passed-meets_tests, lawful-met}
 use Rattle.lock_core.proofs.Pairing.{updates_of-fits}
-use Rattle.ledger_view.specs.declared.entries.Entry.{Entry}
 use Rattle.ledger_view.specs.Entries.{net_of, balance_after}
 use Rattle.ledger_view.specs.Entering.{LeadsOn}
-use Rattle.ledger_view.specs.ViewedAccounts.{last_balance, KeepsAccount}
+use Rattle.ledger_view.specs.ViewedAccounts.{KeepsAccount}
 use Rattle.ledger_view.specs.declared.accounts.Account.{Account}
 use Rattle.ledger_view.proofs.HistoryLemmas.{judged-balance_after_in_range, commit_balance-adds_net}
 use Rattle.ledger_view.proofs.RowLemmas.{last_balance-any_first}

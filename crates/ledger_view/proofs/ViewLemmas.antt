@@ -1,5 +1,5 @@
 -- How what a view keeps goes on by one record.
-use Rattle.std.proofs.Common.{◌≡◌, ◌≤◌, ◌<◌, ℕ, ◌+◌, pos, ◌+ℤ◌, ◌&&◌, Bool, cond, None, true, false, List, [], ◌∷◌, ◌++◌, length, replicate, Result}
+use Rattle.std.proofs.Common.{◌≡◌, ◌≤◌, ◌<◌, ℕ, ◌+◌, pos, ◌+ℤ◌, ◌&&◌, Bool, None, true, false, List, [], ◌∷◌, ◌++◌, length, replicate, Result}
 use Rattle.std.proofs.Common.{Ok, Err, refl, ap, ◌∙◌, sym, subst, arith, length-append}
 use Rattle.std.specs.Prelude.{OnOk, IfErr}
 use Rattle.std.proofs.lemmas.List.{length-replicate, get_or-replicate, get_or_append_left, get_or_at}

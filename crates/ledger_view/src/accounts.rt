@@ -72,7 +72,9 @@ impl Accounts {
         ensures { OnOk result (self.new ≡ slice_set self.old account (with_entry (account_at self.old account)
             (record { end = row.end; txn = row.txn; net = net_of account changes.now; balance = row.balance }))) }
     {
-        self.rows[account as usize].entries.enter(account, changes, row)
+        self.rows[account as usize]
+            .entries
+            .enter(account, changes, row)
     }
 
     /// What is kept of the account.

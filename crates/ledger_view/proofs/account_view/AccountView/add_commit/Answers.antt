@@ -1,5 +1,4 @@
-use Rattle.std.proofs.Common.{◌≡◌, ◌+◌, ◌∙◌, List, ap, sym}
-use Rattle.lock_core.specs.declared.update.Change.{Change}
+use Rattle.std.proofs.Common.{◌+◌, ◌∙◌, ap, sym}
 use Rattle.ledger_view.proofs.AccountViewLemmas.{kept-untouched, kept-touched, touched-counted, touched-in_range, touched-leads}
 use Rattle.ledger_view.proofs.account_view.AccountView.add_commit.Goals as goal
 
@@ -13,10 +12,12 @@ balance-balance-requires c =
 pub invariant_of-row : goal.invariant_of-row
 invariant_of-row c =
     let given = c.requires.taken in let kept = given.3 in
-    record { fits = touched-in_range given.0 given.1 c.args.self.now given.2 kept c.args.lsn given.4 c.take_commit.new.self c.args.txn c.args.legs
-    (c.in_ok-take_commit.ensures.taken given.1 given.2 kept.judged) c.as_slice-changes.result.now
-    (c.as_slice-changes.ensures.value ∙ c.in_ok-take_commit.ensures.changes given.1 given.2 kept.judged) (sym c.touches.ensures ∙ c.if-not-touches.false)
-    c.balance-balance.result (c.balance-balance.ensures _ _ (c.in_ok-take_commit.ensures.taken given.1 given.2 kept.judged)) }
+    record {
+      fits = touched-in_range given.0 given.1 c.args.self.now given.2 kept c.args.lsn given.4 c.take_commit.new.self c.args.txn c.args.legs
+          (c.in_ok-take_commit.ensures.taken given.1 given.2 kept.judged) c.as_slice-changes.result.now
+          (c.as_slice-changes.ensures.value ∙ c.in_ok-take_commit.ensures.changes given.1 given.2 kept.judged) (sym c.touches.ensures ∙ c.if-not-touches.false)
+          c.balance-balance.result (c.balance-balance.ensures _ _ (c.in_ok-take_commit.ensures.taken given.1 given.2 kept.judged));
+    }
 
 pub enter-requires-clause-leads : goal.enter-requires-clause-leads
 enter-requires-clause-leads c =

@@ -1,6 +1,6 @@
-use Rattle.std.proofs.Common.{◌≡◌, ◌<◌, ◌∙◌, arith, sym, subst}
+use Rattle.std.proofs.Common.{◌<◌, arith}
 use Rattle.lock_core.specs.Lawful.{base_with}
-use Rattle.ledger_view.proofs.AccountViewLemmas.{kept-first, kept-inside, kept-sums}
+use Rattle.ledger_view.proofs.AccountViewLemmas.{kept-sums}
 use Rattle.ledger_view.proofs.account_view.AccountView.first_balance.Goals as goal
 
 pub first_balance-requires : goal.first_balance-requires
