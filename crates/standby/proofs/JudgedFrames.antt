@@ -11,13 +11,15 @@ use Rattle.log_record.proofs.LogListLemmas.{end_of-append}
 use Rattle.lock_core.specs.History.{entry_at}
 use Rattle.lock_core.specs.Faults.{IsFirstFailing, IsUnlawfulAt}
 use Rattle.lock_core.specs.Lawful.{Passes}
-use Rattle.lock_core.specs.Taking.{HasJudged}
+use Rattle.lock_core.specs.Taking.{HasJudged, IsTakeFault}
 use Rattle.lock_core.specs.declared.judge.Judge.{Judge}
+use Rattle.lock_core.specs.declared.reason.JudgeFault.{JudgeFault}
+use Rattle.lock_core.specs.declared.reason.JudgeFault.TheVariants as untaken
 use Rattle.lock_core.specs.declared.reason.Why.{Why}
 use Rattle.lock_core.proofs.Fronts.{history_from-append, history_from-extends}
 use Rattle.log_recovery.specs.Opened.{OpenedList, list_end, opening_before, placed, with_records}
 use Rattle.log_recovery.proofs.OpenedLemmas.{list_end-more, placed-end}
-use Rattle.standby.specs.TakenList.{HasTakenList}
+use Rattle.standby.specs.TakenList.{HasTakenList, IsFrameFault, record_fault}
 
 -- ---- records and their units
 
@@ -123,7 +125,7 @@ module _ (list : OpenedList) (records : List Rec) (at : ℕ) (units : List ℕ) 
     }
 
     -- it fails a test
-    pub first_failing-unlawful_at : (lsn : ℕ) (why : Why) → lsn ≡ list_end (with_records list to.seen)
+    first_failing-unlawful_at : (lsn : ℕ) (why : Why) → lsn ≡ list_end (with_records list to.seen)
         → IsFirstFailing (Passes (opening_before list) (placed (with_records list to.seen)) (entry_at lsn rec)) why
         → IsUnlawfulAt (opening_before list) (placed (with_records list records)) lsn why
     first_failing-unlawful_at lsn why place first =
@@ -140,3 +142,10 @@ module _ (list : OpenedList) (records : List Rec) (at : ℕ) (units : List ℕ) 
           place = place ∙ sym (placed-end (with_records list to.seen));
           first = first;
         }
+
+    -- it isn't taken
+    pub take_fault-frame_fault : (lsn : ℕ) (fault : JudgeFault) → lsn ≡ list_end (with_records list to.seen)
+        → IsTakeFault (opening_before list) (placed (with_records list to.seen)) (entry_at lsn rec) fault
+        → IsFrameFault list records (record_fault lsn fault)
+    take_fault-frame_fault lsn (untaken.Why why) place first = first_failing-unlawful_at lsn why place first
+    take_fault-frame_fault lsn untaken.NoMemory place first = first

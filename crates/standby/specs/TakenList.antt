@@ -1,5 +1,5 @@
 -- A list that a judge has taken, that each image of a disk holds, and at whose end the log goes on. `g` is what a disk shows.
-use Rattle.std.specs.Prelude.{◌≡◌, ◌+◌, ◌*◌, ◌^◌, ◌≤◌, List}
+use Rattle.std.specs.Prelude.{◌≡◌, ◌+◌, ◌*◌, ◌^◌, ◌≤◌, ℕ, List}
 use Rattle.std.specs.List.{AllByRecursion}
 use Rattle.log_disk.specs.declared.disk.LogDisk.{Ghosts}
 use Rattle.log_record.specs.Spelling.{IsSpellable}
@@ -8,6 +8,8 @@ use Rattle.lock_core.specs.Faults.{IsUnlawfulAt}
 use Rattle.lock_core.specs.AccountRows.{opening_of}
 use Rattle.lock_core.specs.Taking.{HasJudged}
 use Rattle.lock_core.specs.declared.judge.Judge.{Judge}
+use Rattle.lock_core.specs.declared.reason.JudgeFault.{JudgeFault}
+use Rattle.lock_core.specs.declared.reason.JudgeFault.TheVariants as judge
 use Rattle.log_recovery.specs.Opened.{OpenedList, log_of, list_end, opening_before, placed, with_records}
 use Rattle.segment_file.specs.StandingLog.{LogStands, IsShut}
 use Rattle.segment_file.specs.declared.scan_result.Tail.{Tail}
@@ -24,6 +26,11 @@ abbrev pub IsFrameFault : OpenedList → List Rec → StandbyFault → Type 0
 IsFrameFault list records (StreamUnlawful lsn why) = IsUnlawfulAt (opening_before list) (placed (with_records list records)) lsn why
 IsFrameFault list records NoMemory = Unit {0}
 IsFrameFault list records fault = ⊥
+
+-- why the stream isn't applied, where the judge doesn't take the record at this LSN
+abbrev pub record_fault : ℕ → JudgeFault → StandbyFault
+record_fault lsn (judge.Why why) = StreamUnlawful lsn why
+record_fault lsn judge.NoMemory = NoMemory
 
 -- the judge has taken the list, and each image holds it and goes on at the tail, where the gate is shut
 pub record KeepsList {D : Type 0} (g : Ghosts D) (list : OpenedList) (judge : Judge) (tail : Tail) (disk : D) : Type 0 where

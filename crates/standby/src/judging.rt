@@ -5,7 +5,7 @@ ghost use Rattle.lsn_space.specs.declared.lsn.TheConstants.{LAST};
 ghost use Rattle.log_record.specs.declared.rec.Rec.{Rec};
 ghost use Rattle.log_record.specs.LogList.{AreUnitsOf};
 ghost use Rattle.log_recovery.specs.Opened.{OpenedList, list_end, with_records};
-ghost use Rattle.standby.specs.TakenList.{HasTakenList, IsFrameFault};
+ghost use Rattle.standby.specs.TakenList.{HasTakenList, IsFrameFault, record_fault};
 
 use crate::fault::StandbyFault;
 use lock_core::{Judge, JudgeFault};
@@ -31,9 +31,19 @@ pub(crate) fn judge_frame(judge: &mut Judge, from: Lsn, batch: &Batch) -> Result
         };
         match judge.take(lsn, &rec) {
             Ok(()) => at += size,
-            Err(JudgeFault::NoMemory) => return Err(StandbyFault::NoMemory),
-            Err(JudgeFault::Why(why)) => return Err(StandbyFault::StreamUnlawful { lsn, why }),
+            Err(fault) => return Err(fault_of_record(lsn, fault)),
         }
     }
     Ok(())
+}
+
+/// Why the stream isn't applied, where the judge doesn't take the record at this LSN.
+fn fault_of_record(lsn: Lsn, fault: JudgeFault) -> StandbyFault
+    ensures is { result ≡ record_fault lsn fault }
+    ensures memory { result ≡ StandbyFault.NoMemory → fault ≡ JudgeFault.NoMemory }
+{
+    match fault {
+        JudgeFault::NoMemory => StandbyFault::NoMemory,
+        JudgeFault::Why(why) => StandbyFault::StreamUnlawful { lsn, why },
+    }
 }

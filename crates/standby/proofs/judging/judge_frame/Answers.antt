@@ -1,10 +1,8 @@
-use Rattle.std.proofs.Common.{arith, ◌+◌, ◌∙◌, ap, sym, subst}
-use Rattle.lock_core.specs.History.{entry_at}
-use Rattle.lock_core.specs.Taking.{IsTakeFault}
+use Rattle.std.proofs.Common.{arith, ◌+◌, ◌∙◌, ap, sym}
 use Rattle.log_recovery.specs.Opened.{opening_before, placed, with_records}
 use Rattle.log_recovery.proofs.OpenedLemmas.{placed-end}
 use Rattle.log_record.proofs.SpellingLemmas.{record_end-within_units}
-use Rattle.standby.proofs.JudgedFrames.{taken-record_begins, taken_lsn-list_end, has_taken_to-push, taken-all, first_failing-unlawful_at}
+use Rattle.standby.proofs.JudgedFrames.{taken-record_begins, taken_lsn-list_end, has_taken_to-push, taken-all, take_fault-frame_fault}
 use Rattle.standby.proofs.judging.judge_frame.Goals as goal
 
 pub unreachable-requires : goal.unreachable-requires
@@ -48,16 +46,14 @@ records-preserved c = record {
       c.in-Ok.ensures.found.1 (c.in-Ok-take.ensures.taken (opening_before list) _ to.taken);
 }
 
-pub returns-in-Err-Why-clause-fault : goal.returns-in-Err-Why-clause-fault
-returns-in-Err-Why-clause-fault c = λ list records taken start spells.
+pub returns-in-Err-clause-fault : goal.returns-in-Err-clause-fault
+returns-in-Err-clause-fault c = λ list records taken start spells.
     let to = c.records.invariant.taken list records taken start spells in
     let place = taken_lsn-list_end list records _ _ _ to spells.spellable c.args.from c.new-lsn.result start
     (c.new-lsn.ensures ∙ ap (λ n. n + c.records.at) c.units.ensures) in
-    rw c.in-Err-Why.field-0-is
-    (first_failing-unlawful_at list records _ _ _ to spells.spellable c.in-Ok.rec c.in-Ok.ensures.found.0 c.new-lsn.result c.in-Err-Why.why place
-    (subst (IsTakeFault (opening_before list) (placed (with_records list to.seen)) (entry_at c.new-lsn.result c.in-Ok.rec))
-    c.in-Err-Why.field-0-is
-    (c.in-Err-Why.ensures.fault (opening_before list) _ to.taken)))
+    rw c.fault_of_record.ensures.is
+    (take_fault-frame_fault list records _ _ _ to spells.spellable c.in-Ok.rec c.in-Ok.ensures.found.0 c.new-lsn.result c.in-Err.fault place
+    (c.in-Err.ensures.fault (opening_before list) _ to.taken))
 
 pub returns-clause-taken : goal.returns-clause-taken
 returns-clause-taken c = λ list records taken start spells.
