@@ -1,4 +1,4 @@
-//! Laws. The function of the first does nothing; the other two call the view and the plain program.
+//! Laws. The functions of the first two do nothing; the other two call the view and the plain program.
 
 ghost use Rattle.std.specs.Prelude.{◌≡◌, ◌≤◌, ◌-◌, [], ℕ, List, Some, None, length, reverse, IfOk, MatchOption};
 ghost use Rattle.lsn_space.specs.declared.lsn.TheConstants.{LAST};
@@ -8,6 +8,7 @@ ghost use Rattle.lock_core.specs.History.{history_from};
 ghost use Rattle.lock_core.specs.AccountRows.{opening_of};
 ghost use Rattle.ledger_view.specs.Entries.{front_to, balance_up_to, entries_if_known};
 ghost use Rattle.ledger_view.specs.ViewedAccounts.{HasViewed};
+ghost use Rattle.ledger_view.specs.declared.rows.TheConstants.{MARKED};
 
 use crate::entries::Entries;
 use crate::plain::{plain_balance_at, plain_entries};
@@ -16,6 +17,11 @@ use crate::view::View;
 use log_record::Placed;
 use lsn_space::{Lsn, NoMemory, Opening};
 use std::alloc::Global;
+
+/// A law: from one mark to the next it is 16 rows.
+pub fn fixed_numbers()
+    ensures { MARKED ≡ 16 }
+{}
 
 /// A law: the history up to an LSN is that of the records of the list which end at or below it.
 pub fn fronts_are_prefixes()

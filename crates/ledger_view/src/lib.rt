@@ -13,7 +13,7 @@ mod view;
 
 pub use account_view::AccountView;
 pub use entries::{Entries, Entry};
-pub use laws::{balances_are_plain, entries_are_plain, fronts_are_prefixes};
+pub use laws::{balances_are_plain, entries_are_plain, fixed_numbers, fronts_are_prefixes};
 pub use plain::{plain_balance_at, plain_entries};
 pub use plain_list::EntryList;
 pub use view::View;
