@@ -11,7 +11,7 @@ use Rattle.log_recovery.specs.Opened.{OpenedList, list_end, placed}
 use Rattle.log_recovery.specs.Recovery.{HoldsLawful, Recovers}
 use Rattle.log_recovery.specs.declared.recovery.Recovered.{Recovered}
 use Rattle.log_recovery.proofs.AnswerLemmas.{one-list}
-use Rattle.cli_cut.specs.Cutting.{IsCutOf}
+use Rattle.cli_cut.specs.Recovered.{AnswersAlike, IsCutLog, RecoverAlike}
 
 -- rows that are the same account by account are the same
 rows-same : (xs ys : List (ℕ × ℕ)) → length xs ≡ length ys → ((account : ℕ) → account < length xs → slice_get xs account ≡ slice_get ys account) → xs ≡ ys
@@ -48,29 +48,35 @@ pub shows-same : (base : BaseState) (h : List Placed) (xs ys : List (ℕ × ℕ)
 shows-same base h xs ys first second = rows-same xs ys (first.count ∙ sym second.count) (λ account below.
     let inside : account < base.accounts = omega (arith, below, first.count) in first.each account inside ∙ sym (second.each account inside))
 
-module _ (bytes made : List ℕ) (list : OpenedList) (opening : Opening) (a b : Recovered) (held : HoldsLawful bytes list) (cut : IsCutOf list opening)
-    (holds : HoldsLog made (cut_log opening)) (before : Recovers a bytes) (after : Recovers b made) where
-  list-before : before.list ≡ list
-  list-before = one-list bytes before.list list before.held.list held.list
+module _ (bytes made : List ℕ) (log : IsCutLog bytes made) (a b : Recovered) (before : Recovers a bytes) (after : Recovers b made) where
+  list-before : before.list ≡ log.list
+  list-before = one-list bytes before.list log.list before.held.list log.lawful.list
 
-  list-after : after.list ≡ cut_list opening
-  list-after = one-list made after.list (cut_list opening) after.held.list (cut_log-holds_lawful made opening holds).list
+  list-after : after.list ≡ cut_list log.opening
+  list-after = one-list made after.list (cut_list log.opening) after.held.list (cut_log-holds_lawful made log.opening log.held).list
 
-  pub cut_recovers-same_lsn : a.lsn ≡ b.lsn
-  cut_recovers-same_lsn = omega (arith, before.lsn, ap list_end list-before, cut.lsn, after.lsn, ap list_end list-after)
+  same-lsn : a.lsn ≡ b.lsn
+  same-lsn = omega (arith, before.lsn, ap list_end list-before, log.cut.lsn, after.lsn, ap list_end list-after)
 
-  pub cut_recovers-same_next_txn : a.next_txn ≡ b.next_txn
-  cut_recovers-same_next_txn = omega (
+  same-next_txn : a.next_txn ≡ b.next_txn
+  same-next_txn = omega (
     arith,
     before.next_txn,
     ap (λ (l : OpenedList). (opening_after (opening_of l.opening) (placed l)).txn) list-before,
-    cut.txn,
+    log.cut.txn,
     after.next_txn,
     ap (λ (l : OpenedList). (opening_after (opening_of l.opening) (placed l)).txn) list-after,
   )
 
-  pub cut_recovers-same_accounts : a.accounts.rows ≡ b.accounts.rows
-  cut_recovers-same_accounts =
+  same-accounts : a.accounts.rows ≡ b.accounts.rows
+  same-accounts =
       let first = subst (λ (l : OpenedList). ShowsAccounts a.accounts.rows (base_with (opening_of l.opening) (placed l)) (placed l)) list-before before.accounts in
       let second = subst (λ (l : OpenedList). ShowsAccounts b.accounts.rows (base_with (opening_of l.opening) (placed l)) (placed l)) list-after after.accounts in
-      shows-same _ (placed list) a.accounts.rows opening.accounts first cut.accounts ∙ sym (shows-opening opening b.accounts.rows second)
+      shows-same _ (placed log.list) a.accounts.rows log.opening.accounts first log.cut.accounts
+      ∙ sym (shows-opening log.opening b.accounts.rows second)
+
+  same-answers : AnswersAlike a b
+  same-answers = record { lsn = same-lsn; accounts = same-accounts; next = same-next_txn }
+
+pub IsCutLog-recover_alike : (bytes made : List ℕ) → IsCutLog bytes made → RecoverAlike bytes made
+IsCutLog-recover_alike = same-answers

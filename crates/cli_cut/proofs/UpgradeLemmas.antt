@@ -20,6 +20,7 @@ use Rattle.log_recovery.specs.Recovery.{HoldsLawful, Recovers}
 use Rattle.log_recovery.specs.declared.recovery.Recovered.{Recovered}
 use Rattle.log_recovery.proofs.AnswerLemmas.{one-list}
 use Rattle.log_recovery.proofs.OpenedLemmas.{state_with-base_left, held-some_accounts, spelled-history}
+use Rattle.cli_cut.specs.Recovered.{AnswersAlike, IsUpgradedLog, RecoverAlike}
 use Rattle.cli_cut.specs.Upgrading.{IsUpgradeOf}
 use Rattle.cli_cut.proofs.FrontLemmas.{history_from-all, front-base, front-lawful, front-split, later-has_no_genesis}
 use Rattle.cli_cut.proofs.SameLemmas.{shows-same}
@@ -134,33 +135,43 @@ upgrade-holds_lawful bytes written list made held upgrade holds = record {
   lawful = made-lawful list made held.list.each held.lawful (held-some_accounts bytes list held) upgrade;
 }
 
-module _ (bytes written : List ℕ) (list made : OpenedList) (a b : Recovered) (held : HoldsLawful bytes list) (upgrade : IsUpgradeOf list made)
-    (holds : HoldsLog written (log_of made)) (before : Recovers a bytes) (after : Recovers b written) where
-  some : 0 < (base_in list).accounts
-  some = held-some_accounts bytes list held
+pub IsUpgradedLog-holds_lawful : (bytes written : List ℕ) (log : IsUpgradedLog bytes written) → HoldsLawful written log.made
+IsUpgradedLog-holds_lawful bytes written log = upgrade-holds_lawful bytes written log.list log.made log.lawful log.upgrade log.held
 
-  list-before : before.list ≡ list
-  list-before = one-list bytes before.list list before.held.list held.list
+module _ (bytes written : List ℕ) (log : IsUpgradedLog bytes written) (a b : Recovered) (before : Recovers a bytes) (after : Recovers b written) where
+  some : 0 < (base_in log.list).accounts
+  some = held-some_accounts bytes log.list log.lawful
 
-  list-after : after.list ≡ made
-  list-after = one-list written after.list made after.held.list (upgrade-holds_lawful bytes written list made held upgrade holds).list
+  list-before : before.list ≡ log.list
+  list-before = one-list bytes before.list log.list before.held.list log.lawful.list
 
-  pub upgrade_recovers-same_lsn : a.lsn ≡ b.lsn
-  upgrade_recovers-same_lsn = omega (arith, before.lsn, ap list_end list-before, made-same_end list made held.list.each held.lawful some upgrade, after.lsn, ap list_end list-after)
+  list-after : after.list ≡ log.made
+  list-after = one-list written after.list log.made after.held.list (IsUpgradedLog-holds_lawful bytes written log).list
 
-  pub upgrade_recovers-same_next_txn : a.next_txn ≡ b.next_txn
-  upgrade_recovers-same_next_txn = omega (
+  same-lsn : a.lsn ≡ b.lsn
+  same-lsn =
+      let same_end = made-same_end log.list log.made log.lawful.list.each log.lawful.lawful some log.upgrade in
+      omega (arith, before.lsn, ap list_end list-before, same_end, after.lsn, ap list_end list-after)
+
+  same-next_txn : a.next_txn ≡ b.next_txn
+  same-next_txn = omega (
     arith,
     before.next_txn,
     ap (λ (l : OpenedList). (opening_left l).txn) list-before,
-    made-same_txn list made held.list.each held.lawful some upgrade,
+    made-same_txn log.list log.made log.lawful.list.each log.lawful.lawful some log.upgrade,
     after.next_txn,
     ap (λ (l : OpenedList). (opening_left l).txn) list-after,
   )
 
-  pub upgrade_recovers-same_accounts : a.accounts.rows ≡ b.accounts.rows
-  upgrade_recovers-same_accounts =
+  same-accounts : a.accounts.rows ≡ b.accounts.rows
+  same-accounts =
       let first = subst (λ (l : OpenedList). ShowsAccounts a.accounts.rows (base_in l) (placed l)) list-before before.accounts in
       let second = subst (λ (l : OpenedList). ShowsAccounts b.accounts.rows (base_in l) (placed l)) list-after after.accounts in
-      shows-same (base_in made) (placed made) a.accounts.rows b.accounts.rows
-      (made-shows list made held.list.each held.lawful some upgrade a.accounts.rows first) second
+      shows-same (base_in log.made) (placed log.made) a.accounts.rows b.accounts.rows
+      (made-shows log.list log.made log.lawful.list.each log.lawful.lawful some log.upgrade a.accounts.rows first) second
+
+  same-answers : AnswersAlike a b
+  same-answers = record { lsn = same-lsn; accounts = same-accounts; next = same-next_txn }
+
+pub IsUpgradedLog-recover_alike : (bytes written : List ℕ) → IsUpgradedLog bytes written → RecoverAlike bytes written
+IsUpgradedLog-recover_alike = same-answers

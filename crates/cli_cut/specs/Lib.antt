@@ -3,6 +3,7 @@ pub mod Batches
 pub mod Command
 pub mod Cutting
 pub mod Parts
+pub mod Recovered
 pub mod Trying
 pub mod Upgrading
 pub mod Writing

@@ -1,13 +1,13 @@
 //! The command `cut`: a log that begins with the accounts that another log leaves.
 ghost use Rattle.std.specs.Prelude.{IfOk, MatchResult, IsErrOf};
-ghost use Rattle.log_disk.specs.Costs.{Costs};
 ghost use Rattle.log_disk.specs.Faults.{CountsWhere};
 ghost use Rattle.lsn_space.specs.Opening.{IsSnapshot};
 ghost use Rattle.cli_shared.specs.Answers.{IsSourceFault};
 ghost use Rattle.cli_shared.specs.World.{TellsFaults, world};
+ghost use Rattle.cli_shared.specs.declared.report.Detail.TheVariants.{Read};
 ghost use Rattle.cli_cut.specs.Command.{DoesCut};
-ghost use Rattle.cli_cut.specs.Cutting.{AllHoldCut, GrowsByCut, MayBeCut, ReadsCut};
-ghost use Rattle.cli_cut.specs.Trying.{TriesLog};
+ghost use Rattle.cli_cut.specs.Cutting.{ReadsCut};
+ghost use Rattle.cli_cut.specs.Trying.{TriesCut};
 
 use cli_shared::{Detail, finds_none, source_detail};
 use log_disk::{LogDisk, Sink, Source};
@@ -29,7 +29,8 @@ pub fn cut_command<D: LogDisk, S: Source, K: Sink>(
 ) -> Detail
     ensures done { DoesCut D.LogDisk S.Source K.Sink log.now
         (world disk.old source.old out.old) (world disk.new source.new out.new) result }
-    ensures faults { TellsFaults D.LogDisk S.Source K.Sink (world disk.old source.old out.old) (world disk.new source.new out.new) result }
+    ensures faults { TellsFaults D.LogDisk S.Source K.Sink
+        (world disk.old source.old out.old) (world disk.new source.new out.new) result }
 {
     let opening = match make_cut(alloc, log, disk, source) {
         Ok(opening) => opening,
@@ -48,8 +49,8 @@ fn make_cut<D: LogDisk, S: Source>(
     disk: &mut D,
     source: &mut S,
 ) -> Result<Opening, Detail>
-    ensures { TriesLog D.LogDisk S.Source ReadsCut MayBeCut AllHoldCut (Costs D.LogDisk 7 11) (GrowsByCut D.LogDisk (S.left source.old))
-        log.now disk.old disk.new source.old source.new result }
+    ensures { TriesCut D.LogDisk S.Source log.now
+        disk.old disk.new source.old source.new result }
 {
     finds_none(disk, log)?;
     let opening = read_opening(alloc, source)?;
@@ -67,7 +68,7 @@ fn read_opening<S: Source>(alloc: Global, source: &mut S) -> Result<Opening, Det
     ensures told { MatchResult result (ReadsCut (S.left source.old) (S.left source.new))
         (IsSourceFault (S.left source.old) (S.left source.new)) }
     ensures held { IfOk result IsSnapshot }
-    ensures read { CountsWhere (IsErrOf result Detail.Read) (S.faults source.old) (S.faults source.new) }
+    ensures read { CountsWhere (IsErrOf result Read) (S.faults source.old) (S.faults source.new) }
 {
     match recover_source(alloc, source) {
         Ok(recovered) => Ok(Opening {

@@ -1,18 +1,14 @@
 //! All that is read and asked for before anything of an upgraded log is written.
 
-ghost use Rattle.std.specs.Prelude.{◌≡◌, ◌+◌, ◌++◌, [], ℕ, List, length, IfSome, IfNone, IfOk, MatchResult, IsErrOf};
+ghost use Rattle.std.specs.Prelude.{◌≡◌, ◌+◌, ◌++◌, [], List, length, IfSome, IfNone, IfOk, MatchResult, IsErrOf};
 ghost use Rattle.log_disk.specs.Faults.{CountsWhere};
 ghost use Rattle.lsn_space.specs.Opening.{IsSnapshot};
 ghost use Rattle.log_record.specs.declared.rec.Rec.{Rec};
-ghost use Rattle.log_record.specs.declared.rec.Rec.TheVariants.{Genesis};
-ghost use Rattle.log_record.specs.LogList.{AreUnitsOf, units_of};
-ghost use Rattle.log_record.specs.Spelling.{spelling, BeginsWith};
-ghost use Rattle.lock_core.specs.Tests.{IsGenesis};
-ghost use Rattle.log_recovery.specs.Recovery.{list_of};
+ghost use Rattle.log_record.specs.LogList.{AreUnitsOf};
 ghost use Rattle.segment_file.specs.declared.layout.TheConstants.{MOST_UNITS};
 ghost use Rattle.cli_shared.specs.Answers.{IsSourceFault};
-ghost use Rattle.cli_cut.specs.Cutting.{IsCutOf};
-ghost use Rattle.cli_cut.specs.Parts.{ArePartsOf, IsGenesisFront, SplitsGenesis};
+ghost use Rattle.cli_shared.specs.declared.report.Detail.TheVariants.{Read};
+ghost use Rattle.cli_cut.specs.Parts.{ArePartsOf, BeginsWithGenesis, BeginsWithNoGenesis, IsCutBehind, IsGenesisFront, SplitsGenesis};
 
 use cli_shared::{Detail, source_detail};
 use log_disk::Source;
@@ -47,7 +43,7 @@ pub(crate) struct Parts {
 pub(crate) fn read_parts<S: Source>(alloc: Global, source: &mut S) -> Result<Parts, Detail>
     ensures told { MatchResult result (ArePartsOf (S.left source.old) (S.left source.new))
         (IsSourceFault (S.left source.old) (S.left source.new)) }
-    ensures read { CountsWhere (IsErrOf result Detail.Read) (S.faults source.old) (S.faults source.new) }
+    ensures read { CountsWhere (IsErrOf result Read) (S.faults source.old) (S.faults source.new) }
 {
     let (recovered, listed) = match recover_source_list(alloc, source) {
         Ok(both) => both,
@@ -80,9 +76,8 @@ fn genesis_units(units: &[u64]) -> usize
 
 /// How many units the Genesis has that the units begin with, if they begin with one.
 fn genesis_size(units: &[u64]) -> Option<usize>
-    ensures some { IfSome result (λ size. (account balance : ℕ) × BeginsWith units.now (Genesis account balance)
-        × (size ≡ length (spelling (Genesis account balance)))) }
-    ensures none { IfNone result ((rec : Rec) → BeginsWith units.now rec → IsGenesis rec → ⊥) }
+    ensures some { IfSome result (BeginsWithGenesis units.now) }
+    ensures none { IfNone result (BeginsWithNoGenesis units.now) }
 {
     let Ok((rec, size)) = read(units) else {
         return None;
@@ -96,8 +91,7 @@ fn genesis_size(units: &[u64]) -> Option<usize>
 /// The head of the new log: what the first so many units of the list leave. And room for a batch.
 fn ask(alloc: Global, listed: &Listed, front: usize) -> Result<(Head, Batch), NoMemory>
     requires { IsGenesisFront listed.now front }
-    ensures head { IfOk result (λ made. (genesis later : List Rec) → AreUnitsOf listed.now.units (genesis ++ later)
-        → front ≡ length (units_of genesis) → IsCutOf (list_of listed.now genesis) made.0) }
+    ensures head { IfOk result (λ made. IsCutBehind listed.now front made.0) }
     ensures batch { IfOk result (λ made. (made.1.units ≡ []) × (made.1.room ≡ MOST_UNITS)) }
 {
     let opening = opening_behind(alloc, listed, front)?;
@@ -110,8 +104,7 @@ fn ask(alloc: Global, listed: &Listed, front: usize) -> Result<(Head, Batch), No
 fn opening_behind(alloc: Global, listed: &Listed, front: usize) -> Result<Opening, NoMemory>
     requires { IsGenesisFront listed.now front }
     ensures held { IfOk result IsSnapshot }
-    ensures cut { IfOk result (λ opening. (genesis later : List Rec) → AreUnitsOf listed.now.units (genesis ++ later)
-        → front ≡ length (units_of genesis) → IsCutOf (list_of listed.now genesis) opening) }
+    ensures cut { IfOk result (IsCutBehind listed.now front) }
 {
     let units = listed.units.as_slice().split_at(front).0;
     // A prefix of a lawful list is lawful, so that only memory may be wanting.

@@ -1,9 +1,7 @@
 //! The command `upgrade`: a log of the second format, with all records of another log.
 ghost use Rattle.cli_shared.specs.World.{TellsFaults, world};
 ghost use Rattle.cli_cut.specs.Command.{DoesUpgrade};
-ghost use Rattle.cli_cut.specs.Parts.{ReadsLog};
-ghost use Rattle.cli_cut.specs.Trying.{TriesLog};
-ghost use Rattle.cli_cut.specs.Upgrading.{AllHoldUpgrade, CostsUpgrade, GrowsByUpgrade, MayBeUpgraded};
+ghost use Rattle.cli_cut.specs.Trying.{TriesUpgrade};
 
 use crate::reading::read_parts;
 use crate::writing::write_log;
@@ -23,7 +21,8 @@ pub fn upgrade_command<D: LogDisk, S: Source, K: Sink>(
 ) -> Detail
     ensures done { DoesUpgrade D.LogDisk S.Source K.Sink log.now
         (world disk.old source.old out.old) (world disk.new source.new out.new) result }
-    ensures faults { TellsFaults D.LogDisk S.Source K.Sink (world disk.old source.old out.old) (world disk.new source.new out.new) result }
+    ensures faults { TellsFaults D.LogDisk S.Source K.Sink
+        (world disk.old source.old out.old) (world disk.new source.new out.new) result }
 {
     let recovered = match make_upgrade(alloc, log, disk, source) {
         Ok(recovered) => recovered,
@@ -42,8 +41,8 @@ fn make_upgrade<D: LogDisk, S: Source>(
     disk: &mut D,
     source: &mut S,
 ) -> Result<Recovered, Detail>
-    ensures { TriesLog D.LogDisk S.Source ReadsLog MayBeUpgraded AllHoldUpgrade (CostsUpgrade D.LogDisk (S.left source.old))
-        (GrowsByUpgrade D.LogDisk (S.left source.old)) log.now disk.old disk.new source.old source.new result }
+    ensures { TriesUpgrade D.LogDisk S.Source log.now
+        disk.old disk.new source.old source.new result }
 {
     finds_none(disk, log)?;
     let mut parts = read_parts(alloc, source)?;
