@@ -115,7 +115,7 @@ list_cases() {
 }
 
 # 4096 accounts with the greatest balance, but account 4094 has one less.
-full_cases_of_balances() {
+full_account_cases() {
     local command full=$work/full_bank.log text=$work/full_text
     seq 0 4095 | sed "s/.*/$most/; 4095s/3\$/2/" > "$work/full_balances"
     # The accounts text but for its first line.
@@ -148,7 +148,6 @@ full_cases_of_balances() {
         on_file "$work/stream" follow "$work/standby.log"
         expect_text "follow of full accounts, ${command##*/}" <("$program" recover < "$log")
     done
-    full_bank_cases
     rm -f "$full" "$made"
 }
 
@@ -236,7 +235,10 @@ balance_cases() {
     outcome_cases
     digit_cases
     list_cases
-    full_cases_of_balances
+    full_account_cases
     before_cases
-    if command -v python3 > /dev/null; then cents_cases; fi
+    if command -v python3 > /dev/null; then
+        full_bank_cases
+        cents_cases
+    fi
 }

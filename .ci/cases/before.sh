@@ -152,8 +152,8 @@ before_run_cases() {
         run_on "$before/$source.log" $'pay 1 0 5\npay 0 2 3 : on\npay 2 1 99\n' --workers 1
         expect "run on $source.log of before" 0 $'done 10 54\ndone 11 61\nshort 12 1 62\nlsn 62\n0 102\n1 2147483642\n2 8\n' ''
         "$program" dump < "$log" | tail -n 9 > "$work/out"
-        expect "run on $source.log of before, and the list" 0 \
-            $'49 update 10 1 -5 48\n51 update 10 0 5 48\n53 commit 10 1\n54 note 11 on\n56 update 11 0 -3 54\n58 update 11 2 3 32\n60 commit 11 1\n61 short 12 1\nlsn 62\n' ''
+        expect "run on $source.log of before, and the list" 0 $'49 update 10 1 -5 48\n51 update 10 0 5 48\n53 commit 10 1\n54 note 11 on
+56 update 11 0 -3 54\n58 update 11 2 3 32\n60 commit 11 1\n61 short 12 1\nlsn 62\n' ''
         run_on "$before/$source.log" 'pay 0 1 1' --workers 1
         expect "run to a wider balance on $source.log of before" 0 $'done 10 54\nlsn 54\n0 99\n1 2147483648\n2 5\n' ''
     done

@@ -27,7 +27,7 @@ kill_eight() {
     exec 3<&-
 }
 
-# Every transfer has ended once, every line that was written has its record, and the sum of the balances is what it was.
+# Every transfer has ended once, every line that was written has its record, and the sum of the balances is what it was: so small a one that awk has it exactly.
 judge_rest() {
     local name=$1
     "$program" dump < "$work/recipe/bank.log" > "$work/dump"

@@ -173,7 +173,8 @@ view_fault_cases() {
     done
 }
 
-# Statements of each account of a demo log, whose 3000 transfers have two accounts each: the nets sum to 0, and the last balances are those of `recover`.
+# Statements of each account of a demo log, whose 3000 transfers have two accounts each: the nets sum to 0, and the last balances are those of `recover`. awk's
+# sums are doubles, exact up to 2^53: here they are below 2^27.
 demo_view_cases() {
     local account end
     rm -f "$log"
