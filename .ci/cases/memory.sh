@@ -81,7 +81,7 @@ large_log_cases() {
         on_file_within 8000 "$work/demo.log" $name
         expect "${name%% *}: a log for which there is no memory" 1 '' 'aether: out of memory'
     done
-    yes $'pay 0 1 1\npay 1 0 1' | head -n 800000 > "$work/script"
+    yes $'pay 0 1 1\npay 1 0 1' | head -n 720000 > "$work/script"
     on_file "$work/script" run "$work/demo.log" --workers 1
     tail -n 65 "$work/out" > "$work/accounts"
     expect_true 'recover: a log of 40 MB' [ "$(wc -c < "$work/demo.log")" -gt 40000000 ]

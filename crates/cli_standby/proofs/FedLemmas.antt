@@ -22,6 +22,7 @@ use Rattle.standby.specs.declared.standby.Standby.{Standby}
 use Rattle.standby.proofs.FollowedParts.{begins-followed, begins-longer}
 use Rattle.standby.proofs.FrameLists.{holds-front-none, holds-lawful}
 use Rattle.standby.proofs.JudgedFrames.{with_records-none}
+use Rattle.standby.proofs.StoppedStreams.{read-come}
 use Rattle.cli_shared.specs.declared.report.Detail.{Detail}
 use Rattle.cli_shared.specs.declared.report.Detail.TheVariants.{Disk, NoMemory, Read}
 use Rattle.stream_reader.proofs.ReaderLemmas.{has_frames-more}
@@ -78,7 +79,7 @@ input-has left left_new fed taken from frames has =
 
 cause-stopped : (list : OpenedList) (left left_new : Option (List ℕ)) (fed : List ℕ) → Consumes left left_new fed
     → (frames cut : List (List Rec))
-    (fault : StandbyFault) → IsReason list fed frames cut fault → IsCause list left frames cut (stream_detail fault)
+    (fault : StandbyFault) → IsReason list fed frames cut fault → IsCause list left left_new frames cut (stream_detail fault)
 cause-stopped list left left_new fed taken frames cut (stream.BadStream offset) is =
     (is.0, (is.1.0, is.1.1, is.1.2, consumes-holds_of_input (λ bytes. IsBadBehind is.1.0 bytes offset) left left_new fed taken is.1.3))
 cause-stopped list left left_new fed taken frames cut (stream.Gap have from) is =
@@ -159,7 +160,7 @@ module _ {D : Type 0} (g : Ghosts D) (base : Base D) (left left_new : Option (Li
         holds-front-none list image (holds-lawful list image kept.each kept.taken.ledger.judged.lawful
         (kept.stands (has.follows.applied.wrote.honest.0 honest) image left_image).held)
 
-    stops-between : (detail : Detail) → (detail ≡ Disk → ⊥) → IsCause base.list left frames [] detail
+    stops-between : (detail : Detail) → (detail ≡ Disk → ⊥) → IsCause base.list left left_new frames [] detail
         → StopsFeeding g base left left_new detail s.disk.now
     stops-between detail other cause = record {
       frames = frames;
@@ -174,7 +175,17 @@ module _ {D : Type 0} (g : Ghosts D) (base : Base D) (left left_new : Option (Li
 
     -- the input could not be read
     pub read_failed-stops_feeding : StopsFeeding g base left left_new Read s.disk.now
-    read_failed-stops_feeding = stops-between Read (λ is. cc) refl
+    read_failed-stops_feeding = stops-between Read (λ is. cc) (
+      refl,
+      record {
+        fed = has.fed;
+        taken = has.taken;
+        came = has.follows.came;
+        has = read-come s.reader has.fed has.follows.came has.follows.read;
+        goes_on = has.follows.goes_on;
+        whole = refl;
+      },
+    )
 
     -- it ended within the stream
     pub stops-early : IfSome left (λ bytes. left_new ≡ Some []) → (fault : StandbyFault) → (offset : ℕ) × (fault ≡ stream.BadStream offset)

@@ -89,7 +89,7 @@ pub record StopsFeeding {D : Type 0} (g : Ghosts D) (base : Base D) (left left_n
     : Type 0 where
   pub frames : List (List Rec)
   pub cut : List (List Rec)
-  pub cause : IsCause base.list left frames cut detail
+  pub cause : IsCause base.list left left_new frames cut detail
   pub begins : IfSome left (λ bytes. BeginsWithFrames bytes base.list (frames ++ cut))
   pub images : g.honest base.disk → (image : List ℕ) → g.images disk image → HoldsFront (with_frames base.list frames) cut image
   pub wrote : Wrote g base (frames ++ cut) disk

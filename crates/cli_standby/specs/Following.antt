@@ -1,6 +1,6 @@
 -- What `follow` answers. `g` is what a disk shows; `old` and `new` are what is outside before and after. A frame is a list of records.
 use Rattle.std.specs.Prelude.{◌≡◌, ◌≢◌, ◌⊎◌, ℕ, ◌+◌, ◌*◌, List, [], ◌∷◌, ◌++◌, length, Option, Some, IfSome}
-use Rattle.std.specs.Io.KnownBytes.{Keeps, Appends}
+use Rattle.std.specs.Io.KnownBytes.{Keeps, Appends, Consumes}
 use Rattle.log_disk.specs.Costs.{Costs}
 use Rattle.log_disk.specs.Lengths.{GrowsAtMostTo}
 use Rattle.log_disk.specs.Streams.{AppendsPart}
@@ -14,7 +14,7 @@ use Rattle.log_recovery.specs.Recovery.{HoldsLawful, IsFaultOf}
 use Rattle.log_recovery.specs.Text.{accounts_text}
 use Rattle.segment_file.specs.StandingLog.{LogStandsAt}
 use Rattle.segment_file.specs.declared.scan_result.Tail.{Tail}
-use Rattle.ship_stream.specs.Came.{Came, IsBadBehind}
+use Rattle.ship_stream.specs.Came.{Came, HasCome, IsBadBehind}
 use Rattle.ship_stream.specs.Stream.{HasFrames, IsStream}
 use Rattle.standby.specs.AppliedFrames.{HoldsFront, place_behind, with_frames}
 use Rattle.standby.specs.Following.{BeginsWithFrames, GoesOn, whole_frames}
@@ -35,21 +35,31 @@ pub record Followed {D : Type 0} (g : Ghosts D) (opened : OpenedList) (frames : 
   pub stands : LogStandsAt tail (log_of opened) (g.reads old.disk)
   pub grows : GrowsAtMostTo g (place_behind tail.at frames + 1) old.disk new.disk
 
+-- of the input this much was read, and these are all whole frames that it has
+pub record HasReadFrames (opened : OpenedList) (left left_new : Option (List ℕ)) (frames : List (List Rec)) : Type 0 where
+  pub fed : List ℕ
+  pub taken : Consumes left left_new fed
+  pub came : Came
+  pub has : HasCome fed came
+  pub goes_on : GoesOn opened came
+  pub whole : whole_frames came ≡ frames
+
 -- Why nothing comes behind these frames, with this one, or none, in flight. Of all bytes of the input, where they are known: the first part
 -- that is cut or outside the grammar comes right behind the frames; the stream begins at another LSN than the list's end; or the record at
--- this LSN is the first of the next frame that fails a test. The disk failed before the first frame, or at the one in flight.
-abbrev pub IsCause : OpenedList → Option (List ℕ) → List (List Rec) → List (List Rec) → Detail → Type 0
-IsCause opened left frames cut (BadStream offset) = (cut ≡ [])
+-- this LSN is the first of the next frame that fails a test. The disk failed before the first frame, or at the one in flight. A read
+-- failed behind all whole frames that had come.
+abbrev pub IsCause : OpenedList → Option (List ℕ) → Option (List ℕ) → List (List Rec) → List (List Rec) → Detail → Type 0
+IsCause opened left left_new frames cut (BadStream offset) = (cut ≡ [])
     × ((came : Came) × (whole_frames came ≡ frames) × GoesOn opened came × IfSome left (λ bytes. IsBadBehind came bytes offset))
-IsCause opened left frames cut (Gap have from) = (cut ≡ []) × (frames ≡ []) × (have ≡ list_end opened) × (from ≢ have)
+IsCause opened left left_new frames cut (Gap have from) = (cut ≡ []) × (frames ≡ []) × (have ≡ list_end opened) × (from ≢ have)
     × IfSome left (λ bytes. (rest : List ℕ) × HasFrames bytes from [] rest)
-IsCause opened left frames cut (StreamUnlawful lsn why) = (cut ≡ [])
+IsCause opened left left_new frames cut (StreamUnlawful lsn why) = (cut ≡ [])
     × ((frame : List Rec) × IfSome left (λ bytes. (rest : List ℕ) × HasFrames bytes (list_end opened) (frames ++ frame ∷ []) rest)
     × IsUnlawfulAt (opening_before opened) (placed (with_frames opened (frames ++ frame ∷ []))) lsn why)
-IsCause opened left frames cut Disk = ((frames ≡ []) × (cut ≡ [])) ⊎ ((frame : List Rec) × (cut ≡ frame ∷ []))
-IsCause opened left frames cut Read = cut ≡ []
-IsCause opened left frames cut NoMemory = cut ≡ []
-IsCause opened left frames cut detail = ⊥
+IsCause opened left left_new frames cut Disk = ((frames ≡ []) × (cut ≡ [])) ⊎ ((frame : List Rec) × (cut ≡ frame ∷ []))
+IsCause opened left left_new frames cut Read = (cut ≡ []) × HasReadFrames opened left left_new frames
+IsCause opened left left_new frames cut NoMemory = cut ≡ []
+IsCause opened left left_new frames cut detail = ⊥
 
 -- It stopped behind these frames, which stay: each image holds the list with them, and the one in flight whole or not at all. Nothing was
 -- printed.
@@ -59,7 +69,7 @@ pub record Stopped {D : Type 0} (g : Ghosts D) (detail : Detail) (old new : Outs
   pub cut : List (List Rec)
   pub followed : Followed g opened (frames ++ cut) old new
   pub images : (image : List ℕ) → g.images new.disk image → HoldsFront (with_frames opened frames) cut image
-  pub cause : IsCause opened old.left frames cut detail
+  pub cause : IsCause opened old.left new.left frames cut detail
   pub silent : Keeps old.text new.text
 
 -- The whole input is a stream from the end of the opened list on, each image holds that with all of its frames, and of the accounts of this
