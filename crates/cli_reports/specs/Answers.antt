@@ -1,5 +1,5 @@
 -- What `recover` and `dump` answer: what they leave of the input and what they write.
-use Rattle.std.specs.Prelude.{◌≡◌, ℕ, List, [], Option, Some}
+use Rattle.std.specs.Prelude.{◌≡◌, ℕ, List, [], Option, Some, ⊤}
 use Rattle.std.specs.Io.KnownBytes.{Appends}
 use Rattle.log_disk.specs.Streams.{AppendsPart}
 use Rattle.log_recovery.specs.declared.recovery.RecoverFault.{RecoverFault}
@@ -13,27 +13,27 @@ use Rattle.cli_shared.specs.declared.report.Detail.TheVariants.{Fine, NoMemory, 
 
 -- the answers that there are to `recover`
 abbrev pub IsAnswerToRecover : Detail → Type 0
-IsAnswerToRecover Fine = Unit {0}
-IsAnswerToRecover NoMemory = Unit {0}
-IsAnswerToRecover Read = Unit {0}
-IsAnswerToRecover Write = Unit {0}
-IsAnswerToRecover NotALog = Unit {0}
-IsAnswerToRecover BadSnapshot = Unit {0}
-IsAnswerToRecover (BadBatch offset) = Unit {0}
-IsAnswerToRecover (BadRec lsn) = Unit {0}
-IsAnswerToRecover (Unlawful lsn why) = Unit {0}
+IsAnswerToRecover Fine = ⊤
+IsAnswerToRecover NoMemory = ⊤
+IsAnswerToRecover Read = ⊤
+IsAnswerToRecover Write = ⊤
+IsAnswerToRecover NotALog = ⊤
+IsAnswerToRecover BadSnapshot = ⊤
+IsAnswerToRecover (BadBatch offset) = ⊤
+IsAnswerToRecover (BadRec lsn) = ⊤
+IsAnswerToRecover (Unlawful lsn why) = ⊤
 IsAnswerToRecover detail = ⊥
 
 -- the answers that there are to `dump`
 abbrev pub IsAnswerToDump : Detail → Type 0
-IsAnswerToDump Fine = Unit {0}
-IsAnswerToDump NoMemory = Unit {0}
-IsAnswerToDump Read = Unit {0}
-IsAnswerToDump Write = Unit {0}
-IsAnswerToDump NotALog = Unit {0}
-IsAnswerToDump BadSnapshot = Unit {0}
-IsAnswerToDump (BadBatch offset) = Unit {0}
-IsAnswerToDump (BadRec lsn) = Unit {0}
+IsAnswerToDump Fine = ⊤
+IsAnswerToDump NoMemory = ⊤
+IsAnswerToDump Read = ⊤
+IsAnswerToDump Write = ⊤
+IsAnswerToDump NotALog = ⊤
+IsAnswerToDump BadSnapshot = ⊤
+IsAnswerToDump (BadBatch offset) = ⊤
+IsAnswerToDump (BadRec lsn) = ⊤
 IsAnswerToDump detail = ⊥
 
 -- the input was read to its end, and has this fault
@@ -52,8 +52,8 @@ AnswersRecover bytes left old new BadSnapshot = HasFault bytes left fault.BadSna
 AnswersRecover bytes left old new (BadBatch offset) = HasFault bytes left (fault.BadBatch offset)
 AnswersRecover bytes left old new (BadRec lsn) = HasFault bytes left (fault.BadRec lsn)
 AnswersRecover bytes left old new (Unlawful lsn why) = HasFault bytes left (fault.Unlawful lsn why)
-AnswersRecover bytes left old new Read = Unit {0}
-AnswersRecover bytes left old new NoMemory = Unit {0}
+AnswersRecover bytes left old new Read = ⊤
+AnswersRecover bytes left old new NoMemory = ⊤
 AnswersRecover bytes left old new detail = ⊥
 
 -- `dump` on these bytes: the same, but the list need not be lawful, and what is written is its dump, or a part of it
@@ -66,6 +66,6 @@ AnswersDump bytes left old new NotALog = HasFault bytes left fault.NotALog
 AnswersDump bytes left old new BadSnapshot = HasFault bytes left fault.BadSnapshot
 AnswersDump bytes left old new (BadBatch offset) = HasFault bytes left (fault.BadBatch offset)
 AnswersDump bytes left old new (BadRec lsn) = HasFault bytes left (fault.BadRec lsn)
-AnswersDump bytes left old new Read = Unit {0}
-AnswersDump bytes left old new NoMemory = Unit {0}
+AnswersDump bytes left old new Read = ⊤
+AnswersDump bytes left old new NoMemory = ⊤
 AnswersDump bytes left old new detail = ⊥

@@ -1,6 +1,6 @@
 -- What a command answers that reads a log and writes a text of its list. `Says` is what there is to write of a list, and `Refuses` why
 -- nothing is written of one, though it is lawful.
-use Rattle.std.specs.Prelude.{◌≡◌, ℕ, List, [], Option, Some}
+use Rattle.std.specs.Prelude.{◌≡◌, ℕ, List, [], Option, Some, ⊤}
 use Rattle.std.specs.Io.KnownBytes.{Appends}
 use Rattle.log_disk.specs.Streams.{AppendsPart}
 use Rattle.log_recovery.specs.declared.recovery.RecoverFault.TheVariants as fault
@@ -27,8 +27,8 @@ AnswersReport Says Refuses bytes left old new BadSnapshot = HasFault bytes left 
 AnswersReport Says Refuses bytes left old new (BadBatch offset) = HasFault bytes left (fault.BadBatch offset)
 AnswersReport Says Refuses bytes left old new (BadRec lsn) = HasFault bytes left (fault.BadRec lsn)
 AnswersReport Says Refuses bytes left old new (Unlawful lsn why) = HasFault bytes left (fault.Unlawful lsn why)
-AnswersReport Says Refuses bytes left old new Read = Unit {0}
-AnswersReport Says Refuses bytes left old new NoMemory = Unit {0}
+AnswersReport Says Refuses bytes left old new Read = ⊤
+AnswersReport Says Refuses bytes left old new NoMemory = ⊤
 AnswersReport Says Refuses bytes left old new detail = ⊥
 
 -- nothing is said of a list at an LSN that is no boundary of it
@@ -37,10 +37,10 @@ RefusesLsn lsn list detail = (detail ≡ NoSuchLsn lsn) × (IsListBoundary list 
 
 -- the answers that there are to a report at an LSN: those of `recover`, and that the LSN is no boundary
 abbrev pub IsAnswerAtLsn : Detail → Type 0
-IsAnswerAtLsn (NoSuchLsn lsn) = Unit {0}
+IsAnswerAtLsn (NoSuchLsn lsn) = ⊤
 IsAnswerAtLsn detail = IsAnswerToRecover detail
 
 -- the answers that there are to a report of an account: those of `recover`, and that there is no such account
 abbrev pub IsAnswerOnAccount : Detail → Type 0
-IsAnswerOnAccount (NoAccount account) = Unit {0}
+IsAnswerOnAccount (NoAccount account) = ⊤
 IsAnswerOnAccount detail = IsAnswerToRecover detail

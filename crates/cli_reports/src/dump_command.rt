@@ -11,7 +11,8 @@ use std::alloc::Global;
 
 /// Answers the bytes of a log by its records, lawful or not.
 pub fn dump_command<S: Source, K: Sink>(alloc: Global, input: &mut S, out: &mut K) -> Detail
-    ensures { HasReported S.Source K.Sink AnswersDump IsAnswerToDump input.old input.new out.old out.new result }
+    ensures { HasReported S.Source K.Sink AnswersDump IsAnswerToDump
+        input.old input.new out.old out.new result }
 {
     let list = match list_source(alloc, input) {
         Ok(list) => list,

@@ -11,7 +11,8 @@ use std::alloc::Global;
 
 /// Answers the bytes of a log by its accounts text.
 pub fn recover_command<S: Source, K: Sink>(alloc: Global, input: &mut S, out: &mut K) -> Detail
-    ensures { HasReported S.Source K.Sink AnswersRecover IsAnswerToRecover input.old input.new out.old out.new result }
+    ensures { HasReported S.Source K.Sink AnswersRecover IsAnswerToRecover
+        input.old input.new out.old out.new result }
 {
     let recovered = match recover_source(alloc, input) {
         Ok(recovered) => recovered,
