@@ -11,7 +11,7 @@ use lock_core::TakesRecords;
 use log_disk::Source;
 use log_recovery::Listed;
 use segment_file::Tail;
-use source_recovery::{SourceFault, take_pieces, take_source};
+use source_recovery::{SourceFault, TakesAsked, take_pieces, take_source};
 use std::alloc::Global;
 
 /// Reads the input to its end, and answers what has taken the list of the log that it is, and the list.
@@ -29,17 +29,18 @@ pub fn read_log<T: TakesRecords, S: Source>(
     }
 }
 
-/// The same for one that needs no list: it answers where the file goes on, and of the input no more is kept than what the taker keeps,
-/// and a batch.
-pub fn read_pieces<T: TakesRecords, S: Source>(
+/// The same for one that is asked for this and needs no list: it answers where the file goes on, and of the input no more is kept than
+/// what the taker keeps, and a batch.
+pub fn read_pieces<T: TakesAsked, S: Source>(
     alloc: Global,
+    asked: u32,
     source: &mut S,
 ) -> Result<(T, Tail), Detail>
-    ensures ok { IfOk result (λ both. TakesSource T.has_taken (S.left source.old) (S.left source.new) both.0 both.1) }
+    ensures ok { IfOk result (λ both. TakesSource (T.has_taken asked) (S.left source.old) (S.left source.new) both.0 both.1) }
     ensures err { IfErr result (IsSourceFault (S.left source.old) (S.left source.new)) }
     ensures read { CountsWhere (IsErrOf result Detail.Read) (S.faults source.old) (S.faults source.new) }
 {
-    match take_pieces(alloc, source) {
+    match take_pieces(alloc, asked, source) {
         Ok(both) => Ok(both),
         Err(fault) => Err(source_detail(fault)),
     }

@@ -1,3 +1,4 @@
+pub mod AccountsAtLemmas
 pub mod BalanceLemmas
 pub mod ReadLemmas
 pub mod StatementLemmas

@@ -1,2 +1,4 @@
+pub mod AccountsAt
 pub mod Balances
+pub mod OneAccount
 pub mod Reports

@@ -2,6 +2,8 @@
 //! happened to one of them.
 #![tactic(auto)]
 
+mod accounts_at;
 pub mod asof_command;
+mod one_account;
 pub mod statement_command;
 mod statement_text;

@@ -3,9 +3,9 @@ ghost use Rattle.cli_reports.specs.Reports.{AnswersReport, IsAnswerOnAccount};
 ghost use Rattle.cli_view.specs.Reports.{RefusesAccount, SaysStatement};
 ghost use Rattle.cli_reports.specs.Command.{HasReported};
 
+use crate::one_account::OneAccount;
 use crate::statement_text::put_statement;
 use cli_shared::{Detail, read_pieces};
-use ledger_view::View;
 use log_disk::{Sink, Source};
 use std::alloc::Global;
 
@@ -19,17 +19,14 @@ pub fn statement_command<S: Source, K: Sink>(
     ensures { HasReported S.Source K.Sink (AnswersReport (SaysStatement account) (RefusesAccount account)) IsAnswerOnAccount
         input.old input.new out.old out.new result }
 {
-    let (view, tail) = match read_pieces::<View, S>(alloc, input) {
+    let (taken, tail) = match read_pieces::<OneAccount, S>(alloc, account, input) {
         Ok(both) => both,
         Err(detail) => return detail,
     };
-    let Some(balance) = view.first_balance(account) else {
+    let Some(balance) = taken.0.first_balance() else {
         return Detail::NoAccount { account };
     };
-    let Some(entries) = view.entries(account) else {
-        unreachable!()
-    };
-    match put_statement(balance, entries, tail.next, out) {
+    match put_statement(balance, taken.0.entries(), tail.next, out) {
         Ok(()) => Detail::Fine,
         Err(_) => Detail::Write,
     }

@@ -14,10 +14,11 @@ use Rattle.source_recovery.specs.declared.records.UnitsTaker.{UnitsTaker}
 use Rattle.source_recovery.specs.Taker.{HasTakenTo, IsBadFor, StandsAt}
 
 -- where the taker stood before these units it stands before their rest, but that a place at which no record begins may have fewer units
--- behind it
-abbrev pub PassesTo : {T : Type 0} → (sums.Opening → T → List Placed → Type 0) → ℕ → List ℕ → List ℕ → UnitsTaker T → UnitsTaker T → Type 0
+-- behind it; and it is asked for what it was
+abbrev pub PassesTo : {T : Type 0} → (ℕ → sums.Opening → T → List Placed → Type 0) → ℕ → List ℕ → List ℕ → UnitsTaker T → UnitsTaker T → Type 0
 PassesTo HasTaken least units rest old new = EndsWith units rest
-    × ((opening : Opening) (all : List ℕ) → HasTakenTo HasTaken opening all units old → StandsAt HasTaken least opening all rest new)
+    × ((asked : ℕ) (opening : Opening) (all : List ℕ) → HasTakenTo (HasTaken asked) opening all units old
+    → StandsAt (HasTaken asked) least opening all rest new)
 
 -- the records before this rest of all units are taken, and the rest begins at this LSN
 pub record CanTake {T : Type 0} (HasTaken : sums.Opening → T → List Placed → Type 0) (opening : Opening) (all rest : List ℕ) (lsn : ℕ)

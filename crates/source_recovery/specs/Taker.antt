@@ -40,6 +40,7 @@ pub record StandsAt {T : Type 0} (HasTaken : sums.Opening → T → List Placed 
 abbrev pub HasTakenTo : {T : Type 0} → (sums.Opening → T → List Placed → Type 0) → Opening → List ℕ → List ℕ → UnitsTaker T → Type 0
 HasTakenTo HasTaken opening all rest taker = StandsAt HasTaken LONGEST_RECORD opening all rest taker
 
--- the units are the rest of some, before which the taker stands
-abbrev pub AreNext : {T : Type 0} → (sums.Opening → T → List Placed → Type 0) → List ℕ → UnitsTaker T → Type 0
-AreNext HasTaken units taker = (opening : Opening) × (all : List ℕ) × HasTakenTo HasTaken opening all units taker
+-- the units are the rest of some, before which the taker stands, whatever it is asked
+abbrev pub AreNext : {T : Type 0} → (ℕ → sums.Opening → T → List Placed → Type 0) → List ℕ → UnitsTaker T → Type 0
+AreNext HasTaken units taker =
+    (asked : ℕ) × (opening : Opening) × (all : List ℕ) × HasTakenTo (HasTaken asked) opening all units taker

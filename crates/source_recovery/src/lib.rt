@@ -3,6 +3,7 @@
 //! of the bytes no more is kept there either: `list_source`, `take_source` and `recover_source_list`.
 #![tactic(auto)]
 
+mod asked;
 mod batches;
 mod passing;
 mod records;
@@ -10,5 +11,6 @@ mod recovery;
 mod scanning;
 mod window;
 
+pub use asked::TakesAsked;
 pub use recovery::{SourceFault, recover_source, take_pieces};
 pub use scanning::{list_source, recover_source_list, take_source};

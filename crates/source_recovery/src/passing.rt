@@ -8,7 +8,8 @@ ghost use Rattle.lsn_space.specs.declared.lsn.TheConstants.{LAST};
 ghost use Rattle.log_recovery.specs.ListedRecords.{EndsWith, IsFront};
 ghost use Rattle.source_recovery.specs.Passing.{CanTake, IsShort, StopsAt};
 
-use lock_core::{JudgeFault, TakesRecords, Why};
+use crate::asked::TakesAsked;
+use lock_core::{JudgeFault, Why};
 use log_record::{Rec, read_into};
 use log_recovery::place_of;
 use lsn_space::Lsn;
@@ -55,18 +56,18 @@ pub(crate) fn read_records(units: &[u64], least: usize) -> &[u64]
 }
 
 /// Takes records while at least so many units are left. The first of the units stands at that LSN.
-pub(crate) fn take_records<'a, T: TakesRecords>(
+pub(crate) fn take_records<'a, T: TakesAsked>(
     taker: &mut T,
     first: Lsn,
     units: &'a [u64],
     least: usize,
 ) -> (&'a [u64], Stop)
-    requires taken { (opening : Opening) × (all : List ℕ) × CanTake T.has_taken opening all units.now first taker.old }
+    requires taken { (asked : ℕ) × (opening : Opening) × (all : List ℕ) × CanTake (T.has_taken asked) opening all units.now first taker.old }
     requires some { 0 < least }
     ensures ends { EndsWith units.now result.0.now }
     ensures few { IsShort least result.0.now result.1 }
-    ensures stops { (opening : Opening) (all : List ℕ) → CanTake T.has_taken opening all units.now first taker.old
-        → StopsAt T.has_taken least opening all result.0.now taker.new result.1 }
+    ensures stops { (asked : ℕ) (opening : Opening) (all : List ℕ) → CanTake (T.has_taken asked) opening all units.now first taker.old
+        → StopsAt (T.has_taken asked) least opening all result.0.now taker.new result.1 }
 {
     let mut rest = units;
     let mut rec = Rec::Commit { txn: 1, legs: 1 };

@@ -9,8 +9,9 @@ ghost use Rattle.log_recovery.specs.ListedRecords.{EndsWith};
 ghost use Rattle.source_recovery.specs.Passing.{PassesTo, ReadsFew, TakesFew};
 ghost use Rattle.source_recovery.specs.Taker.{AreNext, HasTakenTo, StandsAt};
 
+use crate::asked::TakesAsked;
 use crate::passing::{Stop, leave_out, read_records, take_records};
-use lock_core::{TakesRecords, Why};
+use lock_core::Why;
 use log_record::LONGEST_RECORD;
 use log_recovery::{UnitsFault, place_of};
 use lsn_space::{Lsn, NoMemory, Opening};
@@ -39,15 +40,15 @@ enum State<T> {
     Bad { lsn: Lsn },
 }
 
-impl<T: TakesRecords> UnitsTaker<T> {
-    /// One that has taken no record behind this opening.
-    pub fn new(alloc: Global, opening: &Opening) -> Result<UnitsTaker<T>, NoMemory>
+impl<T: TakesAsked> UnitsTaker<T> {
+    /// One that is asked for this, and has taken no record behind this opening.
+    pub fn new(alloc: Global, opening: &Opening, asked: u32) -> Result<UnitsTaker<T>, NoMemory>
         requires { (opening.now.accounts ≡ []) ⊎ IsSnapshot opening.now }
         ensures { IfOk result (λ taker. (units : List ℕ) → opening.now.lsn + length units ≤ LAST
-            → HasTakenTo T.has_taken opening.now units units taker) }
+            → HasTakenTo (T.has_taken asked) opening.now units units taker) }
     {
         Ok(UnitsTaker {
-            state: State::Taking(T::after(alloc, opening)?),
+            state: State::Taking(T::after(alloc, opening, asked)?),
             next: opening.lsn,
         })
     }
@@ -57,8 +58,9 @@ impl<T: TakesRecords> UnitsTaker<T> {
     pub fn take(&mut self, units: &mut Vec<u64>) -> Result<(), NoMemory>
         requires { AreNext T.has_taken units.old.items self.old }
         ensures few { IfOk result (λ _. length units.new.items < LONGEST_RECORD) }
-        ensures taken { IfOk result (λ _. (opening : Opening) (all : List ℕ)
-            → HasTakenTo T.has_taken opening all units.old.items self.old → HasTakenTo T.has_taken opening all units.new.items self.new) }
+        ensures taken { IfOk result (λ _. (asked : ℕ) (opening : Opening) (all : List ℕ)
+            → HasTakenTo (T.has_taken asked) opening all units.old.items self.old
+            → HasTakenTo (T.has_taken asked) opening all units.new.items self.new) }
     {
         let count = units.len();
         let left = self.pass(units.as_slice(), LONGEST_RECORD)?.len();
@@ -69,9 +71,9 @@ impl<T: TakesRecords> UnitsTaker<T> {
     /// Takes the records of the rest of the units, of which no more come, and hands out what has taken them all.
     pub fn finish(mut self, units: &[u64]) -> Result<T, UnitsFault>
         requires { AreNext T.has_taken units.now self }
-        ensures taken { (opening : Opening) (all : List ℕ) → HasTakenTo T.has_taken opening all units.now self
-            → IfOk result (HasTakenUnits T.has_taken opening all) }
-        ensures fault { (opening : Opening) (all : List ℕ) → HasTakenTo T.has_taken opening all units.now self
+        ensures taken { (asked : ℕ) (opening : Opening) (all : List ℕ) → HasTakenTo (T.has_taken asked) opening all units.now self
+            → IfOk result (HasTakenUnits (T.has_taken asked) opening all) }
+        ensures fault { (asked : ℕ) (opening : Opening) (all : List ℕ) → HasTakenTo (T.has_taken asked) opening all units.now self
             → IfErr result (IsUnitsFaultOf opening all) }
     {
         match self.pass(units, 1) {
@@ -82,9 +84,9 @@ impl<T: TakesRecords> UnitsTaker<T> {
 
     /// What has taken all units, or what is wrong with them.
     fn answer(self) -> Result<T, UnitsFault>
-        ensures taken { (opening : Opening) (all : List ℕ) → StandsAt T.has_taken 1 opening all [] self
-            → IfOk result (HasTakenUnits T.has_taken opening all) }
-        ensures fault { (opening : Opening) (all : List ℕ) → StandsAt T.has_taken 1 opening all [] self
+        ensures taken { (asked : ℕ) (opening : Opening) (all : List ℕ) → StandsAt (T.has_taken asked) 1 opening all [] self
+            → IfOk result (HasTakenUnits (T.has_taken asked) opening all) }
+        ensures fault { (asked : ℕ) (opening : Opening) (all : List ℕ) → StandsAt (T.has_taken asked) 1 opening all [] self
             → IfErr result (IsUnitsFaultOf opening all) }
         ensures memory { IsErrOf result UnitsFault.NoMemory → ⊥ }
     {
@@ -138,13 +140,14 @@ impl<T: TakesRecords> UnitsTaker<T> {
 
     /// Reads records while at least so many units are left, where one failed before.
     fn read_on<'a>(&mut self, units: &'a [u64], least: usize) -> &'a [u64]
-        requires stands { (opening : Opening) × (all : List ℕ) × StandsAt T.has_taken least opening all units.now self.old }
+        requires stands { (asked : ℕ) × (opening : Opening) × (all : List ℕ)
+            × StandsAt (T.has_taken asked) least opening all units.now self.old }
         requires some { 0 < least }
         requires few { TakesFew least units.now self.old.state }
         ensures ends { EndsWith units.now result.now }
         ensures few { ReadsFew least result.now self.new.state }
-        ensures stands { (opening : Opening) (all : List ℕ) → StandsAt T.has_taken least opening all units.now self.old
-            → StandsAt T.has_taken least opening all result.now self.new }
+        ensures stands { (asked : ℕ) (opening : Opening) (all : List ℕ) → StandsAt (T.has_taken asked) least opening all units.now self.old
+            → StandsAt (T.has_taken asked) least opening all result.now self.new }
     {
         let State::Failed { .. } = &self.state else {
             return units;

@@ -6,9 +6,10 @@ ghost use Rattle.source_recovery.specs.Recovery.{IsSourceFaultOf, RecoversSource
 ghost use Rattle.source_recovery.specs.declared.recovery.SourceFault.TheVariants as fault;
 ghost use Rattle.log_recovery.specs.declared.recovery.RecoverFault.TheVariants as log_fault;
 
+use crate::asked::TakesAsked;
 use crate::batches::{LogReader, ReadingFault};
 use crate::records::UnitsTaker;
-use lock_core::{Judge, TakesRecords};
+use lock_core::Judge;
 use log_disk::Source;
 use log_recovery::{RecoverFault, Recovered, recovered_of, scan_fault, units_fault};
 use lsn_space::NoMemory;
@@ -45,17 +46,18 @@ impl From<NoMemory> for SourceFault {
     }
 }
 
-/// What has taken the lawful list of the log that the source gives, and where its file goes on.
-pub fn take_pieces<T: TakesRecords, S: Source>(
+/// What is asked for this and has taken the lawful list of the log that the source gives, and where its file goes on.
+pub fn take_pieces<T: TakesAsked, S: Source>(
     alloc: Global,
+    asked: u32,
     source: &mut S,
 ) -> Result<(T, Tail), SourceFault>
-    ensures found { IfOk result (λ both. TakesSource T.has_taken (S.left source.old) (S.left source.new) both.0 both.1) }
+    ensures found { IfOk result (λ both. TakesSource (T.has_taken asked) (S.left source.old) (S.left source.new) both.0 both.1) }
     ensures fault { IfErr result (IsSourceFaultOf (S.left source.old) (S.left source.new)) }
     ensures failed { CountsWhere (IsErrOf result SourceFault.Failed) (S.faults source.old) (S.faults source.new) }
 {
     let (mut reader, opening, mut units) = LogReader::begin(alloc, source)?;
-    let mut taker = UnitsTaker::<T>::new(alloc, &opening)?;
+    let mut taker = UnitsTaker::<T>::new(alloc, &opening, asked)?;
     'batches: loop {
         taker.take(&mut units)?;
         if !reader.next_behind_few(source, &mut units)? {
@@ -72,6 +74,7 @@ pub fn take_pieces<T: TakesRecords, S: Source>(
 pub fn recover_source<S: Source>(alloc: Global, source: &mut S) -> Result<Recovered, SourceFault>
     ensures { RecoversSource S.Source source.old source.new result }
 {
-    let (judge, tail) = take_pieces::<Judge, S>(alloc, source)?;
+    // A judge heeds nothing that it is asked.
+    let (judge, tail) = take_pieces::<Judge, S>(alloc, 0, source)?;
     Ok(recovered_of(judge, tail))
 }

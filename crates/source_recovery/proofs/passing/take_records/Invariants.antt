@@ -8,8 +8,8 @@ use Rattle.source_recovery.proofs.passing.take_records.Given as goal
 abbrev pub invariant-records : goal.invariant-records
 invariant-records g l = record {
   ends : EndsWith l.units l.rest;
-  taken : (opening : Opening) (all : List ℕ) → CanTake g.T.TakesRecords.has_taken opening all l.units l.first l.fn.taker
-      → HasTakenFront g.T.TakesRecords.has_taken opening all l.rest l.taker;
+  taken : (asked : ℕ) (opening : Opening) (all : List ℕ) → CanTake (g.T.TakesAsked.has_taken asked) opening all l.units l.first l.fn.taker
+      → HasTakenFront (g.T.TakesAsked.has_taken asked) opening all l.rest l.taker;
 }
 
 abbrev pub decreases-records : goal.decreases-records

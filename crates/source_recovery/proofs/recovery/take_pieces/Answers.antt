@@ -20,20 +20,20 @@ batches-init g c =
       all = c.in_ok-reader.units.items;
       read = subst (λ (o : Opening). HasReadLog (g.S.Source.left c.args.source.now) (g.S.Source.left c.begin.new.source) c.in_ok-reader.reader
           (record { opening = o; units = c.in_ok-reader.units.items })) (sym c.opening.view_is) found;
-      taken = subst (λ (o : Opening). HasTakenTo g.T.TakesRecords.has_taken o c.in_ok-reader.units.items c.in_ok-reader.units.items c.in_ok-taker.taker)
+      taken = subst (λ (o : Opening). HasTakenTo (g.T.TakesAsked.has_taken c.args.asked) o c.in_ok-reader.units.items c.in_ok-reader.units.items c.in_ok-taker.taker)
           (sym c.opening.view_is) (c.in_ok-taker.ensures c.in_ok-reader.units.items found.reads.total);
       no_fault = c.in_ok-reader.ensures.failed.fine (λ is. cc);
     }
 
 pub take-requires : goal.take-requires
-take-requires g c = (_, c.batches.invariant.all, c.batches.invariant.taken)
+take-requires g c = (c.args.asked, _, c.batches.invariant.all, c.batches.invariant.taken)
 
 pub returns-in_err-take-clause-failed : goal.returns-in_err-take-clause-failed
 returns-in_err-take-clause-failed g c = no_memory-CountsWhere _ _ _ c.from_residual-in_err-take.ensures.1 c.batches.invariant.no_fault
 
 pub next_behind_few-requires-clause-next : goal.next_behind_few-requires-clause-next
 next_behind_few-requires-clause-next g c =
-    let taken = c.in_ok-take.ensures.taken _ _ c.batches.invariant.taken in omega (arith, taken.place, c.batches.invariant.read.next)
+    let taken = c.in_ok-take.ensures.taken c.args.asked _ _ c.batches.invariant.taken in omega (arith, taken.place, c.batches.invariant.read.next)
 
 pub returns-in_err-next_behind_few-clause-fault : goal.returns-in_err-next_behind_few-clause-fault
 returns-in_err-next_behind_few-clause-fault g c =
@@ -57,19 +57,20 @@ batches-preserved g c =
     let opening : Opening = record { lsn = c.opening.inside.lsn; txn = c.opening.inside.txn; accounts = c.opening.inside.accounts.rows } in record {
       all = before.all ++ batch.more;
       read = read;
-      taken = subst (λ units. HasTakenTo g.T.TakesRecords.has_taken opening (before.all ++ batch.more) units c.take.new.self) (sym batch.added)
-          (taken_to-more g.T.TakesRecords.has_taken opening before.all _ batch.more c.take.new.self (c.in_ok-take.ensures.taken _ _ before.taken) read.reads.total);
+      taken = subst (λ units. HasTakenTo (g.T.TakesAsked.has_taken c.args.asked) opening (before.all ++ batch.more) units c.take.new.self) (sym batch.added)
+          (taken_to-more (g.T.TakesAsked.has_taken c.args.asked) opening before.all _ batch.more c.take.new.self (c.in_ok-take.ensures.taken c.args.asked _ _ before.taken) read.reads.total);
       no_fault = c.in_ok-next_behind_few.ensures.failed.fine (λ is. cc) ∙ before.no_fault;
     }
 
 pub finish-requires : goal.finish-requires
 finish-requires g c =
     let end = c.in_ok-next_behind_few.ensures.end (cc) in
-    let taken = c.in_ok-take.ensures.taken _ _ c.batches.invariant.taken in
+    let taken = c.in_ok-take.ensures.taken c.args.asked _ _ c.batches.invariant.taken in
     let opening : Opening = record { lsn = c.opening.inside.lsn; txn = c.opening.inside.txn; accounts = c.opening.inside.accounts.rows } in (
+      c.args.asked,
       opening,
       c.batches.invariant.all,
-      subst (λ units. HasTakenTo g.T.TakesRecords.has_taken opening c.batches.invariant.all units c.take.new.self)
+      subst (λ units. HasTakenTo (g.T.TakesAsked.has_taken c.args.asked) opening c.batches.invariant.all units c.take.new.self)
           (sym (c.as_slice.ensures.value ∙ end.units_are)) taken,
     )
 
@@ -80,11 +81,11 @@ returns-in-Ok-clause-found g c =
     let opening : Opening = record { lsn = c.opening.inside.lsn; txn = c.opening.inside.txn; accounts = c.opening.inside.accounts.rows } in
     let log : Log = record { opening = opening; units = all } in
     let ends = end.ends _ log c.batches.invariant.read in
-    let left = subst (λ units. HasTakenTo g.T.TakesRecords.has_taken opening all units c.take.new.self) (sym (c.as_slice.ensures.value ∙ end.units_are))
-    (c.in_ok-take.ensures.taken opening all c.batches.invariant.taken) in
+    let left = subst (λ units. HasTakenTo (g.T.TakesAsked.has_taken c.args.asked) opening all units c.take.new.self) (sym (c.as_slice.ensures.value ∙ end.units_are))
+    (c.in_ok-take.ensures.taken c.args.asked opening all c.batches.invariant.taken) in
     let place = c.tail.ensures ∙ (λ i. tail_at (end.at i) (end.next i)) in
-    taken_units-TakesSource g.T.TakesRecords.has_taken _ _ c.tail.result opening all ends.bytes c.in-Ok.taken g.met.T.TakesRecords.lawful
-    ends.gave (subst (λ (tail : Tail). LogStandsAt tail log ends.bytes) (sym place) ends.stands) (c.in-Ok.ensures.taken opening all left)
+    taken_units-TakesSource (g.T.TakesAsked.has_taken c.args.asked) _ _ c.tail.result opening all ends.bytes c.in-Ok.taken (g.met.T.TakesAsked.lawful c.args.asked)
+    ends.gave (subst (λ (tail : Tail). LogStandsAt tail log ends.bytes) (sym place) ends.stands) (c.in-Ok.ensures.taken c.args.asked opening all left)
 
 pub returns-in-Ok-clause-failed : goal.returns-in-Ok-clause-failed
 returns-in-Ok-clause-failed g c = record {
@@ -99,9 +100,9 @@ returns-clause-fault g c =
     let opening : Opening = record { lsn = c.opening.inside.lsn; txn = c.opening.inside.txn; accounts = c.opening.inside.accounts.rows } in
     let log : Log = record { opening = opening; units = all } in
     let ends = end.ends _ log c.batches.invariant.read in
-    let left = subst (λ units. HasTakenTo g.T.TakesRecords.has_taken opening all units c.take.new.self) (sym (c.as_slice.ensures.value ∙ end.units_are))
-    (c.in_ok-take.ensures.taken opening all c.batches.invariant.taken) in
-    gave_all-IsSourceFaultOf _ _ ends.bytes _ ends.gave (c.units_fault.ensures.fault ends.bytes log ends.stands.held (c.in-Err.ensures.fault opening all left))
+    let left = subst (λ units. HasTakenTo (g.T.TakesAsked.has_taken c.args.asked) opening all units c.take.new.self) (sym (c.as_slice.ensures.value ∙ end.units_are))
+    (c.in_ok-take.ensures.taken c.args.asked opening all c.batches.invariant.taken) in
+    gave_all-IsSourceFaultOf _ _ ends.bytes _ ends.gave (c.units_fault.ensures.fault ends.bytes log ends.stands.held (c.in-Err.ensures.fault c.args.asked opening all left))
 
 pub returns-clause-failed : goal.returns-clause-failed
 returns-clause-failed g c = record {

@@ -9,7 +9,7 @@ invariant-batches g l = record {
   all : List ℕ;
   read : HasReadLog (g.S.Source.left l.fn.source) (g.S.Source.left l.source) l.reader
       (record { opening = record { lsn = l.opening-inside.lsn; txn = l.opening-inside.txn; accounts = l.opening-inside.accounts.rows }; units = all });
-  taken : HasTakenTo g.T.TakesRecords.has_taken (record { lsn = l.opening-inside.lsn; txn = l.opening-inside.txn; accounts = l.opening-inside.accounts.rows }) all
+  taken : HasTakenTo (g.T.TakesAsked.has_taken l.asked) (record { lsn = l.opening-inside.lsn; txn = l.opening-inside.txn; accounts = l.opening-inside.accounts.rows }) all
       l.units.items l.taker;
   no_fault : g.S.Source.faults l.source ≡ g.S.Source.faults l.fn.source;
 }
