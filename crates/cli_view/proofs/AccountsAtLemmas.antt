@@ -1,5 +1,5 @@
 -- How the accounts at one LSN are kept while a history comes by, and where its boundaries are.
-use Rattle.std.proofs.Common.{◌≡◌, ◌<◌, ◌≤◌, ◌⊎◌, inl, inr, ℕ, ◌+◌, List, [], ◌∷◌, ◌++◌, Option, Some, None, append-nil, refl, ap, ◌∙◌, sym, subst, arith}
+use Rattle.std.proofs.Common.{◌≡◌, ◌<◌, ◌⊎◌, inl, inr, ℕ, ◌+◌, List, [], ◌∷◌, ◌++◌, Option, Some, None, append-nil, refl, ap, ◌∙◌, sym, subst, arith}
 use Rattle.log_record.specs.declared.rec.Placed.{Placed}
 use Rattle.log_record.specs.declared.rec.Rec.{Rec}
 use Rattle.log_record.specs.LogList.{end_of}
@@ -90,7 +90,7 @@ module _ (lsn : ℕ) (opening : Opening) (h : List Placed) where
 
     -- one that starts elsewhere
     pub elsewhere-found : (found : Option Accounts) → (lsn ≡ end → ⊥) → IsFoundAt lsn opening h found → IsFoundAt lsn opening (entry ∷ h) found
-    elsewhere-found None other none = λ starts. elim starts [ | inl here ↦ other here | inr before ↦ none before ]
+    elsewhere-found None other none = λ starts. elim starts [ inl here ↦ other here | inr before ↦ none before ]
     elsewhere-found (Some balances) other some = (
       inr some.0,
       omega (arith, some.1, behind),
@@ -103,7 +103,7 @@ module _ (lsn : ℕ) (opening : Opening) (h : List Placed) where
 
   -- or elsewhere
   pub found-answer : (found : Option Accounts) → (lsn ≡ end → ⊥) → IsFoundAt lsn opening h found → IsAnswerAt lsn opening h found
-  found-answer None other none = λ place. elim place [ | inl here ↦ other here | inr starts ↦ none starts ]
+  found-answer None other none = λ place. elim place [ inl here ↦ other here | inr starts ↦ none starts ]
   found-answer (Some balances) other some = (inr some.0, some.2)
 
 -- ---- the taker

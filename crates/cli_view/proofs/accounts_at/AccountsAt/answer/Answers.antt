@@ -1,4 +1,4 @@
-use Rattle.std.proofs.Common.{◌≡◌, ◌∙◌, sym}
+use Rattle.std.proofs.Common.{◌∙◌, sym}
 use Rattle.cli_view.proofs.AccountsAtLemmas.{end-answer, found-answer}
 use Rattle.cli_view.proofs.accounts_at.AccountsAt.answer.Goals as goal
 
