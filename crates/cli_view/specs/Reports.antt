@@ -1,5 +1,5 @@
 -- What `asof` and `statement` say of the list of a log, and why they say nothing of one.
-use Rattle.std.specs.Prelude.{◌≡◌, ◌<◌, ℕ, ◌-◌, List, ◌++◌, codes}
+use Rattle.std.specs.Prelude.{◌≡◌, ◌<◌, ℕ, ◌-◌, List, ◌++◌, Option, codes}
 use Rattle.std.specs.List.{flat_map}
 use Rattle.lsn_space.specs.Number.{number_text}
 use Rattle.log_record.specs.LogList.{prefix_to}
@@ -8,6 +8,7 @@ use Rattle.log_recovery.specs.Opened.{OpenedList, IsListBoundary, base_in, list_
 use Rattle.log_recovery.specs.Text.{accounts_text, lsn_line}
 use Rattle.ledger_view.specs.declared.entries.Entry.{Entry}
 use Rattle.ledger_view.specs.Entries.{entries_of}
+use Rattle.cli_reports.specs.Reports.{AnswersReport, RefusesLsn}
 use Rattle.cli_shared.specs.declared.report.Detail.{Detail}
 use Rattle.cli_shared.specs.declared.report.Detail.TheVariants.{NoAccount}
 
@@ -18,6 +19,10 @@ list_to list lsn = with_front list (prefix_to list.records (lsn - list.opening.l
 -- `asof` of a boundary says what the accounts text is of the list up to there
 abbrev pub SaysAccounts : ℕ → OpenedList → List ℕ → Type 0
 SaysAccounts lsn list text = IsListBoundary list lsn × (text ≡ accounts_text (list_to list lsn))
+
+-- what `asof` answers for the bytes of a log
+abbrev pub AnswersAsOf : ℕ → List ℕ → Option (List ℕ) → Option (List ℕ) → Option (List ℕ) → Detail → Type 0
+AnswersAsOf lsn = AnswersReport (SaysAccounts lsn) (RefusesLsn lsn)
 
 -- the balance with which an account begins
 unfoldable pub open_line : ℕ → List ℕ
@@ -44,3 +49,7 @@ SaysStatement account list text = (account < (base_in list).accounts) × (text �
 -- nothing is said of an account that the list doesn't have
 abbrev pub RefusesAccount : ℕ → OpenedList → Detail → Type 0
 RefusesAccount account list detail = (detail ≡ NoAccount account) × (account < (base_in list).accounts → ⊥)
+
+-- what `statement` answers for the bytes of a log
+abbrev pub AnswersStatement : ℕ → List ℕ → Option (List ℕ) → Option (List ℕ) → Option (List ℕ) → Detail → Type 0
+AnswersStatement account = AnswersReport (SaysStatement account) (RefusesAccount account)

@@ -1,6 +1,6 @@
 //! The command `asof`: the accounts as they stood at a boundary.
-ghost use Rattle.cli_reports.specs.Reports.{AnswersReport, IsAnswerAtLsn, RefusesLsn};
-ghost use Rattle.cli_view.specs.Reports.{SaysAccounts};
+ghost use Rattle.cli_reports.specs.Reports.{IsAnswerAtLsn};
+ghost use Rattle.cli_view.specs.Reports.{AnswersAsOf};
 ghost use Rattle.cli_reports.specs.Command.{HasReported};
 
 use crate::accounts_at::AccountsAt;
@@ -17,7 +17,7 @@ pub fn asof_command<S: Source, K: Sink>(
     input: &mut S,
     out: &mut K,
 ) -> Detail
-    ensures { HasReported S.Source K.Sink (AnswersReport (SaysAccounts lsn) (RefusesLsn lsn)) IsAnswerAtLsn
+    ensures { HasReported S.Source K.Sink (AnswersAsOf lsn) IsAnswerAtLsn
         input.old input.new out.old out.new result }
 {
     let (taken, tail) = match read_pieces::<AccountsAt, S>(alloc, lsn.units(), input) {

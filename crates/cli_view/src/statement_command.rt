@@ -1,6 +1,6 @@
 //! The command `statement`: what came into and went out of one account.
-ghost use Rattle.cli_reports.specs.Reports.{AnswersReport, IsAnswerOnAccount};
-ghost use Rattle.cli_view.specs.Reports.{RefusesAccount, SaysStatement};
+ghost use Rattle.cli_reports.specs.Reports.{IsAnswerOnAccount};
+ghost use Rattle.cli_view.specs.Reports.{AnswersStatement};
 ghost use Rattle.cli_reports.specs.Command.{HasReported};
 
 use crate::one_account::OneAccount;
@@ -16,7 +16,7 @@ pub fn statement_command<S: Source, K: Sink>(
     input: &mut S,
     out: &mut K,
 ) -> Detail
-    ensures { HasReported S.Source K.Sink (AnswersReport (SaysStatement account) (RefusesAccount account)) IsAnswerOnAccount
+    ensures { HasReported S.Source K.Sink (AnswersStatement account) IsAnswerOnAccount
         input.old input.new out.old out.new result }
 {
     let (taken, tail) = match read_pieces::<OneAccount, S>(alloc, account, input) {

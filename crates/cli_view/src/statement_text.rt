@@ -42,8 +42,10 @@ pub fn put_statement<K: Sink>(
     end: Lsn,
     sink: &mut K,
 ) -> Result<(), WriteFault>
-    ensures all { OnOk result (Appends (K.held_bytes sink.old) (K.held_bytes sink.new) (statement_lines balance entries.now end)) }
-    ensures prefix { OnErr result (AppendsPart (K.held_bytes sink.old) (K.held_bytes sink.new) (statement_lines balance entries.now end)) }
+    ensures all { OnOk result (Appends (K.held_bytes sink.old) (K.held_bytes sink.new)
+        (statement_lines balance entries.now end)) }
+    ensures prefix { OnErr result (AppendsPart (K.held_bytes sink.old) (K.held_bytes sink.new)
+        (statement_lines balance entries.now end)) }
     ensures cause { HasCause (K.faults sink.old) (K.faults sink.new) result }
 {
     let mut block = OutputBlock::new();
