@@ -16,6 +16,12 @@ source-read : (left left_new : Option (List ℕ)) (opening : Opening) (reads : R
 source-read None left_new opening reads = tt
 source-read (Some all) left_new opening reads = subst (λ bytes. HoldsLawful bytes reads.1) reads.2.0 reads.3
 
+-- a file that reads as before, and then grows
+pub GrowsAtMostTo-behind_same : {D : Type 0} (g : Ghosts D) (place : ℕ) (old mid new : D) → g.reads mid ≡ g.reads old
+    → GrowsAtMostTo g place mid new → GrowsAtMostTo g place old new
+GrowsAtMostTo-behind_same g place old mid new same grows =
+    GrowsAtMostTo-trans g place old mid new (GrowsAtMostTo-same g place old mid same) grows
+
 module _ (left left_new : Option (List ℕ)) (opening : Opening) (reads : ReadsCut left left_new opening) where
   cut-left : (images : List ℕ → Type 0) (c : List ℕ) → HoldsNoneOrLog (cut_log opening) c → MayBeCut left images c
   cut-left images c (inl none) = inr (inl none)
@@ -35,11 +41,5 @@ module _ (left left_new : Option (List ℕ)) (opening : Opening) (reads : ReadsC
   pub grows-cut : {D : Type 0} (g : Ghosts D) (old mid new : D) → g.reads mid ≡ g.reads old → GrowsAtMostTo g (21 + 12 * length opening.accounts) mid new
       → GrowsByCut g left old new
   grows-cut g old mid new same grows =
-      let place : ℕ = 21 + 12 * length opening.accounts in
-      inr (
-        reads.1,
-        opening,
-        source-read left left_new opening reads,
-        reads.4,
-        GrowsAtMostTo-trans g place old mid new (GrowsAtMostTo-same g place old mid same) grows,
-      )
+      let behind = GrowsAtMostTo-behind_same g (21 + 12 * length opening.accounts) old mid new same grows in
+      inr (reads.1, opening, source-read left left_new opening reads, reads.4, behind)

@@ -118,24 +118,28 @@ module _ (list : OpenedList) (genesis records : List Rec) (split : list.records 
   pub front-base : AllByRecursion (λ (rec : Rec). IsGenesis rec → ⊥) records → base_in list ≡ base_in front
   front-base none = ap (base_with (opening_before list)) front-split ∙ base_with-append_no_genesis (opening_before list) later (placed front) (later-has_no_genesis none)
 
+-- the first part of a list ends where LSNs do, or before
+front-fits : (bytes : List ℕ) (list : OpenedList) → HoldsLawful bytes list → (genesis later : List Rec) → list.records ≡ genesis ++ later
+    → list_end (with_front list genesis) ≤ LAST
+front-fits bytes list held genesis later split = omega (
+  arith,
+  held.list.holds.reads.total,
+  ap end_of split,
+  ap length (units_of-append genesis later),
+  length-append (units_of genesis) (units_of later),
+)
+
 -- rows that show what the first part of a list leaves are a snapshot
 pub front-snapshot : (bytes : List ℕ) (list : OpenedList) (held : HoldsLawful bytes list) (genesis later : List Rec)
     → list.records ≡ genesis ++ later → AllByRecursion (λ (rec : Rec). IsGenesis rec → ⊥) later → (rows : List (ℕ × ℕ)) (lsn txn : ℕ)
     → ShowsAccounts rows (base_in (with_front list genesis)) (placed (with_front list genesis)) → lsn ≡ list_end (with_front list genesis) → txn < 2 ^ 32
     → IsSnapshot (record { lsn = lsn; txn = txn; accounts = rows })
 front-snapshot bytes list held genesis later split none rows lsn txn shows end small =
-    let fits : list_end (with_front list genesis) ≤ LAST = omega (
-      arith,
-      held.list.holds.reads.total,
-      ap end_of split,
-      ap length (units_of-append genesis later),
-      length-append (units_of genesis) (units_of later),
-    ) in
     let some : 0 < (base_in (with_front list genesis)).accounts =
     subst (λ (base : BaseState). 0 < base.accounts) (front-base list genesis later split none) (held-some_accounts bytes list held) in
     shown-snapshot (with_front list genesis) (log_opening-none_or_snapshot bytes (log_of list) held.list.holds)
     (all-split IsSpellable genesis later (subst (AllByRecursion IsSpellable) split held.list.each)).0 (front-lawful list genesis later split held.lawful)
-    rows lsn txn shows end fits small some
+    rows lsn txn shows end (front-fits bytes list held genesis later split) small some
 
 -- ---- as the units are split
 

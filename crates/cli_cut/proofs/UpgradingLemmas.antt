@@ -8,7 +8,7 @@ use Rattle.log_disk.specs.Lengths.{GrowsAtMostTo}
 use Rattle.log_disk.specs.Streams.{AppendsPart}
 use Rattle.log_disk.specs.declared.disk.LogDisk.{Ghosts}
 use Rattle.log_disk.proofs.Counting.{Costs-trans}
-use Rattle.log_disk.proofs.Lengths.{GrowsAtMostTo-weaken, GrowsAtMostTo-same, GrowsAtMostTo-trans}
+use Rattle.log_disk.proofs.Lengths.{GrowsAtMostTo-weaken}
 use Rattle.log_disk.proofs.Moments.{Leaves-trans, Leaves-weaken}
 use Rattle.lsn_space.specs.Opening.{Opening}
 use Rattle.log_record.specs.LogList.{AreUnitsOf, end_of}
@@ -26,6 +26,7 @@ use Rattle.cli_cut.specs.Upgrading.{AllHoldUpgrade, CostsUpgrade, GrowsByUpgrade
 use Rattle.cli_cut.specs.Batches.{batches_of}
 use Rattle.cli_cut.specs.Writing.{WritesLog}
 use Rattle.cli_cut.specs.declared.reading.Parts.{Parts}
+use Rattle.cli_cut.proofs.CuttingLemmas.{GrowsAtMostTo-behind_same}
 
 -- ---- the answer
 
@@ -89,13 +90,9 @@ module _ (left left_new : Option (List ℕ)) (parts : Parts) (are : ArePartsOf l
       → GrowsByUpgrade g left old new
   grows-upgraded g old mid new rest is same grows =
       let place : ℕ = 21 + 12 * length are.made.opening.accounts + 5 * length (batches_of are.made.records) + 8 * end_of are.made.records in
-      inr (
-        are.made,
-        of-source,
-        GrowsAtMostTo-trans g place old mid new (GrowsAtMostTo-same g place old mid same)
-            (GrowsAtMostTo-weaken g (21 + 12 * length parts.head.accounts + 5 * length (batches_of are.made.records) + 8 * length rest) place mid new
-            (omega (arith, ap (λ (opening : Opening). length opening.accounts) are.head, ap length (is ∙ are.units))) grows),
-      )
+      let grown = GrowsAtMostTo-weaken g _ place mid new
+      (omega (arith, ap (λ (opening : Opening). length opening.accounts) are.head, ap length (is ∙ are.units))) grows in
+      inr (are.made, of-source, GrowsAtMostTo-behind_same g place old mid new same grown)
 
   -- the log is written to a disk on which none was found
   module _ {D T E : Type 0} (g : Ghosts D) (old mid new : D) (rest : List ℕ) (is : rest ≡ drop parts.front parts.listed.units) (result : Result T E)

@@ -1,5 +1,5 @@
 -- What `cut` answers, and `upgrade`: what they leave of the source and what they write.
-use Rattle.std.specs.Prelude.{◌≡◌, ℕ, List, [], Option, Some}
+use Rattle.std.specs.Prelude.{◌≡◌, ℕ, List, [], Option, Some, ⊤}
 use Rattle.std.specs.Io.KnownBytes.{Appends}
 use Rattle.log_disk.specs.Streams.{AppendsPart}
 use Rattle.log_recovery.specs.declared.recovery.RecoverFault.TheVariants as fault
@@ -12,23 +12,23 @@ use Rattle.cli_shared.specs.declared.report.Detail.TheVariants.{Fine, NoMemory, 
 
 -- the answers that there are to `cut`, and to `upgrade`
 abbrev pub IsAnswerToCut : Detail → Type 0
-IsAnswerToCut Fine = Unit {0}
-IsAnswerToCut NoMemory = Unit {0}
-IsAnswerToCut Read = Unit {0}
-IsAnswerToCut Write = Unit {0}
-IsAnswerToCut Disk = Unit {0}
-IsAnswerToCut NotALog = Unit {0}
-IsAnswerToCut BadSnapshot = Unit {0}
-IsAnswerToCut (BadBatch offset) = Unit {0}
-IsAnswerToCut (BadRec lsn) = Unit {0}
-IsAnswerToCut (Unlawful lsn why) = Unit {0}
-IsAnswerToCut Exists = Unit {0}
+IsAnswerToCut Fine = ⊤
+IsAnswerToCut NoMemory = ⊤
+IsAnswerToCut Read = ⊤
+IsAnswerToCut Write = ⊤
+IsAnswerToCut Disk = ⊤
+IsAnswerToCut NotALog = ⊤
+IsAnswerToCut BadSnapshot = ⊤
+IsAnswerToCut (BadBatch offset) = ⊤
+IsAnswerToCut (BadRec lsn) = ⊤
+IsAnswerToCut (Unlawful lsn why) = ⊤
+IsAnswerToCut Exists = ⊤
 IsAnswerToCut detail = ⊥
 
 -- why no log is made
 abbrev pub IsMakingFault : Option (List ℕ) → Option (List ℕ) → Detail → Type 0
-IsMakingFault left left_new Disk = Unit {0}
-IsMakingFault left left_new Exists = Unit {0}
+IsMakingFault left left_new Disk = ⊤
+IsMakingFault left left_new Exists = ⊤
 IsMakingFault left left_new detail = IsSourceFault left left_new detail
 
 -- `cut` or `upgrade` on these bytes: what is left of them and what is written, for each detail. Where all is fine, or the writing failed, the source was read to
@@ -41,8 +41,8 @@ AnswersCut bytes left old new BadSnapshot = (left ≡ Some []) × IsFaultOf byte
 AnswersCut bytes left old new (BadBatch offset) = (left ≡ Some []) × IsFaultOf bytes (fault.BadBatch offset)
 AnswersCut bytes left old new (BadRec lsn) = (left ≡ Some []) × IsFaultOf bytes (fault.BadRec lsn)
 AnswersCut bytes left old new (Unlawful lsn why) = (left ≡ Some []) × IsFaultOf bytes (fault.Unlawful lsn why)
-AnswersCut bytes left old new NoMemory = Unit {0}
-AnswersCut bytes left old new Read = Unit {0}
-AnswersCut bytes left old new Disk = Unit {0}
-AnswersCut bytes left old new Exists = Unit {0}
+AnswersCut bytes left old new NoMemory = ⊤
+AnswersCut bytes left old new Read = ⊤
+AnswersCut bytes left old new Disk = ⊤
+AnswersCut bytes left old new Exists = ⊤
 AnswersCut bytes left old new detail = ⊥

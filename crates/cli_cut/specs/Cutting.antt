@@ -1,5 +1,5 @@
 -- What `cut` leaves: a log that begins with what another leaves of its accounts. `left` is what the source holds at first, where it tells that.
-use Rattle.std.specs.Prelude.{◌≡◌, ◌⊎◌, ℕ, ◌+◌, ◌*◌, List, length, Option, IfSome}
+use Rattle.std.specs.Prelude.{◌≡◌, ◌⊎◌, ℕ, ◌+◌, ◌*◌, List, length, Option, IfSome, ⊤}
 use Rattle.log_disk.specs.Lengths.{GrowsAtMostTo}
 use Rattle.log_disk.specs.declared.disk.LogDisk.{Ghosts}
 use Rattle.lsn_space.specs.Opening.{Opening}
@@ -49,18 +49,18 @@ GrowsByCut g left old new = (g.reads new ≡ g.reads old)
 
 -- the answers that come before anything of the log is written
 abbrev pub PrecedesCut : Detail → Type 0
-PrecedesCut NoMemory = Unit {0}
-PrecedesCut Read = Unit {0}
-PrecedesCut NotALog = Unit {0}
-PrecedesCut BadSnapshot = Unit {0}
-PrecedesCut (BadBatch offset) = Unit {0}
-PrecedesCut (BadRec lsn) = Unit {0}
-PrecedesCut (Unlawful lsn why) = Unit {0}
-PrecedesCut Exists = Unit {0}
+PrecedesCut NoMemory = ⊤
+PrecedesCut Read = ⊤
+PrecedesCut NotALog = ⊤
+PrecedesCut BadSnapshot = ⊤
+PrecedesCut (BadBatch offset) = ⊤
+PrecedesCut (BadRec lsn) = ⊤
+PrecedesCut (Unlawful lsn why) = ⊤
+PrecedesCut Exists = ⊤
 PrecedesCut detail = ⊥
 
 -- the answers that come once the log is whole
 abbrev pub FollowsCut : Detail → Type 0
-FollowsCut Fine = Unit {0}
-FollowsCut Write = Unit {0}
+FollowsCut Fine = ⊤
+FollowsCut Write = ⊤
 FollowsCut detail = ⊥
