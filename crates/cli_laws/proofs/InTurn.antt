@@ -15,7 +15,7 @@ use Rattle.cli_threads.specs.RunStops.{EndsAs}
 use Rattle.cli_threads.specs.Sharing.{IsSharedOut, Sharing}
 use Rattle.cli_threads.proofs.PlaceTimes.{times_positive-contains}
 use Rattle.txn_runner.proofs.TyingLemmas.{same-equal_one}
-use Rattle.cli_laws.specs.InTurn.{IsUnended}
+use Rattle.cli_laws.specs.InTurn.{EndsInTurn, HasFewUnended, IsUnended}
 
 -- ---- how often a list has one of some places
 
@@ -107,8 +107,7 @@ module _ (opened records : OpenedList) (jobs : NumberedJobs) (sharing : Sharing)
         (λ x. omega (arith, once x, times-append x list (concat lists))),
   )
 
-  pub unended-at_most_workers : (places : List ℕ) → ((place : ℕ) → times place places ≤ 1) → AllByRecursion (IsUnended jobs (placed records)) places
-      → length places ≤ workers
+  pub unended-at_most_workers : HasFewUnended workers jobs (placed records)
   unended-at_most_workers places apart each = omega (
     arith,
     shared.count,
@@ -127,8 +126,7 @@ only-list (list ∷ other ∷ lists) one = absurd (omega (arith, one))
 
 -- one worker makes the transfers in the order of the script
 pub one_worker-in_order : (opened records : OpenedList) (jobs : NumberedJobs) (sharing : Sharing) → GoesOn opened jobs sharing records
-    → IsSharedOut 1 jobs sharing → (i j : ℕ) → i < j → own_records_of (number_at jobs j) (placed records) ≢ []
-    → EndsAs jobs i (placed records) true
+    → IsSharedOut 1 jobs sharing → EndsInTurn jobs (placed records)
 one_worker-in_order opened records jobs sharing goes_on shared i j less begun =
     let inside = begun-inside opened records jobs sharing 1 goes_on shared j begun in
     let taken = taken-inside opened records jobs sharing 1 goes_on shared in

@@ -12,9 +12,10 @@ use Rattle.cli_shared.specs.declared.report.Detail.TheVariants.{BadRec, Unlawful
 use Rattle.cli_shared.specs.declared.report.Detail.TheVariants.{NoAccount}
 use Rattle.cli_reports.specs.Answers.{AnswersRecover}
 use Rattle.cli_shared.specs.Answers.{status_of}
+use Rattle.cli_laws.specs.Recovered.{IsRecoveredAs}
 
 -- the answer is not a fault of the bytes
-pub lawful-status_not_seven : (bytes : List ℕ) (list : OpenedList) (left old new : Option (List ℕ)) (detail : Detail) → HoldsLawful bytes list
+lawful-status_not_seven : (bytes : List ℕ) (list : OpenedList) (left old new : Option (List ℕ)) (detail : Detail) → HoldsLawful bytes list
     → AnswersRecover bytes left old new detail → status_of detail ≢ 7
 lawful-status_not_seven bytes list left old new Fine held answers = λ is. absurd (omega arith)
 lawful-status_not_seven bytes list left old new NoMemory held answers = λ is. absurd (omega arith)
@@ -43,7 +44,13 @@ lawful-status_not_seven bytes list left old new (LogEnd tail total) held answers
 lawful-status_not_seven bytes list left old new (TxnEnd first count) held answers = absurd answers
 
 -- the text is that of the list
-pub lawful-accounts_text : (bytes : List ℕ) (list : OpenedList) (left old new : Option (List ℕ)) → HoldsLawful bytes list
+lawful-accounts_text : (bytes : List ℕ) (list : OpenedList) (left old new : Option (List ℕ)) → HoldsLawful bytes list
     → AnswersRecover bytes left old new Fine → Appends old new (accounts_text list)
 lawful-accounts_text bytes list left old new held answers =
     subst (λ (found : OpenedList). Appends old new (accounts_text found)) (one-list bytes answers.1 list answers.2.list held.list) answers.3
+
+pub lawful-recovered_as : (bytes : List ℕ) (list : OpenedList) → HoldsLawful bytes list → IsRecoveredAs bytes list
+lawful-recovered_as bytes list held = record {
+  status = λ left old new detail. lawful-status_not_seven bytes list left old new detail held;
+  text = λ left old new. lawful-accounts_text bytes list left old new held;
+}

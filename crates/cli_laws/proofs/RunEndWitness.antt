@@ -41,7 +41,6 @@ use Rattle.log_rule.specs.Views.{flusher}
 use Rattle.log_table.specs.declared.table.Seat.{Seat}
 use Rattle.flusher.specs.KeptLog.{KeepsLog}
 use Rattle.flusher.proofs.Keeps.{KeepsLog-none_sent}
-use Rattle.commit_pipeline.specs.declared.daemon.Daemon.{Daemon}
 use Rattle.commit_pipeline.specs.Told.{HasTold}
 use Rattle.commit_pipeline.proofs.ToldSoFar.{HasToldAll-has_told, HasToldAll-none}
 use Rattle.end_lines.specs.declared.voice.Voice.TheVariants.{Lines}
@@ -50,7 +49,7 @@ use Rattle.txn_jobs.specs.declared.cause.Worked.TheVariants as worked
 use Rattle.txn_jobs.specs.declared.cause.Worked.TheVariants.{Cut}
 use Rattle.txn_jobs.specs.Places.{NumberedJobs, number_at, job_at}
 use Rattle.job_queue.specs.Takings.{times, once_below}
-use Rattle.cli_laws.specs.RunWitness.{payment, file_at, plain_disk, plain_sink, HasHitLogEnd}
+use Rattle.cli_laws.specs.RunWitness.{PlainDaemon, payment, file_at, plain_disk, plain_sink, HasHitLogEnd}
 use Rattle.cli_threads.specs.Shares.{Share, IsGivenUncommitted, AreGivenUncommitted, EndsLogAt, HasShare, HasGathered, sharing_of}
 use Rattle.cli_threads.specs.Sharing.{IsSharedOut}
 use Rattle.cli_threads.specs.Transferred.{IsOpened}
@@ -357,7 +356,7 @@ module _ (n slots : ℕ) (full : 4 + 2 * n ≤ LAST) (near : LAST < 4 + 2 * n + 
     all = λ worker share at all. absurd (none-whole worker share at all);
   }
 
-  module _ (d : Daemon ℕ (List ℕ) (plain_disk file_at) plain_sink) where
+  module _ (d : PlainDaemon file_at) where
     abbrev seat : Seat
     seat = record { base = record d.flusher.seat.base { me = (view_old, []) }; worker = 0; named = refl }
 
@@ -368,7 +367,7 @@ module _ (n slots : ℕ) (full : 4 + 2 * n ≤ LAST) (near : LAST < 4 + 2 * n + 
     told-none : HasTold plain_sink [] [] Lines view_old view_old
     told-none = HasToldAll-has_told plain_sink [] Lines view_old [] view_old (HasToldAll-none plain_sink [] Lines view_old)
 
-    abbrev daemon : Daemon ℕ (List ℕ) (plain_disk (λ moment. file)) plain_sink
+    abbrev daemon : PlainDaemon (λ moment. file)
     daemon = record {
       flusher = record {
         table = d.flusher.table;
@@ -426,5 +425,5 @@ module _ (n slots : ℕ) (full : 4 + 2 * n ≤ LAST) (near : LAST < 4 + 2 * n + 
     }
 
 -- 2147483645 notes of 2 units each behind two Genesis records leave one unit
-pub log-end-hit : (slots : ℕ) → Daemon ℕ (List ℕ) (plain_disk file_at) plain_sink → HasHitLogEnd slots
+pub log-end-hit : (slots : ℕ) → PlainDaemon file_at → HasHitLogEnd slots
 log-end-hit slots d = hit 2147483645 slots (omega arith) (omega arith) d

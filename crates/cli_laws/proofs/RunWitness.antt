@@ -38,7 +38,6 @@ use Rattle.log_table.specs.Seats.{IsOf}
 use Rattle.log_rule.specs.Sound.{base_of}
 use Rattle.log_rule.specs.Views.{flusher}
 use Rattle.log_rule.proofs.Deltas.{delta-positive, delta-negated}
-use Rattle.commit_pipeline.specs.declared.daemon.Daemon.{Daemon}
 use Rattle.daemon_turn.specs.declared.fault.DaemonFault.TheVariants.{DiskFault, WriteFault}
 use Rattle.end_lines.specs.declared.voice.Voice.TheVariants.{Lines}
 use Rattle.commit_pipeline.specs.EndLines.{done_line, end_lines}
@@ -51,7 +50,7 @@ use Rattle.flusher.specs.KeptLog.{HoldsFront, KeepsLog}
 use Rattle.flusher.proofs.Keeps.{KeepsLog-none_sent}
 use Rattle.txn_jobs.specs.declared.cause.Worked.TheVariants.{All}
 use Rattle.txn_jobs.specs.Places.{NumberedJobs}
-use Rattle.cli_laws.specs.RunWitness.{payment, file_at, plain_disk, plain_sink, HasMadePayment}
+use Rattle.cli_laws.specs.RunWitness.{PlainDaemon, payment, file_at, plain_disk, plain_sink, HasMadePayment}
 use Rattle.cli_threads.specs.Shares.{Share, HasShare, HasGathered, sharing_of}
 use Rattle.cli_threads.specs.Sharing.{IsSharedOut}
 use Rattle.job_queue.specs.Takings.{times, once_below}
@@ -232,7 +231,7 @@ keeps-new = record {
 
 -- ---- the run over a daemon's table
 
-module _ (d : Daemon ℕ (List ℕ) (plain_disk file_at) plain_sink) (of : IsOf d.flusher.table.now d.flusher.seat) where
+module _ (d : PlainDaemon file_at) (of : IsOf d.flusher.table.now d.flusher.seat) where
   abbrev ring : ℕ
   ring = d.flusher.table.now.ring
 
@@ -350,7 +349,7 @@ module _ (d : Daemon ℕ (List ℕ) (plain_disk file_at) plain_sink) (of : IsOf 
     told = refl;
   }
 
-  abbrev old : Daemon ℕ (List ℕ) (plain_disk file_at) plain_sink
+  abbrev old : PlainDaemon file_at
   old = record {
     flusher = record {
       table = d.flusher.table;
@@ -370,7 +369,7 @@ module _ (d : Daemon ℕ (List ℕ) (plain_disk file_at) plain_sink) (of : IsOf 
     told = ∣ told-old ∣₁;
   }
 
-  abbrev new : Daemon ℕ (List ℕ) (plain_disk file_at) plain_sink
+  abbrev new : PlainDaemon file_at
   new = record {
     flusher = record {
       table = d.flusher.table;

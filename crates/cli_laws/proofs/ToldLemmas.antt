@@ -20,7 +20,7 @@ use Rattle.txn_jobs.specs.Places.{NumberedJobs}
 use Rattle.cli_threads.specs.Sharing.{Sharing}
 use Rattle.cli_run.specs.RunAnswers.{HoldsTold, run_text}
 use Rattle.cli_shared.specs.Outside.{Outside}
-use Rattle.cli_laws.specs.Told.{HasLine, HasCommitAt}
+use Rattle.cli_laws.specs.Told.{HasLine, HasCommitAt, TellsOfCommits}
 use Rattle.cli_laws.proofs.WholeLines.{HasLine-nil, HasLine-append, HasLine-first}
 use Rattle.cli_laws.proofs.DoneLines.{done-whole, short-whole, over-whole, lsn-whole, account-whole, done-short, done-over, done-lsn, done-account, done-injective}
 
@@ -99,9 +99,9 @@ end_lines-commit at (rec ∷ records) rest txn end each room none has =
 
 -- ---- what was told
 
-pub done_line-has_commit_at : (bytes text rest : List ℕ) (opened : OpenedList) (front : List Rec) (txn end : ℕ) → HoldsLawful bytes (with_records opened front)
-    → run_text opened front ≡ text ++ rest → HasLine text (done_line txn end) → HasCommitAt (list_end opened) front txn end
-done_line-has_commit_at bytes text rest opened front txn end held whole has =
+pub run_text-tells_of_commits : (bytes text rest : List ℕ) (opened : OpenedList) (front : List Rec) → HoldsLawful bytes (with_records opened front)
+    → run_text opened front ≡ text ++ rest → TellsOfCommits opened front text
+run_text-tells_of_commits bytes text rest opened front held whole txn end has =
     let most : list_end (with_records opened front) ≤ LAST = held.list.holds.reads.total in
     end_lines-commit (list_end opened) front (accounts_text (with_records opened front)) txn end
     (all-split IsSpellable opened.records front held.list.each).1 (omega (arith, most, list_end-more opened front))
@@ -118,9 +118,9 @@ told-front old new before text whole was is (prefix, rest, split, appended) =
     (rest, split ∙ ap (λ t. t ++ rest) (sym same))
 
 module _ {D : Type 0} (g : Ghosts D) where
-  pub HoldsTold-has_commit_at : (opened : OpenedList) (list : List Rec) (jobs : NumberedJobs) (sharing : Sharing) (old new : Outside D) (image before text : List ℕ)
-      (txn end : ℕ) → (held : HoldsTold g opened jobs sharing list old new image) → old.text ≡ Some before → new.text ≡ Some (before ++ text)
-      → HasLine text (done_line txn end) → HasCommitAt (list_end opened) held.run.front txn end
-  HoldsTold-has_commit_at opened list jobs sharing old new image before text txn end held was is has =
+  pub HoldsTold-tells_of_commits : (opened : OpenedList) (list : List Rec) (jobs : NumberedJobs) (sharing : Sharing) (old new : Outside D)
+      (image before text : List ℕ) → (held : HoldsTold g opened jobs sharing list old new image) → old.text ≡ Some before
+      → new.text ≡ Some (before ++ text) → TellsOfCommits opened held.run.front text
+  HoldsTold-tells_of_commits opened list jobs sharing old new image before text held was is =
       let (rest, whole) = told-front old.text new.text before text (run_text opened held.run.front) was is held.told in
-      done_line-has_commit_at image text rest opened held.run.front txn end held.run.holds whole has
+      run_text-tells_of_commits image text rest opened held.run.front held.run.holds whole

@@ -1,6 +1,6 @@
 -- Runs by two workers, on a disk and a sink that are plain data. Each transfer is 30 from account 0 to account 1. One run makes one of them
 -- over the log of two accounts, of balances 100 and 0; the other has three, over a log that has no room for any.
-use Rattle.std.specs.Prelude.{◌≡◌, ◌≤◌, ℕ, zero, suc, ◌*◌, List, [], ◌∷◌, ◌++◌, Some, None}
+use Rattle.std.specs.Prelude.{◌≡◌, ◌≤◌, ℕ, zero, suc, ◌*◌, List, [], ◌∷◌, ◌++◌, Some, None, ⊤}
 use Rattle.log_disk.specs.declared.disk.LogDisk.{Ghosts}
 use Rattle.log_disk.specs.declared.sink.Sink.{Ghosts as SinkGhosts}
 use Rattle.log_record.specs.LogList.{units_of}
@@ -31,7 +31,7 @@ file_at (suc moment) = written (units_of genesis_log ∷ units_of transfer_recor
 -- a disk that is a moment, at which a crash leaves this file
 abbrev pub plain_disk : (ℕ → List ℕ) → Ghosts ℕ
 plain_disk file = record {
-  honest = λ moment. Unit {0};
+  honest = λ moment. ⊤;
   reads = file;
   images = λ moment bytes. bytes ≡ file moment;
   moment = λ moment. moment;
@@ -46,14 +46,18 @@ plain_disk file = record {
 abbrev pub plain_sink : SinkGhosts (List ℕ)
 plain_sink = record { held_bytes = λ bytes. Some bytes; faults = λ bytes. 0 }
 
+-- a daemon over the two
+abbrev pub PlainDaemon : (ℕ → List ℕ) → Type 0
+PlainDaemon file = Daemon ℕ (List ℕ) (plain_disk file) plain_sink
+
 -- The run was made and told, over the table of this daemon, by two workers: the first made the transfer, and the second found none left.
-pub record HasMadePayment (d : Daemon ℕ (List ℕ) (plain_disk file_at) plain_sink) : Type 0 where
+pub record HasMadePayment (d : PlainDaemon file_at) : Type 0 where
   pub jobs : NumberedJobs
   pub front : ℕ
   pub shares : List Share
   pub key : Start
-  pub old : Daemon ℕ (List ℕ) (plain_disk file_at) plain_sink
-  pub new : Daemon ℕ (List ℕ) (plain_disk file_at) plain_sink
+  pub old : PlainDaemon file_at
+  pub new : PlainDaemon file_at
   pub view : View
   pub rows : List (ℕ × ℕ)
   pub known : HasTransferred (plain_disk file_at) plain_sink (whole_list genesis_log) jobs front shares key old new view 9 rows
@@ -74,8 +78,8 @@ pub record HasHitLogEnd (slots : ℕ) : Type 0 where
   pub front : ℕ
   pub shares : List Share
   pub key : Start
-  pub old : Daemon ℕ (List ℕ) (plain_disk (λ moment. file)) plain_sink
-  pub new : Daemon ℕ (List ℕ) (plain_disk (λ moment. file)) plain_sink
+  pub old : PlainDaemon (λ moment. file)
+  pub new : PlainDaemon (λ moment. file)
   pub view : View
   pub lsn : ℕ
   pub rows : List (ℕ × ℕ)

@@ -4,7 +4,7 @@ use Rattle.log_record.specs.declared.rec.Rec.{Rec}
 use Rattle.log_record.specs.declared.rec.Rec.TheVariants.{Commit}
 use Rattle.log_record.specs.LogList.{end_of, size_of}
 use Rattle.lock_core.specs.Witness.{genesis_log, transfer_records}
-use Rattle.log_recovery.specs.Opened.{whole_list}
+use Rattle.log_recovery.specs.Opened.{OpenedList, list_end, whole_list}
 use Rattle.commit_pipeline.specs.EndLines.{done_line}
 use Rattle.txn_jobs.specs.Places.{NumberedJobs}
 use Rattle.cli_run.specs.RunAnswers.{HoldsTold}
@@ -26,6 +26,11 @@ pub record HasCommitAt (at : ℕ) (records : List Rec) (txn end : ℕ) : Type 0 
   pub rest : List Rec
   pub whole : records ≡ front ++ Commit txn legs ∷ rest
   pub place : end ≡ at + end_of front + size_of (Commit txn legs)
+
+-- each `done` line of the text is of a Commit in these records behind the opened list, which ends at the LSN of the line
+abbrev pub TellsOfCommits : OpenedList → List Rec → List ℕ → Type 0
+TellsOfCommits opened records text =
+    (txn end : ℕ) → HasLine text (done_line txn end) → HasCommitAt (list_end opened) records txn end
 
 -- one transfer was told, and the image holds what was told
 pub record HasToldPayment : Type 0 where

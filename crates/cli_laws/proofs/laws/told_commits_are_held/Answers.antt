@@ -1,12 +1,12 @@
-use Rattle.cli_laws.proofs.ToldLemmas.{done_line-has_commit_at, HoldsTold-has_commit_at}
+use Rattle.cli_laws.proofs.ToldLemmas.{HoldsTold-tells_of_commits, run_text-tells_of_commits}
 use Rattle.cli_laws.proofs.ToldWitness.{payment-told}
 use Rattle.cli_laws.proofs.laws.told_commits_are_held.Goals as goal
 
 pub returns-clause-text : goal.returns-clause-text
-returns-clause-text g c = done_line-has_commit_at
+returns-clause-text g c = run_text-tells_of_commits
 
 pub returns-clause-image : goal.returns-clause-image
-returns-clause-image g c = HoldsTold-has_commit_at g.D.LogDisk
+returns-clause-image g c = HoldsTold-tells_of_commits g.D.LogDisk
 
 pub returns-clause-met : goal.returns-clause-met
 returns-clause-met g c = payment-told
