@@ -59,8 +59,8 @@ memory_cases() {
     cut_memory_cases
 }
 
-# Within the memory that the program itself needs: of a log of 4 MB `recover` and `cut` keep what it comes to, of one of 12 MB the others more than that.
-# A log of 40 MB is read by both in 20.
+# Within the memory that the program itself needs: of a log of 4 MB `recover` and `cut` keep what it comes to, of one of 12 MB `asof` and `statement` what
+# they are asked for, and the others more than that. A log of 40 MB is read by `recover` and `cut` in 20.
 large_log_cases() {
     local name
     rm -f "$work/demo.log" "$work/none.log"
@@ -76,10 +76,19 @@ large_log_cases() {
     rm "$work/none.log"
     yes 'pay 0 1 1' | head -n 200000 > "$work/script"
     on_file "$work/script" run "$work/demo.log" --workers 1
-    for name in dump "upgrade $work/none.log" 'ship 64' 'asof 64' 'statement 3'; do
+    for name in dump "upgrade $work/none.log" 'ship 64'; do
         # shellcheck disable=SC2086
         on_file_within 8000 "$work/demo.log" $name
         expect "${name%% *}: a log for which there is no memory" 1 '' 'aether: out of memory'
+    done
+    for name in 'asof 64' 'statement 3'; do
+        # shellcheck disable=SC2086
+        on_file "$work/demo.log" $name
+        mv "$work/out" "$work/told"
+        # shellcheck disable=SC2086
+        on_file_within 8000 "$work/demo.log" $name
+        expect_true "${name%% *}: a log of 12 MB within 8" [ "$status" = 0 ]
+        expect_file "${name%% *}: the text of a log of 12 MB" "$work/out" "$work/told"
     done
     yes $'pay 0 1 1\npay 1 0 1' | head -n 720000 > "$work/script"
     on_file "$work/script" run "$work/demo.log" --workers 1
