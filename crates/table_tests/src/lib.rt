@@ -15,6 +15,8 @@ mod group_joins_tests;
 #[cfg(test)]
 mod groups_tests;
 #[cfg(test)]
+mod half_taken_tests;
+#[cfg(test)]
 mod inserting_tests;
 #[cfg(test)]
 mod meeting;

@@ -12,7 +12,7 @@ use std::test::Fail;
 use test_rig::{job_of, table_of, values_of, worker};
 
 /// This worker finds account 0 held, both times by this word, and holds what it held.
-fn finds_held(rt: &impl Abort, table: &LogTable, seat: &mut Seat, word: AccountWord)
+pub(crate) fn finds_held(rt: &impl Abort, table: &LogTable, seat: &mut Seat, word: AccountWord)
     requires seat { IsOf table.now seat.old }
     requires accounts { 0 < table.now.accounts }
     requires rests { IsAtRest (view_of seat.old) }
@@ -31,7 +31,7 @@ fn finds_held(rt: &impl Abort, table: &LogTable, seat: &mut Seat, word: AccountW
 }
 
 /// This worker finds account 0 free, with this balance and this last commit.
-fn finds_free(rt: &impl Abort, table: &LogTable, seat: &mut Seat, values: (u64, u32))
+pub(crate) fn finds_free(rt: &impl Abort, table: &LogTable, seat: &mut Seat, values: (u64, u32))
     requires seat { IsOf table.now seat.old }
     requires accounts { 0 < table.now.accounts }
     requires rests { IsAtRest (view_of seat.old) }
